@@ -1,0 +1,14 @@
+pub mod Formed
+pub mod Accepted
+pub mod Unfold
+pub mod Count
+pub mod Vars
+pub mod Words
+pub mod Scans
+pub mod Fields
+pub mod Parts
+pub mod Runs
+pub mod Whole
+pub mod Names
+pub mod Answers
+pub mod TestCases

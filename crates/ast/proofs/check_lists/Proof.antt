@@ -1,0 +1,25 @@
+use mathlib.Core.Path.{refl}
+use native.Mathlib.Omega.{arith}
+use Rattle.ast.proofs.Fields.{field-out, lists-in}
+use borrow.Author.Needs.{needs}
+use Rattle.ast.proofs.check_lists.Statement.{statement}
+use Rattle.ast.proofs.check_lists.Tie as tie
+
+returns : tie.Need-returns
+returns c = field-out _ _ _ _ _ (omega arith) refl
+
+op-at-requires : tie.Need-op-at-requires
+op-at-requires c κs = search needs
+
+add-check-blocks : tie.Need-add-check-blocks
+add-check-blocks c = search needs
+
+check-blocks-requires : tie.Need-check-blocks-requires
+check-blocks-requires c κs = search needs
+
+returns-2 : tie.Need-returns-2
+returns-2 c = lists-in _ _ _ _ _ (omega arith) (c .before .before .op-at .ensures) _ (c .check-blocks .ensures)
+
+pub check-lists-spec : {M : Type 1} → statement M
+check-lists-spec =
+    tie.close (tie.spec returns op-at-requires add-check-blocks check-blocks-requires returns-2)

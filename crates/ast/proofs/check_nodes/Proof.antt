@@ -1,0 +1,48 @@
+use borrow.Author.Needs.{needs}
+use mathlib.Core.Path.{refl}
+use native.Mathlib.Omega.{arith}
+use Prim.Native.Nat.{_-_}
+use Rattle.ast.proofs.Whole.{NodesLeft, nodes-begin, nodes-next, nodes-stop, nodes-end}
+use Rattle.ast.proofs.check_nodes.Statement.{statement}
+use Rattle.ast.proofs.check_nodes.Tie as tie
+
+abbrev Inv-loop : tie.InvT-loop
+Inv-loop image s claims₀ n₀ end₀ claims n end = NodesLeft image claims₀ n end claims
+
+abbrev μ-loop : tie.MeasureT-loop
+μ-loop image s claims₀ n₀ end₀ claims n end = s .nodes - n
+
+loop-holds : tie.Need-loop-holds Inv-loop μ-loop
+loop-holds c = nodes-begin _ _
+
+check-node-requires : tie.Need-check-node-requires Inv-loop μ-loop
+check-node-requires c κs = (search needs, c .before .before .before .loop .inv .ended)
+
+returns : tie.Need-returns Inv-loop μ-loop
+returns c = nodes-stop _ _ _ _ _ (c .before .before .before .before .before .before .loop .inv) (omega arith) (c .before .before .check-node .ensures) (c .if2 .taken)
+
+add-n : tie.Need-add-n Inv-loop μ-loop
+add-n c = search needs
+
+loop-less : tie.Need-loop-less Inv-loop μ-loop
+loop-less c = search needs
+
+loop-again : tie.Need-loop-again Inv-loop μ-loop
+loop-again c = nodes-next _ _ _ _ _ (c .before .before .before .before .before .before .loop .inv) (omega arith) (c .before .before .check-node .ensures) (c .if2 .left)
+
+returns-2 : tie.Need-returns-2 Inv-loop μ-loop
+returns-2 c = nodes-end _ _ _ _ _ (c .before .before .loop .inv) (omega arith) refl refl
+
+pub check-nodes-spec : {M : Type 1} → statement M
+check-nodes-spec =
+    tie.close
+    (tie.spec
+    Inv-loop
+    μ-loop
+    loop-holds
+    check-node-requires
+    returns
+    add-n
+    loop-less
+    loop-again
+    returns-2)

@@ -1,0 +1,55 @@
+use Rattle.ast.specs.Image as image
+use Rattle.ast.specs.Tests as tests
+use borrow.Author.Needs.{needs}
+use Rattle.ast.proofs.name_end.Statement.{statement}
+use Rattle.ast.proofs.name_end.Tie as tie
+
+wide-requires : tie.Need-wide-requires
+wide-requires c κs = search needs
+
+mul-word : tie.Need-mul-word
+mul-word c = search needs
+
+add-word : tie.Need-add-word
+add-word c = search needs
+
+wide-requires-2 : tie.Need-wide-requires-2
+wide-requires-2 c κs = search needs
+
+mul-word-2 : tie.Need-mul-word-2
+mul-word-2 c = search needs
+
+add-word-2 : tie.Need-add-word-2
+add-word-2 c = search needs
+
+wide-requires-3 : tie.Need-wide-requires-3
+wide-requires-3 c κs = search needs
+
+mul-word-3 : tie.Need-mul-word-3
+mul-word-3 c = search needs
+
+add-word-3 : tie.Need-add-word-3
+add-word-3 c = search needs
+
+word-requires : tie.Need-word-requires
+word-requires c κs = search needs
+
+returns : tie.Need-returns
+unfolding image.nameEnd
+returns c = cc
+
+pub name-end-spec : {M : Type 1} → statement M
+name-end-spec =
+    tie.close
+    (tie.spec
+    wide-requires
+    mul-word
+    add-word
+    wide-requires-2
+    mul-word-2
+    add-word-2
+    wide-requires-3
+    mul-word-3
+    add-word-3
+    word-requires
+    returns)

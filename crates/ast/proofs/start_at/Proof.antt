@@ -1,0 +1,42 @@
+use Rattle.ast.specs.Image.{startAt}
+use borrow.Author.Needs.{needs}
+use Rattle.ast.proofs.start_at.Statement.{statement}
+use Rattle.ast.proofs.start_at.Tie as tie
+
+wide-requires : tie.Need-wide-requires
+wide-requires c κs = search needs
+
+mul-word : tie.Need-mul-word
+mul-word c = search needs
+
+add-word : tie.Need-add-word
+add-word c = search needs
+
+wide-requires-2 : tie.Need-wide-requires-2
+wide-requires-2 c κs = search needs
+
+mul-word-2 : tie.Need-mul-word-2
+mul-word-2 c = search needs
+
+add-word-2 : tie.Need-add-word-2
+add-word-2 c = search needs
+
+word-requires : tie.Need-word-requires
+word-requires c κs = search needs
+
+returns : tie.Need-returns
+unfolding startAt
+returns c = cc
+
+pub start-at-spec : {M : Type 1} → statement M
+start-at-spec =
+    tie.close
+    (tie.spec
+    wide-requires
+    mul-word
+    add-word
+    wide-requires-2
+    mul-word-2
+    add-word-2
+    word-requires
+    returns)

@@ -1,0 +1,9 @@
+pub mod Image
+pub mod Kinds
+pub mod Rows
+pub mod Tree
+pub mod Tests
+pub mod Scan
+pub mod Parts
+pub mod Names
+pub mod Answers

@@ -1,0 +1,729 @@
+// The image tests: the first refusal of 1 to 12, or 0 for an accepted image.
+ghost use mathlib.Core.Path.{_≡_};
+ghost use mathlib.Core.List.{List, [], _∷_, _++_};
+ghost use Prim.Native.Nat.{ℕ, suc, _+_, _*_, _-_, _<_, _≤_, _^_};
+ghost use lib.ListN.{length, getD, set, replicate};
+ghost use Rattle.ast.specs.Image as «image-spec»;
+ghost use Rattle.ast.specs.Rows.{opsFrom, afterBlocks, blockKids, numbers, kids, kidsTo};
+ghost use Rattle.ast.specs.Tests as «tests-spec»;
+ghost use Rattle.ast.specs.Kinds.{name, optName, child, optChild, list, lists, cases, kindOf};
+ghost use Rattle.ast.specs.Scan.{Head, Within, Place, Step, Tested, TestedAll, NodeTested, bump, claimAll};
+ghost use lib.Seq.{slice};
+ghost use Rattle.ast.specs.Names.{ends, twice, hash, Spanned, NameAt, Chain, Met};
+ghost use Rattle.ast.specs.Answers.{answerOf};
+ghost use Rattle.ast.specs.Parts.{partOf, rowParts, caseKinds, caseList, Cased};
+
+fn wide(x: u32) -> usize
+    ensures { λ r. ⌜ r ≡ x ⌝ }
+{
+    x as usize
+}
+
+fn byte(image: &[u8], i: usize) -> u32
+    requires { ⌜ i < length (now image) ⌝ }
+    ensures { λ r. ⌜ (r ≡ getD (now (image .entry)) i 0) × (r < 256) ⌝ }
+{
+    image[i] as u32
+}
+
+// The little-endian word at a byte offset; 0 where it does not fit.
+pub fn word(image: &[u8], offset: usize) -> u32
+    ensures { λ r. ⌜ r ≡ «image-spec».word (now (image .entry)) offset ⌝ }
+{
+    let n = image.len();
+    if n < 4 {
+        return 0;
+    }
+    if n - 4 < offset {
+        return 0;
+    }
+    byte(image, offset)
+        + 256 * byte(image, offset + 1)
+        + 65536 * byte(image, offset + 2)
+        + 16777216 * byte(image, offset + 3)
+}
+
+// The four words at the front: N, C, S, B.
+pub struct Sizes {
+    pub nodes: u32,
+    pub operands: u32,
+    pub names: u32,
+    pub bytes: u32,
+}
+
+pub fn sizes_of(image: &[u8]) -> Sizes
+    ensures { λ r. ⌜ Head (now (image .entry)) r ⌝ }
+{
+    Sizes {
+        nodes: word(image, 0),
+        operands: word(image, 4),
+        names: word(image, 8),
+        bytes: word(image, 12),
+    }
+}
+
+pub struct NodeId(pub u32);
+
+fn kind_at(image: &[u8], node: NodeId) -> u32
+    ensures { λ r. ⌜ r ≡ «image-spec».kindAt (now (image .entry)) (node .0) ⌝ }
+{
+    word(image, 16 + 4 * wide(node.0))
+}
+
+fn start_at(image: &[u8], s: Sizes, node: NodeId) -> u32
+    requires { ⌜ Head (now image) s ⌝ }
+    ensures { λ r. ⌜ r ≡ «image-spec».startAt (now (image .entry)) (node .0) ⌝ }
+{
+    word(image, 16 + 4 * wide(s.nodes) + 4 * wide(node.0))
+}
+
+fn op_at(image: &[u8], s: Sizes, place: u32) -> u32
+    requires { ⌜ Head (now image) s ⌝ }
+    ensures { λ r. ⌜ r ≡ «image-spec».opAt (now (image .entry)) place ⌝ }
+{
+    word(image, 16 + 8 * wide(s.nodes) + 4 * wide(place))
+}
+
+// Refusals 1, 2, 3.
+fn test_sizes(image: &[u8], s: Sizes) -> u32
+    requires { ⌜ Head (now image) s ⌝ }
+    ensures { λ r. ⌜ r ≡ «tests-spec».testSizes (now (image .entry)) ⌝ }
+{
+    let n = image.len();
+    if n < 16 {
+        return 1;
+    }
+    if s.nodes == 0 {
+        return 2;
+    }
+    if 2048 < s.nodes {
+        return 2;
+    }
+    if 8192 < s.operands {
+        return 2;
+    }
+    if 1024 < s.names {
+        return 2;
+    }
+    if 8192 < s.bytes {
+        return 2;
+    }
+    if n == 16 + 8 * wide(s.nodes) + 4 * wide(s.operands) + 4 * wide(s.names) + wide(s.bytes) {
+        return 0;
+    }
+    3
+}
+
+// What a test of a row gives: a refusal, or 0 and the place after.
+pub struct Scan {
+    pub code: u32,
+    pub at: u32,
+}
+
+// A node that stands as a child once more: 0, 1, or 2 for several times.
+fn claim(claims: &mut [u8; 2048], c: NodeId)
+    requires { ⌜ c .0 < 2048 ⌝ }
+    ensures { λ _. ⌜ now (claims .exit) ≡ set (now (claims .entry)) (c .0) (bump (getD (now (claims .entry)) (c .0) 0)) ⌝ }
+{
+    let i = wide(c.0);
+    if claims[i] == 0 {
+        claims[i] = 1;
+    } else {
+        claims[i] = 2;
+    }
+}
+
+fn is_child(image: &[u8], node: NodeId, k: u32, c: NodeId) -> u32
+    ensures { λ r. ⌜ r ≡ «tests-spec».isChild (now (image .entry)) (node .0) k (c .0) ⌝ }
+{
+    if node.0 <= c.0 {
+        return 9;
+    }
+    if kind_at(image, c) == k {
+        return 0;
+    }
+    9
+}
+
+// The node c as a child of kind k.
+fn check_one(image: &[u8], node: NodeId, k: u32, c: NodeId, next: u32, claims: &mut [u8; 2048]) -> Scan
+    requires { ⌜ (node .0 ≤ 2048) × (next ≤ 8192) ⌝ }
+    ensures { λ r. ⌜ Step («tests-spec».isChild (now (image .entry)) (node .0) k (c .0)) next (c .0 ∷ []) (now (claims .entry)) r (now (claims .exit)) ⌝ }
+{
+    let code = is_child(image, node, k, c);
+    if code != 0 {
+        return Scan { code, at: next };
+    }
+    claim(claims, c);
+    Scan { code: 0, at: next }
+}
+
+fn check_child(image: &[u8], s: Sizes, node: NodeId, k: u32, p: u32, claims: &mut [u8; 2048]) -> Scan
+    requires { ⌜ Place (now image) s (node .0) p ⌝ }
+    ensures { λ r. ⌜ Tested (now (image .entry)) (node .0) (child k) p (now (claims .entry)) r (now (claims .exit)) ⌝ }
+{
+    if s.operands <= p {
+        return Scan { code: 7, at: p };
+    }
+    let c = NodeId(op_at(image, s, p));
+    check_one(image, node, k, c, p + 1, claims)
+}
+
+// The children of a list, from the place p on.
+fn check_items(image: &[u8], s: Sizes, node: NodeId, k: u32, count: u32, p: u32, claims: &mut [u8; 2048]) -> Scan
+    requires { ⌜ Place (now image) s (node .0) p ⌝ }
+    ensures { λ r. ⌜ Step («tests-spec».run («tests-spec».childWord (now (image .entry)) (node .0) k) count p) (p + count) (opsFrom (now (image .entry)) count p) (now (claims .entry)) r (now (claims .exit)) ⌝ }
+{
+    let mut left = count;
+    let mut at = p;
+    while left != 0 {
+        let step = check_child(image, s, node, k, at, claims);
+        if step.code != 0 {
+            return step;
+        }
+        at += 1;
+        left -= 1;
+    }
+    Scan { code: 0, at }
+}
+
+// A count and its items.
+fn check_list(image: &[u8], s: Sizes, node: NodeId, k: u32, p: u32, claims: &mut [u8; 2048]) -> Scan
+    requires { ⌜ Place (now image) s (node .0) p ⌝ }
+    ensures { λ r. ⌜ Tested (now (image .entry)) (node .0) (list k) p (now (claims .entry)) r (now (claims .exit)) ⌝ }
+{
+    if s.operands <= p {
+        return Scan { code: 7, at: p };
+    }
+    let count = op_at(image, s, p);
+    check_items(image, s, node, k, count, p + 1, claims)
+}
+
+fn check_blocks(image: &[u8], s: Sizes, node: NodeId, k: u32, count: u32, p: u32, claims: &mut [u8; 2048]) -> Scan
+    requires { ⌜ Place (now image) s (node .0) p ⌝ }
+    ensures { λ r. ⌜ Step («tests-spec».testBlocks (now (image .entry)) (node .0) k count p) (afterBlocks (now (image .entry)) count p) (numbers (blockKids (now (image .entry)) count p)) (now (claims .entry)) r (now (claims .exit)) ⌝ }
+{
+    let mut left = count;
+    let mut at = p;
+    while left != 0 {
+        let step = check_list(image, s, node, k, at, claims);
+        if step.code != 0 {
+            return step;
+        }
+        at = step.at;
+        left -= 1;
+    }
+    Scan { code: 0, at }
+}
+
+// A count and its lists.
+fn check_lists(image: &[u8], s: Sizes, node: NodeId, k: u32, p: u32, claims: &mut [u8; 2048]) -> Scan
+    requires { ⌜ Place (now image) s (node .0) p ⌝ }
+    ensures { λ r. ⌜ Tested (now (image .entry)) (node .0) (lists k) p (now (claims .entry)) r (now (claims .exit)) ⌝ }
+{
+    if s.operands <= p {
+        return Scan { code: 7, at: p };
+    }
+    let count = op_at(image, s, p);
+    check_blocks(image, s, node, k, count, p + 1, claims)
+}
+
+fn check_opt_child(image: &[u8], s: Sizes, node: NodeId, k: u32, p: u32, claims: &mut [u8; 2048]) -> Scan
+    requires { ⌜ Place (now image) s (node .0) p ⌝ }
+    ensures { λ r. ⌜ Tested (now (image .entry)) (node .0) (optChild k) p (now (claims .entry)) r (now (claims .exit)) ⌝ }
+{
+    if s.operands <= p {
+        return Scan { code: 7, at: p };
+    }
+    let w = op_at(image, s, p);
+    if w == 0 {
+        let next = p + 1;
+        return Scan { code: 0, at: next };
+    }
+    let child = w - 1;
+    check_one(image, node, k, NodeId(child), p + 1, claims)
+}
+
+fn check_name(image: &[u8], s: Sizes, p: u32) -> Scan
+    requires { ⌜ Place (now image) s 0 p ⌝ }
+    ensures { λ r. ⌜ ((n : ℕ) (us : List ℕ) → Tested (now (image .entry)) n name p us r us) ⌝ }
+{
+    if s.operands <= p {
+        return Scan { code: 7, at: p };
+    }
+    if op_at(image, s, p) < s.names {
+        let next = p + 1;
+        return Scan { code: 0, at: next };
+    }
+    Scan { code: 8, at: p }
+}
+
+fn check_opt_name(image: &[u8], s: Sizes, p: u32) -> Scan
+    requires { ⌜ Place (now image) s 0 p ⌝ }
+    ensures { λ r. ⌜ ((n : ℕ) (us : List ℕ) → Tested (now (image .entry)) n optName p us r us) ⌝ }
+{
+    if s.operands <= p {
+        return Scan { code: 7, at: p };
+    }
+    if op_at(image, s, p) <= s.names {
+        let next = p + 1;
+        return Scan { code: 0, at: next };
+    }
+    Scan { code: 8, at: p }
+}
+
+// The kinds of the children of each enum's cases; 41 for a case without one.
+const CASES: [u32; 34] = [
+    2, 3, 4, 5, 6, 7, 8, // Decl
+    13, 41, 14, 17, 18, 19, 20, 21, // Term
+    13, 16, 12, // AppHead
+    24, 17, 25, // TypeExpr
+    27, 17, // PredExpr
+    30, 32, 31, 33, // IfAtom
+    30, 34, 31, // ThenAtom
+    37, 38, 39, 40, // Stmt
+];
+
+fn case_kind(i: u32) -> u32
+    requires { ⌜ i < 34 ⌝ }
+    ensures { λ r. ⌜ r ≡ getD caseKinds i 0 ⌝ }
+{
+    CASES[i as usize]
+}
+
+// A case number, of `count` cases whose kinds stand from `from` on, and the child.
+fn check_case(image: &[u8], s: Sizes, node: NodeId, from: u32, count: u32, p: u32, claims: &mut [u8; 2048]) -> Scan
+    requires { ⌜ Place (now image) s (node .0) p × (from + count ≤ 34) ⌝ }
+    ensures { λ r. ⌜ Tested (now (image .entry)) (node .0) (cases (caseList from count)) p (now (claims .entry)) r (now (claims .exit)) ⌝ }
+{
+    if s.operands <= p {
+        return Scan { code: 7, at: p };
+    }
+    let case = op_at(image, s, p);
+    if count <= case {
+        return Scan { code: 8, at: p };
+    }
+    let k = case_kind(from + case);
+    if k == 41 {
+        let next = p + 1;
+        return Scan { code: 0, at: next };
+    }
+    check_child(image, s, node, k, p + 1, claims)
+}
+
+// The fields of each kind's row, three places to a kind, 0 for none: 1 a name, 2 an optional name, 100 + k a child of kind k,
+// 200 + k an optional one, 300 + k a list, 400 + k a list of blocks, 500 + 10 f + c one of c cases whose kinds stand from f on.
+const ROWS: [u32; 123] = [
+    301, 0, 0, // Module
+    507, 0, 0, // Decl
+    1, 0, 0, // TypeDecl
+    1, 111, 0, // PredDecl
+    1, 111, 123, // FuncDecl
+    1, 123, 0, // ConstDecl
+    2, 336, 0, // RuleDecl
+    1, 309, 0, // EnumDecl
+    1, 301, 0, // ModelDecl
+    1, 111, 0, // CtorDecl
+    2, 123, 0, // ArgDecl
+    310, 0, 0, // ArgDeclList
+    578, 0, 0, // Term
+    1, 0, 0, // IdentTerm
+    115, 122, 0, // AppTerm
+    653, 0, 0, // AppHead
+    112, 313, 0, // AppHeadMember
+    112, 113, 0, // TermMember
+    112, 0, 0, // DomTerm
+    112, 0, 0, // CodTerm
+    112, 0, 0, // IdTerm
+    112, 112, 0, // CompTerm
+    312, 0, 0, // TermList
+    683, 0, 0, // TypeExpr
+    1, 0, 0, // AmbientTypeExpr
+    1, 0, 0, // MorTypeExpr
+    712, 0, 0, // PredExpr
+    1, 0, 0, // AmbientPredExpr
+    734, 0, 0, // IfAtom
+    773, 0, 0, // ThenAtom
+    112, 112, 0, // EqualAtom
+    126, 122, 0, // PredAtom
+    112, 0, 0, // DefinedIfAtom
+    112, 123, 0, // VarIfAtom
+    212, 112, 0, // DefinedThenAtom
+    112, 336, 0, // MatchCase
+    804, 0, 0, // Stmt
+    128, 0, 0, // IfStmt
+    129, 0, 0, // ThenStmt
+    436, 0, 0, // BranchStmt
+    112, 335, 0, // MatchStmt
+];
+
+fn part_at(i: u32) -> u32
+    requires { ⌜ i < 123 ⌝ }
+    ensures { λ r. ⌜ r ≡ getD rowParts i 0 ⌝ }
+{
+    ROWS[i as usize]
+}
+
+fn check_part(image: &[u8], s: Sizes, node: NodeId, part: u32, p: u32, claims: &mut [u8; 2048]) -> Scan
+    requires { ⌜ Place (now image) s (node .0) p × Cased part ⌝ }
+    ensures { λ r. ⌜ TestedAll (now (image .entry)) (node .0) (partOf part) p (now (claims .entry)) r (now (claims .exit)) ⌝ }
+{
+    if part == 0 {
+        return Scan { code: 0, at: p };
+    }
+    if part == 1 {
+        return check_name(image, s, p);
+    }
+    if part < 100 {
+        return check_opt_name(image, s, p);
+    }
+    if part < 200 {
+        return check_child(image, s, node, part - 100, p, claims);
+    }
+    if part < 300 {
+        return check_opt_child(image, s, node, part - 200, p, claims);
+    }
+    if part < 400 {
+        return check_list(image, s, node, part - 300, p, claims);
+    }
+    if part < 500 {
+        return check_lists(image, s, node, part - 400, p, claims);
+    }
+    check_case(image, s, node, (part - 500) / 10, (part - 500) % 10, p, claims)
+}
+
+fn check_row(image: &[u8], s: Sizes, node: NodeId, kind: u32, p: u32, claims: &mut [u8; 2048]) -> Scan
+    requires { ⌜ Place (now image) s (node .0) p × (kind ≤ 40) ⌝ }
+    ensures { λ r. ⌜ TestedAll (now (image .entry)) (node .0) ((kindOf kind) .fields) p (now (claims .entry)) r (now (claims .exit)) ⌝ }
+{
+    let first = part_at(3 * kind);
+    let a = check_part(image, s, node, first, p, claims);
+    if a.code != 0 {
+        return a;
+    }
+    let second = part_at(3 * kind + 1);
+    let b = check_part(image, s, node, second, a.at, claims);
+    if b.code != 0 {
+        return b;
+    }
+    let third = part_at(3 * kind + 2);
+    check_part(image, s, node, third, b.at, claims)
+}
+
+// Refusals 6 to 9 of a node; `end` is where the row before ends.
+fn check_node(image: &[u8], s: Sizes, node: NodeId, end: u32, claims: &mut [u8; 2048]) -> Scan
+    requires { ⌜ Place (now image) s (node .0) 0 × (end ≡ «tests-spec».endBefore (now image) (node .0)) ⌝ }
+    ensures { λ r. ⌜ NodeTested (now (image .entry)) (node .0) (now (claims .entry)) r (now (claims .exit)) ⌝ }
+{
+    let kind = kind_at(image, node);
+    if 40 < kind {
+        return Scan { code: 6, at: 0 };
+    }
+    let start = start_at(image, s, node);
+    if start != end {
+        return Scan { code: 7, at: 0 };
+    }
+    if s.operands <= start {
+        return Scan { code: 7, at: 0 };
+    }
+    if s.operands <= start + 1 {
+        return Scan { code: 7, at: 0 };
+    }
+    check_row(image, s, node, kind, start + 2, claims)
+}
+
+// Refusals 6 to 9.
+fn check_nodes(image: &[u8], s: Sizes, claims: &mut [u8; 2048]) -> Scan
+    requires { ⌜ Within (now image) s ⌝ }
+    ensures { λ r. ⌜ Step («tests-spec».run («tests-spec».testNode (now (image .entry))) («image-spec».nodes (now (image .entry))) 0) («tests-spec».endBefore (now (image .entry)) («image-spec».nodes (now (image .entry)))) (kidsTo (now (image .entry)) («image-spec».nodes (now (image .entry)))) (now (claims .entry)) r (now (claims .exit)) ⌝ }
+{
+    let mut n = 0u32;
+    let mut end = 0u32;
+    while n < s.nodes {
+        let step = check_node(image, s, NodeId(n), end, claims);
+        if step.code != 0 {
+            return step;
+        }
+        end = step.at;
+        n += 1;
+    }
+    Scan { code: 0, at: end }
+}
+
+// Refusal 11: each node but the last is a child once.
+fn test_parents(image: &[u8], s: Sizes, claims: &[u8; 2048]) -> u32
+    requires { ⌜ Within (now image) s × (now claims ≡ claimAll (kidsTo (now image) («image-spec».nodes (now image))) (replicate 2048 0)) ⌝ }
+    ensures { λ r. ⌜ r ≡ «tests-spec».testParents (now (image .entry)) ⌝ }
+{
+    let last = s.nodes - 1;
+    let mut v = 0u32;
+    while v < last {
+        if claims[v as usize] != 1 {
+            return 11;
+        }
+        v += 1;
+    }
+    0
+}
+
+fn test_term(image: &[u8], s: Sizes, c: NodeId) -> u32
+    requires { ⌜ Head (now image) s ⌝ }
+    ensures { λ r. ⌜ r ≡ «tests-spec».isVar (now (image .entry)) (c .0) ⌝ }
+{
+    if first_word(image, s, c) <= 1 {
+        return 0;
+    }
+    12
+}
+
+fn first_word(image: &[u8], s: Sizes, node: NodeId) -> u32
+    requires { ⌜ Head (now image) s ⌝ }
+    ensures { λ r. ⌜ r ≡ «tests-spec».first (now (image .entry)) (node .0) ⌝ }
+{
+    word(image, 16 + 8 * wide(s.nodes) + 4 * (wide(start_at(image, s, node)) + 2))
+}
+
+fn test_var(image: &[u8], s: Sizes, node: NodeId) -> u32
+    requires { ⌜ Head (now image) s ⌝ }
+    ensures { λ r. ⌜ r ≡ «tests-spec».testVar (now (image .entry)) (node .0) ⌝ }
+{
+    let kind = kind_at(image, node);
+    if kind == 33 {
+        let c = NodeId(first_word(image, s, node));
+        return test_term(image, s, c);
+    }
+    if kind != 34 {
+        return 0;
+    }
+    let w = first_word(image, s, node);
+    if w == 0 {
+        return 0;
+    }
+    let child = w - 1;
+    test_term(image, s, NodeId(child))
+}
+
+// Refusal 12.
+fn test_vars(image: &[u8], s: Sizes) -> u32
+    requires { ⌜ Head (now image) s ⌝ }
+    ensures { λ r. ⌜ r ≡ «tests-spec».run («tests-spec».testVar (now (image .entry))) («image-spec».nodes (now (image .entry))) 0 ⌝ }
+{
+    let mut n = 0u32;
+    while n < s.nodes {
+        let code = test_var(image, s, NodeId(n));
+        if code != 0 {
+            return code;
+        }
+        n += 1;
+    }
+    0
+}
+
+// Refusals 10, 11 and 12; `end` is where the last row ends.
+fn test_tree(image: &[u8], s: Sizes, end: u32, claims: &[u8; 2048]) -> u32
+    requires { ⌜ Within (now image) s × (end ≡ «tests-spec».endBefore (now image) («image-spec».nodes (now image))) × (now claims ≡ claimAll (kidsTo (now image) («image-spec».nodes (now image))) (replicate 2048 0)) ⌝ }
+    ensures { λ r. ⌜ r ≡ «tests-spec».testTree (now (image .entry)) ⌝ }
+{
+    if end != s.operands {
+        return 10;
+    }
+    let last = s.nodes - 1;
+    let top = kind_at(image, NodeId(last));
+    if top != 0 {
+        return 10;
+    }
+    let code = test_parents(image, s, claims);
+    if code != 0 {
+        return code;
+    }
+    test_vars(image, s)
+}
+
+fn name_end(image: &[u8], s: Sizes, i: u32) -> u32
+    requires { ⌜ Head (now image) s ⌝ }
+    ensures { λ r. ⌜ r ≡ «image-spec».nameEnd (now (image .entry)) i ⌝ }
+{
+    word(image, 16 + 8 * wide(s.nodes) + 4 * wide(s.operands) + 4 * wide(i))
+}
+
+// Refusal 4: the ends of the names rise, from above 0 to B.
+fn test_ends(image: &[u8], s: Sizes) -> u32
+    requires { ⌜ Head (now image) s ⌝ }
+    ensures { λ r. ⌜ r ≡ ends (now (image .entry)) ⌝ }
+{
+    let mut i = 0u32;
+    let mut start = 0u32;
+    while i < s.names {
+        let end = name_end(image, s, i);
+        if end <= start {
+            return 4;
+        }
+        start = end;
+        i += 1;
+    }
+    if start != s.bytes {
+        return 4;
+    }
+    0
+}
+
+// The bucket of the bytes from `from` up to `to`.
+fn bucket(image: &[u8], from: usize, to: usize) -> u32
+    requires { ⌜ (from ≤ to) × (to ≤ length (now image)) ⌝ }
+    ensures { λ r. ⌜ (r ≡ hash 0 (slice from to (now (image .entry)))) × (r < 1024) ⌝ }
+{
+    let mut h = 0u32;
+    let mut i = from;
+    while i < to {
+        h = (31 * h + byte(image, i)) % 1024;
+        i += 1;
+    }
+    h
+}
+
+// The bytes from a on and from b on agree, up to `to`.
+fn agree(image: &[u8], a: usize, b: usize, to: usize) -> bool
+    requires { ⌜ (b ≤ to) × (to ≤ length (now image)) × (a + (to - b) ≤ length (now image)) ⌝ }
+    ensures { λ r. ⌜ r ≡ «tests-spec».same (slice a (a + (to - b)) (now (image .entry))) (slice b to (now (image .entry))) ⌝ }
+{
+    let mut i = a;
+    let mut j = b;
+    while j < to {
+        if byte(image, i) != byte(image, j) {
+            return false;
+        }
+        i += 1;
+        j += 1;
+    }
+    true
+}
+
+fn name_start(image: &[u8], s: Sizes, i: u32) -> u32
+    requires { ⌜ Head (now image) s ⌝ }
+    ensures { λ r. ⌜ r ≡ «image-spec».nameStart (now (image .entry)) i ⌝ }
+{
+    if i == 0 {
+        return 0;
+    }
+    name_end(image, s, i - 1)
+}
+
+// Where the bytes of a name stand in the image, and the name's end.
+pub struct Span {
+    pub from: usize,
+    pub to: usize,
+    pub end: u32,
+}
+
+fn span_of(image: &[u8], s: Sizes, i: u32, start: u32) -> Span
+    requires { ⌜ Spanned (now image) s i start ⌝ }
+    ensures { λ r. ⌜ NameAt (now (image .entry)) s i (r .from) (r .to) × (r .end ≡ «image-spec».nameEnd (now (image .entry)) i) ⌝ }
+{
+    let base = 16 + 8 * wide(s.nodes) + 4 * wide(s.operands) + 4 * wide(s.names);
+    let end = name_end(image, s, i);
+    let from = base + wide(start);
+    let to = base + wide(end);
+    Span { from, to, end }
+}
+
+// Names j and i have equal bytes; those of i stand from `from` up to `to`.
+fn equal_names(image: &[u8], s: Sizes, j: u32, i: u32, from: usize, to: usize) -> bool
+    requires { ⌜ NameAt (now image) s i from to × (j < i) ⌝ }
+    ensures { λ r. ⌜ r ≡ «tests-spec».same («image-spec».nameBytes (now (image .entry)) j) («image-spec».nameBytes (now (image .entry)) i) ⌝ }
+{
+    let p = span_of(image, s, j, name_start(image, s, j));
+    let a = p.from;
+    let b = p.to;
+    if b - a != to - from {
+        return false;
+    }
+    agree(image, a, from, to)
+}
+
+// A name before i of the chain from `first` on that has the bytes of i.
+fn meets(image: &[u8], s: Sizes, i: u32, from: usize, to: usize, first: u32, next: &[u32; 1024]) -> bool
+    requires { ⌜ Chain (now image) s i from to first (now next) ⌝ }
+    ensures { λ r. ⌜ Met (now (image .entry)) i first (now (next .entry)) r ⌝ }
+{
+    let mut j = first;
+    while j != 0 {
+        if equal_names(image, s, j - 1, i, from, to) {
+            return true;
+        }
+        j = next[(j - 1) as usize];
+    }
+    false
+}
+
+// Refusal 5: two names with equal bytes. Only names of one bucket are compared.
+fn test_twice(image: &[u8], s: Sizes) -> u32
+    requires { ⌜ Within (now image) s × (ends (now image) ≡ 0) ⌝ }
+    ensures { λ r. ⌜ r ≡ twice (now (image .entry)) ⌝ }
+{
+    let mut heads = [0u32; 1024];
+    let mut next = [0u32; 1024];
+    let mut i = 0u32;
+    let mut start = 0u32;
+    while i < s.names {
+        let p = span_of(image, s, i, start);
+        let from = p.from;
+        let to = p.to;
+        let h = bucket(image, from, to) as usize;
+        let first = heads[h];
+        if meets(image, s, i, from, to, first, &next) {
+            return 5;
+        }
+        next[i as usize] = first;
+        heads[h] = i + 1;
+        start = p.end;
+        i += 1;
+    }
+    0
+}
+
+fn test_names(image: &[u8], s: Sizes) -> u32
+    requires { ⌜ Within (now image) s ⌝ }
+    ensures { λ r. ⌜ r ≡ «tests-spec».testNames (now (image .entry)) ⌝ }
+{
+    let code = test_ends(image, s);
+    if code != 0 {
+        return code;
+    }
+    test_twice(image, s)
+}
+
+// The first refusal of 1 to 12, or 0 for an accepted image.
+pub fn verdict(image: &[u8]) -> u32
+    ensures { λ r. ⌜ r ≡ «tests-spec».verdict (now (image .entry)) ⌝ }
+{
+    let s = sizes_of(image);
+    let a = test_sizes(image, s);
+    if a != 0 {
+        return a;
+    }
+    let b = test_names(image, s);
+    if b != 0 {
+        return b;
+    }
+    let mut claims = [0u8; 2048];
+    let step = check_nodes(image, s, &mut claims);
+    if step.code != 0 {
+        return step.code;
+    }
+    test_tree(image, s, step.at, &claims)
+}
+
+pub enum Answer {
+    Accepted,
+    Refused(u32),
+}
+
+pub fn test_image(image: &[u8]) -> Answer
+    ensures { λ r. ⌜ r ≡ answerOf («tests-spec».verdict (now (image .entry))) ⌝ }
+{
+    let code = verdict(image);
+    if code == 0 {
+        return Answer::Accepted;
+    }
+    Answer::Refused(code)
+}
