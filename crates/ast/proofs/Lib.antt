@@ -1,6 +1,7 @@
 pub mod Formed
 pub mod Accepted
 pub mod Unfold
+pub mod Row
 pub mod Count
 pub mod Vars
 pub mod Words

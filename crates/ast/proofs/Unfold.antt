@@ -5,7 +5,8 @@ use mathlib.Core.List.{List, [], _∷_, _++_, append-assoc}
 use Prim.Native.Nat.{ℕ, zero, suc, _+_, _<_}
 use native.Mathlib.Nat.{add-zero}
 use native.Mathlib.Omega.{arith}
-use lib.Dec.{eqb}
+use lib.Dec.{eqb, ltb}
+use borrow.Author.Tests.{lt-ltb}
 use lib.ListN.{getD}
 use Rattle.ast.specs.Image.{nodes, kindAt, startAt, opAt}
 use Rattle.ast.specs.Kinds.{Field, name, optName, child, optChild, list, lists, cases, noChild, kindOf}
@@ -103,22 +104,28 @@ module _ (img : List ℕ) (n : ℕ) where
   kids-below f = fields-below (fieldsAt img n) (startAt img n + 2) (f .row)
 
 module _ (img : List ℕ) (f : Formed img) where
+  depth : (d n : ℕ) → n < nodes img → treeTo img (suc d) n ≡ node n (kindAt img n) (classAt img n) (shape img n) (ordered (classAt img n) (grow (treeTo img d) (kids img n)))
+  unfolding treeTo
+  depth d n h = rw (lt-ltb _ _ h, treeTo)
+
   -- any depth above the number gives the same tree
   stable : (d b n : ℕ) → n < d → n < b → n < nodes img → treeTo img d n ≡ treeTo img b n
-  unfolding treeTo
   stable zero b n h k l = absurd (omega arith)
   stable (suc d) zero n h k l = absurd (omega arith)
   stable (suc d) (suc b) n h k l =
-      ap (λ ts. node n (kindAt img n) (classAt img n) (shape img n) (ordered (classAt img n) ts))
+      depth d n l
+      ∙ ap (λ ts. node n (kindAt img n) (classAt img n) (shape img n) (ordered (classAt img n) ts))
         (grow-same (treeTo img d) (treeTo img b) (kids img n)
           (All-map (λ c i. stable d b c (omega arith) (omega arith) (omega arith)) (kids-below img n (f .each n l))))
+      ∙ sym (depth b n l)
 
   -- the unfolding law
   pub treeAt-is : (n : ℕ) → n < nodes img
     → treeAt img n ≡ node n (kindAt img n) (classAt img n) (shape img n) (ordered (classAt img n) (grow (treeAt img) (kids img n)))
   unfolding treeAt
   treeAt-is n h =
-      ap (λ ts. node n (kindAt img n) (classAt img n) (shape img n) (ordered (classAt img n) ts))
+      depth n n h
+      ∙ ap (λ ts. node n (kindAt img n) (classAt img n) (shape img n) (ordered (classAt img n) ts))
         (grow-same (treeTo img n) (treeAt img) (kids img n)
           (All-map (λ c i. stable n (suc c) c i (omega arith) (omega arith)) (kids-below img n (f .each n h))))
 

@@ -2,8 +2,10 @@ pub mod Image
 pub mod Kinds
 pub mod Rows
 pub mod Tree
+pub mod Items
 pub mod Tests
 pub mod Scan
 pub mod Parts
 pub mod Names
+pub mod Answer
 pub mod Answers

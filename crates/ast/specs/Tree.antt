@@ -2,7 +2,8 @@
 use mathlib.Core.Bool.{Bool, true, false}
 use mathlib.Core.List.{List, [], _∷_}
 use Prim.Native.Nat.{ℕ, zero, suc}
-use Rattle.ast.specs.Image.{kindAt}
+use lib.Dec.{ltb}
+use Rattle.ast.specs.Image.{nodes, kindAt}
 use Rattle.ast.specs.Kinds.{Class, outer, inner, plain, term, ident, head, headMember, member, branch, match, case, ifVar, definedThen, arg, kindOf}
 use Rattle.ast.specs.Rows.{Kid, one, many, kids, shape}
 
@@ -60,11 +61,16 @@ unfoldable pub classAt : List ℕ → ℕ → Class
 unfolding kindOf
 classAt img n = (kindOf (kindAt img n)) .class
 
--- the tree of a node; a child's number is smaller, so one more than the number is depth enough
+-- the tree of a node; a child's number is smaller, so one more than the number is depth enough; a number that is no node's
+-- has no tree
 unfoldable pub treeTo : List ℕ → ℕ → ℕ → Tree
 unfolding classAt shape kids ordered grow
 treeTo img zero n = block none
-treeTo img (suc d) n = node n (kindAt img n) (classAt img n) (shape img n) (ordered (classAt img n) (grow (treeTo img d) (kids img n)))
+treeTo img (suc d) n =
+    elim (ltb n (nodes img)) [
+      | true ↦ node n (kindAt img n) (classAt img n) (shape img n) (ordered (classAt img n) (grow (treeTo img d) (kids img n)))
+      | false ↦ block none
+    ]
 
 unfoldable pub treeAt : List ℕ → ℕ → Tree
 unfolding treeTo

@@ -2,7 +2,7 @@ use borrow.Author.Needs.{needs}
 use mathlib.Core.Path.{_≡_, sym, _∙_}
 use native.Mathlib.Omega.{arith}
 use Prim.Native.Nat.{_-_}
-use Rattle.ast.specs.Image.{last}
+use Rattle.ast.specs.Image as images
 use Rattle.ast.specs.Tests as tests
 use Rattle.ast.proofs.Runs.{RunLeft, run-begin, run-next, run-stop, run-end, once, not-once}
 use Rattle.ast.proofs.Whole.{parent, parents-are}
@@ -10,7 +10,7 @@ use Rattle.ast.proofs.test_parents.Statement.{statement}
 use Rattle.ast.proofs.test_parents.Tie as tie
 
 abbrev Inv-loop : tie.InvT-loop
-Inv-loop image claims last v₀ v = (last ≡ last image) × RunLeft (parent image) (last image) v
+Inv-loop image claims last v₀ v = (last ≡ images.last image) × RunLeft (parent image) (images.last image) v
 
 abbrev μ-loop : tie.MeasureT-loop
 μ-loop image claims last v₀ v = last - v
@@ -19,7 +19,7 @@ sub-last : tie.Need-sub-last Inv-loop μ-loop
 sub-last c = search needs
 
 loop-holds : tie.Need-loop-holds Inv-loop μ-loop
-unfolding last
+unfolding images.last
 loop-holds c = (let e = c .before .pre .0 .head .nodes-are in omega arith, run-begin _ _)
 
 cast-if1 : tie.Need-cast-if1 Inv-loop μ-loop

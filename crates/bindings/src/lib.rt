@@ -1,0 +1,1 @@
+// Position-local binding checks: Errors.

@@ -1,0 +1,2 @@
+pub mod Sight
+pub mod Occurrences

@@ -1,0 +1,1 @@
+// Variable occurrences: Occurrences and Once.

@@ -1,0 +1,5 @@
+pub mod Walk
+pub mod Resolve
+pub mod Twice
+pub mod Lookup
+pub mod Rows

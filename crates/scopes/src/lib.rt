@@ -1,0 +1,1 @@
+// The scope resolver: Resolve and Lookup.

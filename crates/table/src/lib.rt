@@ -1,0 +1,1 @@
+// The lent table: its layout, its words, find and lookup.
