@@ -98,17 +98,17 @@ module _ (img : List ℕ) where
         blocks-in k c _ (r .1) (items-in k _ (p + 1) (r .0) (omega arith))
 
     option-ok : (k w : ℕ) → _≡_ {A = ℕ} (elim w [ zero ↦ 0 | suc c ↦ isChild img n k c ]) 0
-      → elim w as (λ x. Type 0) [ zero ↦ Unit {0} | suc c ↦ Child img n k c ]
+        → elim w as (λ x. Type 0) [ zero ↦ Unit {0} | suc c ↦ Child img n k c ]
     option-ok k zero e = tt
     option-ok k (suc c) e = isChild-ok k c e
 
     case-ok : (b : Bool) (k p : ℕ) → _≡_ {A = ℕ} (elim b [ true ↦ 0 | false ↦ childWord img n k p ]) 0
-      → elim b as (λ x. Type 0) [ true ↦ Unit {0} | false ↦ Child img n k (opAt img p) ]
+        → elim b as (λ x. Type 0) [ true ↦ Unit {0} | false ↦ Child img n k (opAt img p) ]
     case-ok true k p e = tt
     case-ok false k p e = word-ok k p e
 
     case-in : (b : Bool) (k p : ℕ) → p < operands img → _≡_ {A = ℕ} (elim b [ true ↦ 0 | false ↦ childWord img n k (p + 1) ]) 0
-      → (elim b [ true ↦ p + 1 | false ↦ p + 2 ]) ≤ operands img
+        → (elim b [ true ↦ p + 1 | false ↦ p + 2 ]) ≤ operands img
     case-in true k p h e = omega arith
     case-in false k p h e = let l = word-in k (p + 1) e in omega arith
 
@@ -156,7 +156,8 @@ module _ (img : List ℕ) where
           kind = leb→le _ _ (needed 5 _ (a .0));
           start = eqb→eq _ _ (needed 6 _ (b .0));
           end = fields-in _ _ (d .1) (omega arith);
-          row = fields-ok _ _ (d .1) }
+          row = fields-ok _ _ (d .1);
+        }
 
   -- the four places of the table, apart
   pub record Passed : Type 0 where
@@ -198,14 +199,15 @@ module _ (img : List ℕ) where
         fewOperands = leb→le _ _ (needed 1 _ (d .0));
         fewNames = leb→le _ _ (needed 1 _ (f .0));
         fewBytes = leb→le _ _ (needed 1 _ (g .0));
-        exact = eqb→eq _ _ (needed 2 _ (g .1)) }
+        exact = eqb→eq _ _ (needed 2 _ (g .1));
+      }
 
   pub sized : verdict img ≡ 0 → Sized
   sized e = sizes-ok (passed e .sizes)
 
   -- each word of the four areas lies within the image
   pub words-in : Sized → (n p i : ℕ) → n < nodes img → p < operands img → i < names img
-    → (16 + 4 * n + 4 ≤ length img) × (16 + 4 * nodes img + 4 * n + 4 ≤ length img)
+      → (16 + 4 * n + 4 ≤ length img) × (16 + 4 * nodes img + 4 * n + 4 ≤ length img)
       × (16 + 8 * nodes img + 4 * p + 4 ≤ length img) × (16 + 8 * nodes img + 4 * operands img + 4 * i + 4 ≤ length img)
   words-in s n p i h k l = omega arith
 
@@ -222,7 +224,8 @@ module _ (img : List ℕ) where
       record {
         rises = λ i h. ltb→lt _ _ (needed 3 _ (rw zero-add at (ran _ _ 0 (a .0) i h)));
         ends = eqb→eq _ _ (needed 3 _ (b .0));
-        differ = λ i j h k q. T-not (same (nameBytes img j) (nameBytes img i)) (needed 4 _ (rw zero-add at (ran _ i 0 (rw zero-add at (ran _ _ 0 (b .1) i h)) j k))) (same-eq q) }
+        differ = λ i j h k q. T-not (same (nameBytes img j) (nameBytes img i)) (needed 4 _ (rw zero-add at (ran _ i 0 (rw zero-add at (ran _ _ 0 (b .1) i h)) j k))) (same-eq q);
+      }
 
   -- so every name ends within the name bytes
   pub name-in : Named → (i : ℕ) → i < names img → nameEnd img i ≤ bytes img
@@ -246,7 +249,8 @@ module _ (img : List ℕ) where
       record {
         each = λ n h. node-ok n (rw zero-add at (ran _ _ 0 (p .rows) n h));
         fills = eqb→eq _ _ (needed 9 _ (a .0));
-        root = eqb→eq _ _ (needed 9 _ (b .0)) }
+        root = eqb→eq _ _ (needed 9 _ (b .0));
+      }
 
   pub last-below : verdict img ≡ 0 → last img < nodes img
   unfolding last

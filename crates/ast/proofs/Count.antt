@@ -167,7 +167,7 @@ module _ (img : List ℕ) (f : Formed img) where
     weight-is : (n : ℕ) → n < nodes img → weight n ≡ w n + sumOf weight (numbers (kids img n))
     unfolding nodesOf sumOf
     weight-is n h = ap (λ t. sumOf w (nodesOf t)) (treeAt-is img f n h)
-      ∙ ap (λ x. w n + x) (sumOf-ordered w (classAt img n) (grow (treeAt img) (kids img n)) ∙ sumOf-grow w (treeAt img) (kids img n))
+        ∙ ap (λ x. w n + x) (sumOf-ordered w (classAt img n) (grow (treeAt img) (kids img n)) ∙ sumOf-grow w (treeAt img) (kids img n))
 
     -- every tree's own node, and its children's trees
     weights : (m : ℕ) → m ≤ nodes img → sumTo weight m ≡ sumTo w m + sumOf weight (kidsTo img m)

@@ -101,12 +101,12 @@ module _ (img : List ℕ) where
         case-bad ks l c = skips _ _ _ _ (in-row p h) (stops _ _ _ 7 _ (rw e at (need-out 8 _ (le-ltb w (length ks) l))) c)
 
         pub case-in : (ks : List ℕ) (k : ℕ) → w < length ks → k ≡ getD ks w noChild → (k ≡ noChild → ⊥)
-          → Tested img n (child k) (p + 1) us r vs → Tested img n (cases ks) p us r vs
+            → Tested img n (child k) (p + 1) us r vs → Tested img n (cases ks) p us r vs
         unfolding testField after fieldKids numbers
         case-in ks k l q z t =
             let f : getD ks (opAt img p) noChild ≡ k = rw e at (sym q) in
             rw (f, ne-eqb _ _ z, testField, after, fieldKids)
-              (skips _ _ _ _ (in-row p h) (skips _ _ _ _ (rw e at (need-in 8 _ (lt-ltb w (length ks) l))) (restep _ _ _ _ _ (ap (λ x. childWord img n x (p + 1)) (sym f)) (omega arith) t)))
+            (skips _ _ _ _ (in-row p h) (skips _ _ _ _ (rw e at (need-in 8 _ (lt-ltb w (length ks) l))) (restep _ _ _ _ _ (ap (λ x. childWord img n x (p + 1)) (sym f)) (omega arith) t)))
 
     module _ {us : List ℕ} (r : Scan) (p w : ℕ) (h : p < operands img) (e : w ≡ opAt img p) (c : r .code ≡ 0) (a : r .at ≡ p + 1) (b : r .at ≤ 8192) where
       pub name-in : w < names img → Tested img n name p us r us
@@ -132,10 +132,10 @@ module _ (img : List ℕ) where
       pub record ItemsLeft (left at : ℕ) (vs : List ℕ) : Type 0 where
         pub low : at ≤ 8192
         pub whole : (r : Scan) (ws : List ℕ) → Step (run (childWord img n k) left at) (at + left) (opsFrom img left at) vs r ws
-          → Step (run (childWord img n k) count p) (p + count) (opsFrom img count p) us r ws
+            → Step (run (childWord img n k) count p) (p + count) (opsFrom img count p) us r ws
 
       pub items-next : (left at : ℕ) {vs ws : List ℕ} (r : Scan) → ItemsLeft left at vs → (left ≡ 0 → ⊥)
-        → Tested img n (child k) at vs r ws → r .code ≡ 0 → ItemsLeft (left - 1) (at + 1) ws
+          → Tested img n (child k) at vs r ws → r .code ≡ 0 → ItemsLeft (left - 1) (at + 1) ws
       unfolding run opsFrom testField after fieldKids numbers
       items-next zero at r i z t c = absurd (z refl)
       items-next (suc l) at r i z t c =
@@ -143,16 +143,17 @@ module _ (img : List ℕ) where
           let g = t .went c in
           record {
             low = omega arith;
-            whole = λ x xs h. i .whole x xs (restep _ _ _ _ _ refl (omega arith) (follows _ _ _ _ _ _ t c (rw q at h))) }
+            whole = λ x xs h. i .whole x xs (restep _ _ _ _ _ refl (omega arith) (follows _ _ _ _ _ _ t c (rw q at h)));
+          }
 
       pub items-stop : (left at : ℕ) {vs ws : List ℕ} (r : Scan) → ItemsLeft left at vs → (left ≡ 0 → ⊥)
-        → Tested img n (child k) at vs r ws → (r .code ≡ 0 → ⊥) → Step (run (childWord img n k) count p) (p + count) (opsFrom img count p) us r ws
+          → Tested img n (child k) at vs r ws → (r .code ≡ 0 → ⊥) → Step (run (childWord img n k) count p) (p + count) (opsFrom img count p) us r ws
       unfolding run opsFrom testField after fieldKids numbers
       items-stop zero at r i z t c = absurd (z refl)
       items-stop (suc l) at r i z t c = i .whole r _ (halts _ _ _ _ _ _ t c)
 
       pub items-end : (left at : ℕ) {vs : List ℕ} (r : Scan) → ItemsLeft left at vs → left ≡ 0 → r .code ≡ 0 → r .at ≡ at
-        → Step (run (childWord img n k) count p) (p + count) (opsFrom img count p) us r vs
+          → Step (run (childWord img n k) count p) (p + count) (opsFrom img count p) us r vs
       unfolding run opsFrom
       items-end zero at r i z c a = i .whole r _ (passes _ _ r refl c (omega arith) (omega arith))
       items-end (suc l) at r i z c a = absurd (omega arith)
@@ -161,10 +162,10 @@ module _ (img : List ℕ) where
       pub record BlocksLeft (left at : ℕ) (vs : List ℕ) : Type 0 where
         pub low : at ≤ 8192
         pub whole : (r : Scan) (ws : List ℕ) → Step (testBlocks img n k left at) (afterBlocks img left at) (numbers (blockKids img left at)) vs r ws
-          → Step (testBlocks img n k count p) (afterBlocks img count p) (numbers (blockKids img count p)) us r ws
+            → Step (testBlocks img n k count p) (afterBlocks img count p) (numbers (blockKids img count p)) us r ws
 
       pub blocks-next : (left at : ℕ) {vs ws : List ℕ} (r : Scan) → BlocksLeft left at vs → (left ≡ 0 → ⊥)
-        → Tested img n (list k) at vs r ws → r .code ≡ 0 → BlocksLeft (left - 1) (r .at) ws
+          → Tested img n (list k) at vs r ws → r .code ≡ 0 → BlocksLeft (left - 1) (r .at) ws
       unfolding testBlocks afterBlocks blockKids testField after fieldKids numbers
       blocks-next zero at r i z t c = absurd (z refl)
       blocks-next (suc l) at r i z t c =
@@ -172,16 +173,17 @@ module _ (img : List ℕ) where
           let g = t .went c in
           record {
             low = g .low;
-            whole = λ x xs h. i .whole x xs (restep _ _ _ _ _ (▸-assoc _ _ _) refl (rw numbers-ones at (follows _ _ _ _ _ _ t c (rw (q, g .place) at h)))) }
+            whole = λ x xs h. i .whole x xs (restep _ _ _ _ _ (▸-assoc _ _ _) refl (rw numbers-ones at (follows _ _ _ _ _ _ t c (rw (q, g .place) at h))));
+          }
 
       pub blocks-stop : (left at : ℕ) {vs ws : List ℕ} (r : Scan) → BlocksLeft left at vs → (left ≡ 0 → ⊥)
-        → Tested img n (list k) at vs r ws → (r .code ≡ 0 → ⊥) → Step (testBlocks img n k count p) (afterBlocks img count p) (numbers (blockKids img count p)) us r ws
+          → Tested img n (list k) at vs r ws → (r .code ≡ 0 → ⊥) → Step (testBlocks img n k count p) (afterBlocks img count p) (numbers (blockKids img count p)) us r ws
       unfolding testBlocks afterBlocks blockKids testField after fieldKids numbers
       blocks-stop zero at r i z t c = absurd (z refl)
       blocks-stop (suc l) at r i z t c = i .whole r _ (restep _ _ _ _ _ (▸-assoc _ _ _) refl (halts _ _ _ _ _ _ t c))
 
       pub blocks-end : (left at : ℕ) {vs : List ℕ} (r : Scan) → BlocksLeft left at vs → left ≡ 0 → r .code ≡ 0 → r .at ≡ at
-        → Step (testBlocks img n k count p) (afterBlocks img count p) (numbers (blockKids img count p)) us r vs
+          → Step (testBlocks img n k count p) (afterBlocks img count p) (numbers (blockKids img count p)) us r vs
       unfolding testBlocks afterBlocks blockKids numbers
       blocks-end zero at r i z c a = i .whole r _ (passes _ _ r refl c a (omega arith))
       blocks-end (suc l) at r i z c a = absurd (omega arith)

@@ -2,6 +2,8 @@ pub mod Formed
 pub mod Accepted
 pub mod Unfold
 pub mod Row
+pub mod Shapes
+pub mod Small
 pub mod Count
 pub mod Vars
 pub mod Words

@@ -83,7 +83,8 @@ module _ (img : List ℕ) where
       let a = both _ _ e in
       record {
         rises = λ i h. ltb→lt _ _ (needed 3 _ (rw zero-add at (ran _ _ 0 (a .0) i h)));
-        ends-at = eqb→eq _ _ (needed 3 _ (a .1)) }
+        ends-at = eqb→eq _ _ (needed 3 _ (a .1));
+      }
 
   pub name-in : Rises img → (i : ℕ) → i < names img → nameEnd img i ≤ bytes img
   unfolding nameStart
@@ -191,7 +192,7 @@ name-fits img s i from to n =
     omega arith
 
 pub spans : (img : List ℕ) (s : Sizes) (i start : ℕ) → Spanned img s i start → (u v w x y e : ℕ) → u ≡ s .nodes → v ≡ s .operands → w ≡ s .names
-  → x ≡ start → y ≡ e → e ≡ nameEnd img i → NameAt img s i (16 + 8 * u + 4 * v + 4 * w + x) (16 + 8 * u + 4 * v + 4 * w + y)
+    → x ≡ start → y ≡ e → e ≡ nameEnd img i → NameAt img s i (16 + 8 * u + 4 * v + 4 * w + x) (16 + 8 * u + 4 * v + 4 * w + y)
 unfolding base
 spans img s i start p u v w x y e a b c d f g =
     let h = p .within .head in
@@ -240,7 +241,7 @@ module _ (img : List ℕ) (i first : ℕ) (next : List ℕ) where
   chain-begin h = record { low = h; left = λ m r. inr r }
 
   pub chain-next : (j : ℕ) → ChainLeft j → (j ≡ 0 → ⊥) → ((k : ℕ) → k < i → getD next k 0 ≤ k)
-    → same (nameBytes img (j - 1)) (nameBytes img i) ≡ false → ChainLeft (getD next (j - 1) 0)
+      → same (nameBytes img (j - 1)) (nameBytes img i) ≡ false → ChainLeft (getD next (j - 1) 0)
   chain-next zero l z f e = absurd (z refl)
   chain-next (suc j) l z f e =
       let q : suc j - 1 ≡ j = omega arith in
@@ -249,7 +250,7 @@ module _ (img : List ℕ) (i first : ℕ) (next : List ℕ) where
       rw q (record { low = omega arith; left = λ m r. go m (l .left m r) (rw q at e) })
     where
       go : (m : ℕ) → (same (nameBytes img m) (nameBytes img i) ≡ false) ⊎ Reach next (suc j) m → same (nameBytes img j) (nameBytes img i) ≡ false
-        → (same (nameBytes img m) (nameBytes img i) ≡ false) ⊎ Reach next (getD next j 0) m
+          → (same (nameBytes img m) (nameBytes img i) ≡ false) ⊎ Reach next (getD next j 0) m
       go m (inl a) x = inl a
       go m (inr here) x = inl x
       go m (inr (there r)) x = inr r
@@ -262,13 +263,15 @@ module _ (img : List ℕ) (i first : ℕ) (next : List ℕ) where
       let h = l .low in
       record {
         found = λ t. run-one (λ x. not (same (nameBytes img x) (nameBytes img i))) i 0 j (omega arith) (rw p (ap not (rw q at e)));
-        none = λ t. let y : _≡_ {A = ℕ} 0 1 = cc in absurd (omega arith) }
+        none = λ t. let y : _≡_ {A = ℕ} 0 1 = cc in absurd (omega arith);
+      }
 
   pub chain-end : (j : ℕ) → ChainLeft j → j ≡ 0 → Met img i first next false
   chain-end zero l z =
       record {
         found = λ t. let y : _≡_ {A = ℕ} 0 1 = cc in absurd (omega arith);
-        none = λ t m r. go m (l .left m r) }
+        none = λ t m r. go m (l .left m r);
+      }
     where
       go : (m : ℕ) → (same (nameBytes img m) (nameBytes img i) ≡ false) ⊎ Reach next 0 m → same (nameBytes img m) (nameBytes img i) ≡ false
       go m (inl a) = a
@@ -299,8 +302,15 @@ module _ (img : List ℕ) where
   unfolding nameStart
   buckets-begin =
       record {
-        left = run-begin _ _; start-is = refl; few = omega arith; heads-long = length-replicate {A = ℕ} 1024 0; next-long = length-replicate {A = ℕ} 1024 0;
-        low = λ h. zeros 1024 h; falls = λ j h. absurd (omega arith); reach = λ m h. absurd (omega arith) }
+        left = run-begin _ _;
+        start-is = refl;
+        few = omega arith;
+        heads-long = length-replicate {A = ℕ} 1024 0;
+        next-long = length-replicate {A = ℕ} 1024 0;
+        low = λ h. zeros 1024 h;
+        falls = λ j h. absurd (omega arith);
+        reach = λ m h. absurd (omega arith);
+      }
     where
       zeros : (n h : ℕ) → getD (replicate n 0) h 0 ≤ 0
       zeros zero h = omega arith
@@ -347,6 +357,7 @@ module _ (img : List ℕ) where
       where
         old : m < i → Reach (set next i first) (getD heads (bucketOf m) 0) m
         old p = keep i first (b .reach m p) (b .low _) (b .falls)
+
         pick : Dec (m < i) → Reach (set next i first) (getD (set heads h (i + 1)) (bucketOf m) 0) m
         pick (no p) = let z : m ≡ i = omega arith in rw z (rw (sym k) (rw heads-at here))
         pick (yes p) = go (decLt (bucketOf m) h) (decLt h (bucketOf m))
@@ -369,11 +380,13 @@ module _ (img : List ℕ) where
           next-long = length-set next i first ∙ b .next-long;
           low = λ g. lower g (either (i + 1) g);
           falls = λ j q. fall j q (decLt j i);
-          reach = reaches }
+          reach = reaches;
+        }
       where
         lower : (g : ℕ) → getD (set heads h (i + 1)) g 0 ≤ i + 1 ⊎ (getD (set heads h (i + 1)) g 0 ≡ getD heads g 0) → getD (set heads h (i + 1)) g 0 ≤ i + 1
         lower g (inl a) = a
         lower g (inr a) = let c = b .low g in omega arith
+
         fall : (j : ℕ) → j < i + 1 → Dec (j < i) → getD (set next i first) j 0 ≤ j
         fall j q (yes p) = let c = b .falls j p in let d = getD-set-other next i j first 0 (λ z. omega arith) in omega arith
         fall j q (no p) = let z : j ≡ i = omega arith in let c = b .low h in rw z (let d = next-at in omega arith)

@@ -36,7 +36,7 @@ fields-at (x ∷ ks) zero d h = refl
 fields-at (x ∷ ks) (suc k) d h = fields-at ks k d (omega arith)
 
 triple-at : (xs : List ℕ) (k : ℕ) → 3 * k + 2 < length xs
-  → getD (triples xs) k [] ≡ partOf (getD xs (3 * k) 0) ++ (partOf (getD xs (3 * k + 1) 0) ++ partOf (getD xs (3 * k + 2) 0))
+    → getD (triples xs) k [] ≡ partOf (getD xs (3 * k) 0) ++ (partOf (getD xs (3 * k + 1) 0) ++ partOf (getD xs (3 * k + 2) 0))
 unfolding triples
 triple-at [] k h = absurd (omega arith)
 triple-at (a ∷ []) k h = absurd (omega arith)

@@ -254,8 +254,7 @@ module _ (img : List ℕ) (n : ℕ) where
   unfolding absolute.FormedBlocks FormedBlocks field
   blocks-formed k zero j h = tt
   blocks-formed k (suc c) j h =
-      let w = opAt img (base + j) in
-      (
+      let w = opAt img (base + j) in (
         items-formed k w (j + 1) (subst (absolute.Items img n k w) (one-on j) (h .1)),
         blocks-formed k c (j + 1 + w) (subst (absolute.FormedBlocks img n k c) (far-on j w) (h .2)),
       )

@@ -73,6 +73,7 @@ module _ (v : ℕ) where
           pick (yes l) q = no (λ e. omega arith)
           pick (no l) (yes k) = no (λ e. omega arith)
           pick (no l) (no k) = yes (omega arith)
+
       go : Dec (v ≡ c) → ((z : ℕ) → getD (set us c (bump (getD us c 0))) v 0 ≡ sat z → getD (claimAll cs (set us c (bump (getD us c 0)))) v 0 ≡ sat (z + times v cs))
           → getD (claimAll cs (set us c (bump (getD us c 0)))) v 0 ≡ sat (y + (is v c + times v cs))
       go (yes q) f =

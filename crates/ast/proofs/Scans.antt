@@ -95,5 +95,7 @@ module _ {us vs : List ℕ} {r : Scan} where
         went = λ y. record {
           place = k .went y .place;
           claimed = k .went y .claimed ∙ ap (claimAll ds) (h .went z .claimed) ∙ sym (claim-append cs ds us);
-          low = k .went y .low } }
+          low = k .went y .low;
+        };
+      }
   follows (suc t) u nx my cs ds h z k = let e = h .code in absurd (omega arith)

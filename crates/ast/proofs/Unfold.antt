@@ -73,13 +73,13 @@ module _ (img : List ℕ) (n : ℕ) where
   blocks-below k (suc c) p h = All-append (ops-below k (opAt img p) (p + 1) (h .1)) (blocks-below k c (p + 1 + opAt img p) (h .2))
 
   option-below : (k w : ℕ) → elim w as (λ x. Type 0) [ zero ↦ Unit {0} | suc c ↦ Child img n k c ]
-    → All (λ v. v < n) (numbers (elim w [ zero ↦ [] | suc c ↦ one c ∷ [] ]))
+      → All (λ v. v < n) (numbers (elim w [ zero ↦ [] | suc c ↦ one c ∷ [] ]))
   unfolding numbers
   option-below k zero h = nil
   option-below k (suc c) h = cons (h .0) nil
 
   case-below : (b : Bool) (k c : ℕ) → elim b as (λ x. Type 0) [ true ↦ Unit {0} | false ↦ Child img n k c ]
-    → All (λ v. v < n) (numbers (elim b [ true ↦ [] | false ↦ one c ∷ [] ]))
+      → All (λ v. v < n) (numbers (elim b [ true ↦ [] | false ↦ one c ∷ [] ]))
   unfolding numbers
   case-below true k c h = nil
   case-below false k c h = cons (h .0) nil
@@ -115,27 +115,27 @@ module _ (img : List ℕ) (f : Formed img) where
   stable (suc d) (suc b) n h k l =
       depth d n l
       ∙ ap (λ ts. node n (kindAt img n) (classAt img n) (shape img n) (ordered (classAt img n) ts))
-        (grow-same (treeTo img d) (treeTo img b) (kids img n)
-          (All-map (λ c i. stable d b c (omega arith) (omega arith) (omega arith)) (kids-below img n (f .each n l))))
+      (grow-same (treeTo img d) (treeTo img b) (kids img n)
+      (All-map (λ c i. stable d b c (omega arith) (omega arith) (omega arith)) (kids-below img n (f .each n l))))
       ∙ sym (depth b n l)
 
   -- the unfolding law
   pub treeAt-is : (n : ℕ) → n < nodes img
-    → treeAt img n ≡ node n (kindAt img n) (classAt img n) (shape img n) (ordered (classAt img n) (grow (treeAt img) (kids img n)))
+      → treeAt img n ≡ node n (kindAt img n) (classAt img n) (shape img n) (ordered (classAt img n) (grow (treeAt img) (kids img n)))
   unfolding treeAt
   treeAt-is n h =
       depth n n h
       ∙ ap (λ ts. node n (kindAt img n) (classAt img n) (shape img n) (ordered (classAt img n) ts))
-        (grow-same (treeTo img n) (treeAt img) (kids img n)
-          (All-map (λ c i. stable n (suc c) c i (omega arith) (omega arith)) (kids-below img n (f .each n h))))
+      (grow-same (treeTo img n) (treeAt img) (kids img n)
+      (All-map (λ c i. stable n (suc c) c i (omega arith) (omega arith)) (kids-below img n (f .each n h))))
 
   -- the same, at a known kind
   pub treeOf : (n : ℕ) → n < nodes img → (k : ℕ) → kindAt img n ≡ k
-    → treeAt img n ≡ node n k ((kindOf k) .class) (fieldsShape img ((kindOf k) .fields) (startAt img n + 2))
-        (ordered ((kindOf k) .class) (grow (treeAt img) (fieldsKids img ((kindOf k) .fields) (startAt img n + 2))))
+      → treeAt img n ≡ node n k ((kindOf k) .class) (fieldsShape img ((kindOf k) .fields) (startAt img n + 2))
+      (ordered ((kindOf k) .class) (grow (treeAt img) (fieldsKids img ((kindOf k) .fields) (startAt img n + 2))))
   unfolding shape kids fieldsAt classAt
   treeOf n h k e = subst (λ x. treeAt img n ≡ node n x ((kindOf x) .class) (fieldsShape img ((kindOf x) .fields) (startAt img n + 2))
-        (ordered ((kindOf x) .class) (grow (treeAt img) (fieldsKids img ((kindOf x) .fields) (startAt img n + 2))))) e (treeAt-is n h)
+      (ordered ((kindOf x) .class) (grow (treeAt img) (fieldsKids img ((kindOf x) .fields) (startAt img n + 2))))) e (treeAt-is n h)
 
   pub rowOf : (n : ℕ) → n < nodes img → (k : ℕ) → kindAt img n ≡ k → FormedFields img n ((kindOf k) .fields) (startAt img n + 2)
   unfolding fieldsAt

@@ -31,17 +31,21 @@ module _ (img : List ℕ) (f : Formed img) where
 
   module _ (c : ℕ) (h : c < nodes img) (e : kindAt img c ≡ 12) where
     termTree : (w : ℕ) → first img c ≡ w → treeAt img c ≡ node c 12 (inner term) (w ∷ [])
-      (grow (treeAt img) (elim (eqb (getD termCases w noChild) noChild) [ true ↦ [] | false ↦ one (opAt img (startAt img c + 2 + 1)) ∷ [] ] ++ []))
+        (grow (treeAt img) (elim (eqb (getD termCases w noChild) noChild) [ true ↦ [] | false ↦ one (opAt img (startAt img c + 2 + 1)) ∷ [] ] ++ []))
     unfolding kindOf fieldsShape fieldShape fieldsKids fieldKids ordered first
     termTree w q = subst (λ x. treeAt img c ≡ node c 12 (inner term) (x ∷ [])
-      (grow (treeAt img) (elim (eqb (getD termCases x noChild) noChild) [ true ↦ [] | false ↦ one (opAt img (startAt img c + 2 + 1)) ∷ [] ] ++ [])))
-      q (treeOf img f c h 12 e)
+        (grow (treeAt img) (elim (eqb (getD termCases x noChild) noChild) [ true ↦ [] | false ↦ one (opAt img (startAt img c + 2 + 1)) ∷ [] ] ++ [])))
+        q (treeOf img f c h 12 e)
 
     termChild : (w : ℕ) → first img c ≡ w → elim (eqb (getD termCases w noChild) noChild) as (λ b. Type 0) [
-        true ↦ Unit {0} | false ↦ Child img c (getD termCases w noChild) (opAt img (startAt img c + 2 + 1)) ]
+      | true ↦ Unit {0}
+      | false ↦ Child img c (getD termCases w noChild) (opAt img (startAt img c + 2 + 1))
+    ]
     unfolding kindOf FormedFields FormedField first
     termChild w q = subst (λ x. elim (eqb (getD termCases x noChild) noChild) as (λ b. Type 0) [
-        true ↦ Unit {0} | false ↦ Child img c (getD termCases x noChild) (opAt img (startAt img c + 2 + 1)) ])
+      | true ↦ Unit {0}
+      | false ↦ Child img c (getD termCases x noChild) (opAt img (startAt img c + 2 + 1))
+    ])
         q (rowOf img f c h 12 e .1 .1)
 
     plainVar : first img c ≤ 1 → PlainVar (treeAt img c)
@@ -126,10 +130,11 @@ module _ (P : Tree → Type 0) where
       go : (m n : ℕ) → n < m → n < nodes img → Everywhere (treeAt img n)
       go zero n l h = absurd (omega arith)
       go (suc m) n l h =
-          subst Everywhere (sym (treeAt-is img f n h))
-            ( subst P (treeAt-is img f n h) (at n h)
-            , EverywhereAll-ordered _ _ (EverywhereAll-grow (treeAt img) (kids img n)
-                (All-map (λ c b. go m c (omega arith) (omega arith)) (kids-below img n (f .each n h)))) )
+          subst Everywhere (sym (treeAt-is img f n h)) (
+            subst P (treeAt-is img f n h) (at n h),
+            EverywhereAll-ordered _ _ (EverywhereAll-grow (treeAt img) (kids img n)
+                (All-map (λ c b. go m c (omega arith) (omega arith)) (kids-below img n (f .each n h)))),
+          )
 
 -- what stands after the first child of an if-var or a defined-then is a plain variable
 unfoldable pub PlainAt : Tree → Type 0
@@ -158,8 +163,8 @@ module _ (img : List ℕ) (f : Formed img) where
     ifVar-plain k e = subst PlainAt (sym (treeOf img f n h 33 k)) (var-ok _ (rowOf img f n h 33 k .1) e, tt)
 
     option-plain : (w q : ℕ) → elim w as (λ x. Type 0) [ zero ↦ Unit {0} | suc c ↦ Child img n 12 c ]
-      → _≡_ {A = ℕ} (elim w [ zero ↦ 0 | suc c ↦ isVar img c ]) 0
-      → AfterFirst PlainVar (swap (grow (treeAt img) (elim w [ zero ↦ [] | suc c ↦ one c ∷ [] ] ++ (one q ∷ []))))
+        → _≡_ {A = ℕ} (elim w [ zero ↦ 0 | suc c ↦ isVar img c ]) 0
+        → AfterFirst PlainVar (swap (grow (treeAt img) (elim w [ zero ↦ [] | suc c ↦ one c ∷ [] ] ++ (one q ∷ []))))
     unfolding swap grow AfterFirst Each
     option-plain zero q i e = tt
     option-plain (suc c) q i e = (var-ok c i e, tt)
@@ -174,9 +179,11 @@ module _ (img : List ℕ) (f : Formed img) where
     plain-at e = go (eqb (kindAt img n) 33) (eqb (kindAt img n) 34) (eqb→eq _ _) (eqb→eq _ _) e (only-two (kindAt img n) (f .each n h .kind))
       where
         go : (b c : Bool) → (T b → kindAt img n ≡ 33) → (T c → kindAt img n ≡ 34)
-          → _≡_ {A = ℕ} (elim b [ true ↦ isVar img (first img n)
-              | false ↦ elim c [ true ↦ elim (first img n) [ zero ↦ 0 | suc m ↦ isVar img m ] | false ↦ 0 ] ]) 0
-          → T (b || c || not (swaps (classAt img n))) → PlainAt (treeAt img n)
+            → _≡_ {A = ℕ} (elim b [
+              | true ↦ isVar img (first img n)
+              | false ↦ elim c [ true ↦ elim (first img n) [ zero ↦ 0 | suc m ↦ isVar img m ] | false ↦ 0 ]
+            ]) 0
+            → T (b || c || not (swaps (classAt img n))) → PlainAt (treeAt img n)
         go true c p q e t = ifVar-plain (p tt) e
         go false true p q e t = definedThen-plain (q tt) e
         go false false p q e t = subst PlainAt (sym (treeAt-is img f n h)) (free-plain (swaps (classAt img n)) _ t)

@@ -46,14 +46,14 @@ module _ (img : List ℕ) where
         unfolding testNode
         node-out-2 j l c =
             skips _ _ _ _ (need-in 6 _ (le-leb _ _ (rw k at h))) (skips _ _ _ _ (need-in 7 _ (eq-eqb _ _ (rw e at q)))
-              (skips _ _ _ _ (in-row img _ (rw e at j)) (stops _ _ _ 6 _ (out-row img _ (rw e at l)) c)))
+            (skips _ _ _ _ (in-row img _ (rw e at j)) (stops _ _ _ 6 _ (out-row img _ (rw e at l)) c)))
 
         pub node-in : start + 1 < operands img → TestedAll img n ((kindOf kind) .fields) (start + 2) us r vs → NodeTested img n us r vs
         unfolding testNode rowEnd kids fieldsAt
         node-in l t =
             let i : start < operands img = omega arith in
             skips _ _ _ _ (need-in 6 _ (le-leb _ _ (rw k at h))) (skips _ _ _ _ (need-in 7 _ (eq-eqb _ _ (rw e at q)))
-              (skips _ _ _ _ (in-row img _ (rw e at i)) (skips _ _ _ _ (in-row img _ (rw e at l)) (rw (k, e) at t))))
+            (skips _ _ _ _ (in-row img _ (rw e at i)) (skips _ _ _ _ (in-row img _ (rw e at l)) (rw (k, e) at t))))
 
   -- a row by its parts
   module _ (n k : ℕ) {us vs : List ℕ} (r : Scan) (p a : ℕ) (h : k ≤ 40) (e : a ≡ getD rowParts (3 * k) 0) (t : TestedAll img n (partOf a) p us r vs) where
@@ -92,7 +92,8 @@ module _ (img : List ℕ) where
           ended = rw add-one (g .place);
           claimed = rw add-one (g .claimed ∙ ap (claimAll (numbers (kids img n))) (i .claimed) ∙ sym (claim-append (kidsTo img n) _ us));
           low = g .low;
-          within = omega arith }
+          within = omega arith;
+        }
 
     pub nodes-stop : (r .code ≡ 0 → ⊥) → NodesTested us r ws
     nodes-stop c = refused _ _ r (sym (run-stop _ _ n _ (i .left) h (sym (t .code)) c)) c
@@ -102,7 +103,8 @@ module _ (img : List ℕ) where
       let q : n ≡ nodes img = omega arith in
       record {
         code = c ∙ sym (run-end _ _ n (i .left) h);
-        went = λ z. record { place = a ∙ (rw q at (i .ended)); claimed = rw q at (i .claimed); low = omega arith } }
+        went = λ z. record { place = a ∙ (rw q at (i .ended)); claimed = rw q at (i .claimed); low = omega arith };
+      }
 
   -- 11
   abbrev pub parent : ℕ → ℕ

@@ -16,3 +16,14 @@ module _ (img : List ℕ) where
   unfolding word
   word-out o h = rw (lt-leb _ _ h, word)
 
+  pub name-rule : (n : ℕ) → kindAt img n ≡ 6 → nameOf img n ≡ field img n 0 - 1
+  unfolding nameOf
+  name-rule n h = rw (eq-eqb _ _ h, nameOf)
+
+  pub name-arg : (n : ℕ) → kindAt img n ≡ 10 → nameOf img n ≡ field img n 0 - 1
+  unfolding nameOf
+  name-arg n h = rw (h, nameOf) (rw (eq-eqb _ _ h))
+
+  pub name-plain : (n : ℕ) → (kindAt img n ≡ 6 → ⊥) → (kindAt img n ≡ 10 → ⊥) → nameOf img n ≡ field img n 0
+  unfolding nameOf
+  name-plain n h k = rw (ne-eqb _ _ h, ne-eqb _ _ k, nameOf)

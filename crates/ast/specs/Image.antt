@@ -8,8 +8,9 @@ use lib.ListN.{length, getD, take, drop}
 -- the little-endian word at a byte offset; 0 where it does not fit
 unfoldable pub word : List ℕ → ℕ → ℕ
 word img o = elim (leb (o + 4) (length img)) [
-    true ↦ getD img o 0 + 256 * getD img (o + 1) 0 + 65536 * getD img (o + 2) 0 + 16777216 * getD img (o + 3) 0
-  | false ↦ 0 ]
+  | true ↦ getD img o 0 + 256 * getD img (o + 1) 0 + 65536 * getD img (o + 2) 0 + 16777216 * getD img (o + 3) 0
+  | false ↦ 0
+]
 
 unfoldable pub nodes : List ℕ → ℕ
 nodes img = word img 0
@@ -30,8 +31,9 @@ field img n j = opAt img (startAt img n + 2 + j)
 -- the name of a node that has one
 unfoldable pub nameOf : List ℕ → ℕ → ℕ
 nameOf img n = elim (eqb (kindAt img n) 6) [
-    true ↦ field img n 0 - 1
-  | false ↦ elim (eqb (kindAt img n) 10) [ true ↦ field img n 0 - 1 | false ↦ field img n 0 ] ]
+  | true ↦ field img n 0 - 1
+  | false ↦ elim (eqb (kindAt img n) 10) [ true ↦ field img n 0 - 1 | false ↦ field img n 0 ]
+]
 
 module _ (img : List ℕ) where
   unfoldable pub operands : ℕ

@@ -19,14 +19,35 @@ caseList from count = take count (drop from caseKinds)
 
 unfoldable pub partOf : ℕ → List Field
 unfolding caseList
-partOf x = elim (eqb x 0) [ true ↦ [] | false ↦
-    elim (eqb x 1) [ true ↦ name ∷ [] | false ↦
-    elim (ltb x 100) [ true ↦ optName ∷ [] | false ↦
-    elim (ltb x 200) [ true ↦ child (x - 100) ∷ [] | false ↦
-    elim (ltb x 300) [ true ↦ optChild (x - 200) ∷ [] | false ↦
-    elim (ltb x 400) [ true ↦ list (x - 300) ∷ [] | false ↦
-    elim (ltb x 500) [ true ↦ lists (x - 400) ∷ [] | false ↦
-    cases (caseList ((x - 500) / 10) ((x - 500) % 10)) ∷ [] ] ] ] ] ] ] ]
+partOf x = elim (eqb x 0) [
+  | true ↦ []
+  | false ↦
+      elim (eqb x 1) [
+        | true ↦ name ∷ []
+        | false ↦
+            elim (ltb x 100) [
+              | true ↦ optName ∷ []
+              | false ↦
+                  elim (ltb x 200) [
+                    | true ↦ child (x - 100) ∷ []
+                    | false ↦
+                        elim (ltb x 300) [
+                          | true ↦ optChild (x - 200) ∷ []
+                          | false ↦
+                              elim (ltb x 400) [
+                                | true ↦ list (x - 300) ∷ []
+                                | false ↦
+                                    elim (ltb x 500) [
+                                      | true ↦ lists (x - 400) ∷ []
+                                      | false ↦
+                                          cases (caseList ((x - 500) / 10) ((x - 500) % 10)) ∷ []
+                                    ]
+                              ]
+                        ]
+                  ]
+            ]
+      ]
+]
 
 -- three parts to a kind
 unfoldable pub rowParts : List ℕ

@@ -9,7 +9,6 @@ use Rattle.ast.specs.Kinds.{Field, name, optName, child, optChild, list,
 use Rattle.ast.specs.Rows.{after, fieldsAt, rowEnd, kidsTo}
 
 infixr 30 _▸_
-
 -- the first refusal of two
 unfoldable pub _▸_ : ℕ → ℕ → ℕ
 zero ▸ b = b
@@ -42,15 +41,15 @@ module _ (img : List ℕ) where
   -- 1, 2, 3
   unfoldable pub testSizes : ℕ
   testSizes = need 1 (leb 16 (length img))
-    ▸ need 2 (ltb 0 (nodes img)) ▸ need 2 (leb (nodes img) 2048)
-    ▸ need 2 (leb (operands img) 8192) ▸ need 2 (leb (names img) 1024) ▸ need 2 (leb (bytes img) 8192)
-    ▸ need 3 (eqb (length img) (16 + 8 * nodes img + 4 * (operands img) + 4 * (names img) + (bytes img)))
+      ▸ need 2 (ltb 0 (nodes img)) ▸ need 2 (leb (nodes img) 2048)
+      ▸ need 2 (leb (operands img) 8192) ▸ need 2 (leb (names img) 1024) ▸ need 2 (leb (bytes img) 8192)
+      ▸ need 3 (eqb (length img) (16 + 8 * nodes img + 4 * (operands img) + 4 * (names img) + (bytes img)))
 
   -- 4, 5
   unfoldable pub testNames : ℕ
   testNames = run (λ i. need 4 (ltb (nameStart img i) (nameEnd img i))) (names img) 0
-    ▸ need 4 (eqb (nameStart img (names img)) (bytes img))
-    ▸ run (λ i. run (λ j. need 5 (not (same (nameBytes img j) (nameBytes img i)))) i 0) (names img) 0
+      ▸ need 4 (eqb (nameStart img (names img)) (bytes img))
+      ▸ run (λ i. run (λ j. need 5 (not (same (nameBytes img j) (nameBytes img i)))) i 0) (names img) 0
 
   -- a word of a row
   unfoldable pub inRow : ℕ → ℕ
@@ -91,7 +90,7 @@ module _ (img : List ℕ) where
   -- 6 to 9
   unfoldable pub testNode : ℕ → ℕ
   testNode n = need 6 (leb (kindAt img n) 40) ▸ need 7 (eqb (startAt img n) (endBefore n))
-    ▸ inRow (startAt img n) ▸ inRow (startAt img n + 1) ▸ testFields n (fieldsAt img n) (startAt img n + 2)
+      ▸ inRow (startAt img n) ▸ inRow (startAt img n + 1) ▸ testFields n (fieldsAt img n) (startAt img n + 2)
 
   -- 11
   unfoldable pub testParents : ℕ
@@ -107,10 +106,12 @@ module _ (img : List ℕ) where
   -- 12: an if-var's term, a defined-then's variable
   unfoldable pub testVar : ℕ → ℕ
   testVar n = elim (eqb (kindAt img n) 33) [
-      true ↦ isVar (first n)
+    | true ↦ isVar (first n)
     | false ↦ elim (eqb (kindAt img n) 34) [
-        true ↦ elim (first n) [ zero ↦ 0 | suc c ↦ isVar c ]
-      | false ↦ 0 ] ]
+      | true ↦ elim (first n) [ zero ↦ 0 | suc c ↦ isVar c ]
+      | false ↦ 0
+    ]
+  ]
 
   -- 10, 11, 12
   unfoldable pub testTree : ℕ

@@ -8,7 +8,6 @@ use Rattle.ast.specs.Kinds.{Class, outer, inner, plain, term, ident, hea
 use Rattle.ast.specs.Rows.{Kid, one, many, kids, shape}
 
 infixr 50 _◂_
-
 -- a node: its number, its kind, how the walk treats it, its shape (case number, list counts and options in row order)
 -- and its children in scope order; or a block of a branch
 mutual

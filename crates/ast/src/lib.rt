@@ -13,7 +13,7 @@ ghost use Rattle.ast.specs.Names.{ends, twice, hash, Spanned, NameAt, Ch
 ghost use Rattle.ast.specs.Answers.{answerOf};
 ghost use Rattle.ast.specs.Parts.{partOf, rowParts, caseKinds, caseList, Cased};
 
-fn wide(x: u32) -> usize
+pub fn wide(x: u32) -> usize
     ensures { λ r. ⌜ r ≡ x ⌝ }
 {
     x as usize
@@ -64,7 +64,7 @@ pub fn sizes_of(image: &[u8]) -> Sizes
 
 pub struct NodeId(pub u32);
 
-fn kind_at(image: &[u8], node: NodeId) -> u32
+pub fn kind_at(image: &[u8], node: NodeId) -> u32
     ensures { λ r. ⌜ r ≡ «image-spec».kindAt (now (image .entry)) (node .0) ⌝ }
 {
     word(image, 16 + 4 * wide(node.0))
@@ -82,6 +82,53 @@ fn op_at(image: &[u8], s: Sizes, place: u32) -> u32
     ensures { λ r. ⌜ r ≡ «image-spec».opAt (now (image .entry)) place ⌝ }
 {
     word(image, 16 + 8 * wide(s.nodes) + 4 * wide(place))
+}
+
+pub fn node_count(image: &[u8]) -> u32
+    ensures { λ r. ⌜ r ≡ «image-spec».nodes (now (image .entry)) ⌝ }
+{
+    word(image, 0)
+}
+
+pub fn row_start(image: &[u8], node: NodeId) -> u32
+    ensures { λ r. ⌜ r ≡ «image-spec».startAt (now (image .entry)) (node .0) ⌝ }
+{
+    word(image, 16 + 4 * wide(node_count(image)) + 4 * wide(node.0))
+}
+
+pub fn operand(image: &[u8], place: usize) -> u32
+    requires { ⌜ place < 2 ^ 40 ⌝ }
+    ensures { λ r. ⌜ r ≡ «image-spec».opAt (now (image .entry)) place ⌝ }
+{
+    word(image, 16 + 8 * wide(node_count(image)) + 4 * place)
+}
+
+// The j-th word of a node's row after its two location words.
+pub fn field(image: &[u8], node: NodeId, j: usize) -> u32
+    requires { ⌜ j < 2 ^ 34 ⌝ }
+    ensures { λ r. ⌜ r ≡ «image-spec».field (now (image .entry)) (node .0) j ⌝ }
+{
+    operand(image, wide(row_start(image, node)) + 2 + j)
+}
+
+fn less_one(x: u32) -> u32
+    ensures { λ r. ⌜ r ≡ x - 1 ⌝ }
+{
+    if x == 0 { 0 } else { x - 1 }
+}
+
+pub fn name_of(image: &[u8], node: NodeId) -> u32
+    ensures { λ r. ⌜ r ≡ «image-spec».nameOf (now (image .entry)) (node .0) ⌝ }
+{
+    let kind = kind_at(image, node);
+    let word = field(image, node, 0);
+    if kind == 6 {
+        return less_one(word);
+    }
+    if kind == 10 {
+        return less_one(word);
+    }
+    word
 }
 
 // Refusals 1, 2, 3.
@@ -146,7 +193,14 @@ fn is_child(image: &[u8], node: NodeId, k: u32, c: NodeId) -> u32
 }
 
 // The node c as a child of kind k.
-fn check_one(image: &[u8], node: NodeId, k: u32, c: NodeId, next: u32, claims: &mut [u8; 2048]) -> Scan
+fn check_one(
+    image: &[u8],
+    node: NodeId,
+    k: u32,
+    c: NodeId,
+    next: u32,
+    claims: &mut [u8; 2048],
+) -> Scan
     requires { ⌜ (node .0 ≤ 2048) × (next ≤ 8192) ⌝ }
     ensures { λ r. ⌜ Step («tests-spec».isChild (now (image .entry)) (node .0) k (c .0)) next (c .0 ∷ []) (now (claims .entry)) r (now (claims .exit)) ⌝ }
 {
@@ -158,7 +212,14 @@ fn check_one(image: &[u8], node: NodeId, k: u32, c: NodeId, next: u32, claims: &
     Scan { code: 0, at: next }
 }
 
-fn check_child(image: &[u8], s: Sizes, node: NodeId, k: u32, p: u32, claims: &mut [u8; 2048]) -> Scan
+fn check_child(
+    image: &[u8],
+    s: Sizes,
+    node: NodeId,
+    k: u32,
+    p: u32,
+    claims: &mut [u8; 2048],
+) -> Scan
     requires { ⌜ Place (now image) s (node .0) p ⌝ }
     ensures { λ r. ⌜ Tested (now (image .entry)) (node .0) (child k) p (now (claims .entry)) r (now (claims .exit)) ⌝ }
 {
@@ -170,7 +231,15 @@ fn check_child(image: &[u8], s: Sizes, node: NodeId, k: u32, p: u32, claims: &mu
 }
 
 // The children of a list, from the place p on.
-fn check_items(image: &[u8], s: Sizes, node: NodeId, k: u32, count: u32, p: u32, claims: &mut [u8; 2048]) -> Scan
+fn check_items(
+    image: &[u8],
+    s: Sizes,
+    node: NodeId,
+    k: u32,
+    count: u32,
+    p: u32,
+    claims: &mut [u8; 2048],
+) -> Scan
     requires { ⌜ Place (now image) s (node .0) p ⌝ }
     ensures { λ r. ⌜ Step («tests-spec».run («tests-spec».childWord (now (image .entry)) (node .0) k) count p) (p + count) (opsFrom (now (image .entry)) count p) (now (claims .entry)) r (now (claims .exit)) ⌝ }
 {
@@ -199,7 +268,15 @@ fn check_list(image: &[u8], s: Sizes, node: NodeId, k: u32, p: u32, claims: &mut
     check_items(image, s, node, k, count, p + 1, claims)
 }
 
-fn check_blocks(image: &[u8], s: Sizes, node: NodeId, k: u32, count: u32, p: u32, claims: &mut [u8; 2048]) -> Scan
+fn check_blocks(
+    image: &[u8],
+    s: Sizes,
+    node: NodeId,
+    k: u32,
+    count: u32,
+    p: u32,
+    claims: &mut [u8; 2048],
+) -> Scan
     requires { ⌜ Place (now image) s (node .0) p ⌝ }
     ensures { λ r. ⌜ Step («tests-spec».testBlocks (now (image .entry)) (node .0) k count p) (afterBlocks (now (image .entry)) count p) (numbers (blockKids (now (image .entry)) count p)) (now (claims .entry)) r (now (claims .exit)) ⌝ }
 {
@@ -217,7 +294,14 @@ fn check_blocks(image: &[u8], s: Sizes, node: NodeId, k: u32, count: u32, p: u32
 }
 
 // A count and its lists.
-fn check_lists(image: &[u8], s: Sizes, node: NodeId, k: u32, p: u32, claims: &mut [u8; 2048]) -> Scan
+fn check_lists(
+    image: &[u8],
+    s: Sizes,
+    node: NodeId,
+    k: u32,
+    p: u32,
+    claims: &mut [u8; 2048],
+) -> Scan
     requires { ⌜ Place (now image) s (node .0) p ⌝ }
     ensures { λ r. ⌜ Tested (now (image .entry)) (node .0) (lists k) p (now (claims .entry)) r (now (claims .exit)) ⌝ }
 {
@@ -228,7 +312,14 @@ fn check_lists(image: &[u8], s: Sizes, node: NodeId, k: u32, p: u32, claims: &mu
     check_blocks(image, s, node, k, count, p + 1, claims)
 }
 
-fn check_opt_child(image: &[u8], s: Sizes, node: NodeId, k: u32, p: u32, claims: &mut [u8; 2048]) -> Scan
+fn check_opt_child(
+    image: &[u8],
+    s: Sizes,
+    node: NodeId,
+    k: u32,
+    p: u32,
+    claims: &mut [u8; 2048],
+) -> Scan
     requires { ⌜ Place (now image) s (node .0) p ⌝ }
     ensures { λ r. ⌜ Tested (now (image .entry)) (node .0) (optChild k) p (now (claims .entry)) r (now (claims .exit)) ⌝ }
 {
@@ -274,14 +365,40 @@ fn check_opt_name(image: &[u8], s: Sizes, p: u32) -> Scan
 
 // The kinds of the children of each enum's cases; 41 for a case without one.
 const CASES: [u32; 34] = [
-    2, 3, 4, 5, 6, 7, 8, // Decl
-    13, 41, 14, 17, 18, 19, 20, 21, // Term
-    13, 16, 12, // AppHead
-    24, 17, 25, // TypeExpr
-    27, 17, // PredExpr
-    30, 32, 31, 33, // IfAtom
-    30, 34, 31, // ThenAtom
-    37, 38, 39, 40, // Stmt
+    2,
+    3,
+    4,
+    5,
+    6,
+    7,
+    8, // Decl
+    13,
+    41,
+    14,
+    17,
+    18,
+    19,
+    20,
+    21, // Term
+    13,
+    16,
+    12, // AppHead
+    24,
+    17,
+    25, // TypeExpr
+    27,
+    17, // PredExpr
+    30,
+    32,
+    31,
+    33, // IfAtom
+    30,
+    34,
+    31, // ThenAtom
+    37,
+    38,
+    39,
+    40, // Stmt
 ];
 
 fn case_kind(i: u32) -> u32
@@ -292,7 +409,15 @@ fn case_kind(i: u32) -> u32
 }
 
 // A case number, of `count` cases whose kinds stand from `from` on, and the child.
-fn check_case(image: &[u8], s: Sizes, node: NodeId, from: u32, count: u32, p: u32, claims: &mut [u8; 2048]) -> Scan
+fn check_case(
+    image: &[u8],
+    s: Sizes,
+    node: NodeId,
+    from: u32,
+    count: u32,
+    p: u32,
+    claims: &mut [u8; 2048],
+) -> Scan
     requires { ⌜ Place (now image) s (node .0) p × (from + count ≤ 34) ⌝ }
     ensures { λ r. ⌜ Tested (now (image .entry)) (node .0) (cases (caseList from count)) p (now (claims .entry)) r (now (claims .exit)) ⌝ }
 {
@@ -314,47 +439,129 @@ fn check_case(image: &[u8], s: Sizes, node: NodeId, from: u32, count: u32, p: u3
 // The fields of each kind's row, three places to a kind, 0 for none: 1 a name, 2 an optional name, 100 + k a child of kind k,
 // 200 + k an optional one, 300 + k a list, 400 + k a list of blocks, 500 + 10 f + c one of c cases whose kinds stand from f on.
 const ROWS: [u32; 123] = [
-    301, 0, 0, // Module
-    507, 0, 0, // Decl
-    1, 0, 0, // TypeDecl
-    1, 111, 0, // PredDecl
-    1, 111, 123, // FuncDecl
-    1, 123, 0, // ConstDecl
-    2, 336, 0, // RuleDecl
-    1, 309, 0, // EnumDecl
-    1, 301, 0, // ModelDecl
-    1, 111, 0, // CtorDecl
-    2, 123, 0, // ArgDecl
-    310, 0, 0, // ArgDeclList
-    578, 0, 0, // Term
-    1, 0, 0, // IdentTerm
-    115, 122, 0, // AppTerm
-    653, 0, 0, // AppHead
-    112, 313, 0, // AppHeadMember
-    112, 113, 0, // TermMember
-    112, 0, 0, // DomTerm
-    112, 0, 0, // CodTerm
-    112, 0, 0, // IdTerm
-    112, 112, 0, // CompTerm
-    312, 0, 0, // TermList
-    683, 0, 0, // TypeExpr
-    1, 0, 0, // AmbientTypeExpr
-    1, 0, 0, // MorTypeExpr
-    712, 0, 0, // PredExpr
-    1, 0, 0, // AmbientPredExpr
-    734, 0, 0, // IfAtom
-    773, 0, 0, // ThenAtom
-    112, 112, 0, // EqualAtom
-    126, 122, 0, // PredAtom
-    112, 0, 0, // DefinedIfAtom
-    112, 123, 0, // VarIfAtom
-    212, 112, 0, // DefinedThenAtom
-    112, 336, 0, // MatchCase
-    804, 0, 0, // Stmt
-    128, 0, 0, // IfStmt
-    129, 0, 0, // ThenStmt
-    436, 0, 0, // BranchStmt
-    112, 335, 0, // MatchStmt
+    301,
+    0,
+    0, // Module
+    507,
+    0,
+    0, // Decl
+    1,
+    0,
+    0, // TypeDecl
+    1,
+    111,
+    0, // PredDecl
+    1,
+    111,
+    123, // FuncDecl
+    1,
+    123,
+    0, // ConstDecl
+    2,
+    336,
+    0, // RuleDecl
+    1,
+    309,
+    0, // EnumDecl
+    1,
+    301,
+    0, // ModelDecl
+    1,
+    111,
+    0, // CtorDecl
+    2,
+    123,
+    0, // ArgDecl
+    310,
+    0,
+    0, // ArgDeclList
+    578,
+    0,
+    0, // Term
+    1,
+    0,
+    0, // IdentTerm
+    115,
+    122,
+    0, // AppTerm
+    653,
+    0,
+    0, // AppHead
+    112,
+    313,
+    0, // AppHeadMember
+    112,
+    113,
+    0, // TermMember
+    112,
+    0,
+    0, // DomTerm
+    112,
+    0,
+    0, // CodTerm
+    112,
+    0,
+    0, // IdTerm
+    112,
+    112,
+    0, // CompTerm
+    312,
+    0,
+    0, // TermList
+    683,
+    0,
+    0, // TypeExpr
+    1,
+    0,
+    0, // AmbientTypeExpr
+    1,
+    0,
+    0, // MorTypeExpr
+    712,
+    0,
+    0, // PredExpr
+    1,
+    0,
+    0, // AmbientPredExpr
+    734,
+    0,
+    0, // IfAtom
+    773,
+    0,
+    0, // ThenAtom
+    112,
+    112,
+    0, // EqualAtom
+    126,
+    122,
+    0, // PredAtom
+    112,
+    0,
+    0, // DefinedIfAtom
+    112,
+    123,
+    0, // VarIfAtom
+    212,
+    112,
+    0, // DefinedThenAtom
+    112,
+    336,
+    0, // MatchCase
+    804,
+    0,
+    0, // Stmt
+    128,
+    0,
+    0, // IfStmt
+    129,
+    0,
+    0, // ThenStmt
+    436,
+    0,
+    0, // BranchStmt
+    112,
+    335,
+    0, // MatchStmt
 ];
 
 fn part_at(i: u32) -> u32
@@ -364,7 +571,14 @@ fn part_at(i: u32) -> u32
     ROWS[i as usize]
 }
 
-fn check_part(image: &[u8], s: Sizes, node: NodeId, part: u32, p: u32, claims: &mut [u8; 2048]) -> Scan
+fn check_part(
+    image: &[u8],
+    s: Sizes,
+    node: NodeId,
+    part: u32,
+    p: u32,
+    claims: &mut [u8; 2048],
+) -> Scan
     requires { ⌜ Place (now image) s (node .0) p × Cased part ⌝ }
     ensures { λ r. ⌜ TestedAll (now (image .entry)) (node .0) (partOf part) p (now (claims .entry)) r (now (claims .exit)) ⌝ }
 {
@@ -389,10 +603,25 @@ fn check_part(image: &[u8], s: Sizes, node: NodeId, part: u32, p: u32, claims: &
     if part < 500 {
         return check_lists(image, s, node, part - 400, p, claims);
     }
-    check_case(image, s, node, (part - 500) / 10, (part - 500) % 10, p, claims)
+    check_case(
+        image,
+        s,
+        node,
+        (part - 500) / 10,
+        (part - 500) % 10,
+        p,
+        claims,
+    )
 }
 
-fn check_row(image: &[u8], s: Sizes, node: NodeId, kind: u32, p: u32, claims: &mut [u8; 2048]) -> Scan
+fn check_row(
+    image: &[u8],
+    s: Sizes,
+    node: NodeId,
+    kind: u32,
+    p: u32,
+    claims: &mut [u8; 2048],
+) -> Scan
     requires { ⌜ Place (now image) s (node .0) p × (kind ≤ 40) ⌝ }
     ensures { λ r. ⌜ TestedAll (now (image .entry)) (node .0) ((kindOf kind) .fields) p (now (claims .entry)) r (now (claims .exit)) ⌝ }
 {
@@ -480,7 +709,10 @@ fn first_word(image: &[u8], s: Sizes, node: NodeId) -> u32
     requires { ⌜ Head (now image) s ⌝ }
     ensures { λ r. ⌜ r ≡ «tests-spec».first (now (image .entry)) (node .0) ⌝ }
 {
-    word(image, 16 + 8 * wide(s.nodes) + 4 * (wide(start_at(image, s, node)) + 2))
+    word(
+        image,
+        16 + 8 * wide(s.nodes) + 4 * (wide(start_at(image, s, node)) + 2),
+    )
 }
 
 fn test_var(image: &[u8], s: Sizes, node: NodeId) -> u32
@@ -543,7 +775,10 @@ fn name_end(image: &[u8], s: Sizes, i: u32) -> u32
     requires { ⌜ Head (now image) s ⌝ }
     ensures { λ r. ⌜ r ≡ «image-spec».nameEnd (now (image .entry)) i ⌝ }
 {
-    word(image, 16 + 8 * wide(s.nodes) + 4 * wide(s.operands) + 4 * wide(i))
+    word(
+        image,
+        16 + 8 * wide(s.nodes) + 4 * wide(s.operands) + 4 * wide(i),
+    )
 }
 
 // Refusal 4: the ends of the names rise, from above 0 to B.
@@ -641,7 +876,15 @@ fn equal_names(image: &[u8], s: Sizes, j: u32, i: u32, from: usize, to: usize) -
 }
 
 // A name before i of the chain from `first` on that has the bytes of i.
-fn meets(image: &[u8], s: Sizes, i: u32, from: usize, to: usize, first: u32, next: &[u32; 1024]) -> bool
+fn meets(
+    image: &[u8],
+    s: Sizes,
+    i: u32,
+    from: usize,
+    to: usize,
+    first: u32,
+    next: &[u32; 1024],
+) -> bool
     requires { ⌜ Chain (now image) s i from to first (now next) ⌝ }
     ensures { λ r. ⌜ Met (now (image .entry)) i first (now (next .entry)) r ⌝ }
 {

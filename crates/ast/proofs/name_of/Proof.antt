@@ -1,0 +1,39 @@
+use borrow.Author.Needs.{needs}
+use native.Mathlib.Omega.{arith}
+use mathlib.Core.Path.{sym, _∙_}
+use Rattle.ast.proofs.Words.{name-rule, name-arg, name-plain}
+use Rattle.ast.proofs.name_of.Statement.{statement}
+use Rattle.ast.proofs.name_of.Tie as tie
+
+kind-at-requires : tie.Need-kind-at-requires
+kind-at-requires c κs = search needs
+
+field-requires : tie.Need-field-requires
+field-requires c κs = search needs
+
+less-one-requires : tie.Need-less-one-requires
+less-one-requires c κs = search needs
+
+returns : tie.Need-returns
+returns c = cc (name-rule _ _ (sym (c .before .before .before .kind-at .ensures) ∙ c .before .if1 .taken))
+
+less-one-requires-2 : tie.Need-less-one-requires-2
+less-one-requires-2 c κs = search needs
+
+returns-2 : tie.Need-returns-2
+returns-2 c = cc (name-arg _ _ (sym (c .before .before .before .before .kind-at .ensures) ∙ c .before .if2 .taken))
+
+returns-3 : tie.Need-returns-3
+returns-3 c = let k = c .before .before .before .kind-at .ensures in cc (name-plain _ _ (λ e. c .before .if1 .left (k ∙ e)) (λ e. c .if2 .left (k ∙ e)))
+
+pub name-of-spec : {M : Type 1} → statement M
+name-of-spec =
+    tie.close
+    (tie.spec
+    kind-at-requires
+    field-requires
+    less-one-requires
+    returns
+    less-one-requires-2
+    returns-2
+    returns-3)
