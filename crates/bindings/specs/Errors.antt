@@ -13,7 +13,8 @@ use Rattle.ast.specs.Rows.{opsFrom}
 use Rattle.ast.specs.Answer.{Answer, refused, twice as twiceAnswer, result}
 use Rattle.error.specs.Kinds.{introducedInThen, definedNotNew, patternNotFresh, repeatedArgument}
 use Rattle.table.specs.Table.{Table, lookup, isKind, isVar, entryAt, exitAt}
-use Rattle.scopes.specs.Walk.{Exit, Listed, done, twice}
+use Rattle.table.specs.State.{Exit}
+use Rattle.scopes.specs.Walk.{Listed, done, twice}
 use Rattle.scopes.specs.Resolve.{zeroed, walked, headed}
 use Rattle.scopes.specs.Twice.{among}
 use Rattle.scopes.specs.Rows.{Row, row, written, testRows, Outcome}

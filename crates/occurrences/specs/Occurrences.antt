@@ -8,7 +8,8 @@ use lib.ListN.{length}
 use Rattle.ast.specs.Image.{nodes, kindAt, nameOf}
 use Rattle.ast.specs.Answer.{Answer, refused, twice as twiceAnswer, result, other}
 use Rattle.table.specs.Table.{Table, lookup, exitAt}
-use Rattle.scopes.specs.Walk.{Exit, Listed, done, twice}
+use Rattle.table.specs.State.{Exit}
+use Rattle.scopes.specs.Walk.{Listed, done, twice}
 use Rattle.scopes.specs.Resolve.{testTable, zeroed, walked, headed}
 use Rattle.scopes.specs.Resolve as resolving
 use Rattle.scopes.specs.Rows.{Row, row, written, testRows, Outcome}

@@ -10,7 +10,8 @@ use Rattle.ast.specs.Tree.{treeAt}
 use Rattle.ast.specs.Answer.{Answer, refused, twice as twiceAnswer, result}
 use Rattle.table.specs.Layout.{nodesPlace, scopesPlace, symbolsPlace, tableLength}
 use Rattle.table.specs.Table.{Table}
-use Rattle.scopes.specs.Walk.{Exit, Listed, done, twice, resolveTree}
+use Rattle.table.specs.State.{Exit}
+use Rattle.scopes.specs.Walk.{Listed, done, twice, resolveTree}
 
 -- an answer, and the words of the table afterwards
 pub record Outcome : Type 0 where

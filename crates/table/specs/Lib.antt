@@ -1,3 +1,6 @@
 pub mod Layout
 pub mod Table
+pub mod State
+pub mod Rows
+pub mod Values
 pub mod Sound

@@ -1,0 +1,1 @@
+// Ordered scopes: argument lists and rule bodies.

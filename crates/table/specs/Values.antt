@@ -1,0 +1,19 @@
+-- The code's values as those of the definitions.
+use mathlib.Core.List.{List}
+use mathlib.Core.Option.{Option, none, some}
+use Prim.Native.Nat.{ℕ}
+use Rattle.table.specs.Table.{Table}
+use Rattle.table.specs.State.{Exit}
+use Rattle.table.specs.declared.Walked.{Walked}
+use Rattle.table.specs.declared.Found.{Found}
+use Rattle.table.specs.declared.Found.the-variants.{At, Nothing}
+
+abbrev pub tableOf : Walked → List ℕ → Table
+tableOf w ws = record { words = ws; scopes = w .scopes; symbols = w .symbols }
+
+abbrev pub exitOf : Walked → List ℕ → Exit
+exitOf w ws = record { scope = w .scope .0; table = tableOf w ws }
+
+abbrev pub optionOf : Found → Option ℕ
+optionOf (At n) = some (n .0)
+optionOf Nothing = none
