@@ -1,0 +1,4 @@
+pub mod Encode
+pub mod Report
+pub mod Starred
+pub mod Calls
