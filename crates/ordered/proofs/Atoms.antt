@@ -1,7 +1,6 @@
 -- What a walk over an atom or a type is, and over the term of a variable.
 use mathlib.Core.Path.{_≡_, refl, sym, ap, subst, _∙_}
 use mathlib.Core.Bool.{Bool, true, false}
-use mathlib.Core.Option.{Option}
 use mathlib.Core.List.{List, [], _∷_}
 use Prim.Native.Nat.{ℕ, zero, suc, _<_}
 use native.Mathlib.Omega.{arith}
@@ -42,15 +41,13 @@ module _ (img : List ℕ) where
   plain-last ks is = case-last img (inner plain) ks is
 
   -- the term of a variable: an ident that is looked up from the scope b, or any other term ------------------------------
-  pub var-known : (n b : ℕ) (e : Exit) (x : ℕ) (o : Option ℕ) → x ≡ nameOf img n → o ≡ climb img (suc b) (e .table .words) (e .table .symbols) b x
-      → isKind img 13 o ≡ true → walkIdent img (defines b) n e ≡ e
+  pub var-known : (n b : ℕ) (e : Exit) (x : ℕ) → x ≡ nameOf img n → isKind img 13 (climb img (suc b) (e .table .words) (e .table .symbols) b x) ≡ true → walkIdent img (defines b) n e ≡ e
   unfolding walkIdent
-  var-known n b e x o q p h = ap (λ (v : Bool). elim v as (λ _. Exit) [ true ↦ e | false ↦ introduce img n e ]) (ap (isKind img 13) (found-from img n b e x o q p) ∙ h)
+  var-known n b e x q h = ap (λ (v : Bool). elim v as (λ _. Exit) [ true ↦ e | false ↦ introduce img n e ]) (ap (isKind img 13) (found-from img n b e x _ q refl) ∙ h)
 
-  pub var-new : (n b : ℕ) (e : Exit) (x : ℕ) (o : Option ℕ) → x ≡ nameOf img n → o ≡ climb img (suc b) (e .table .words) (e .table .symbols) b x
-      → isKind img 13 o ≡ false → walkIdent img (defines b) n e ≡ introduce img n e
+  pub var-new : (n b : ℕ) (e : Exit) (x : ℕ) → x ≡ nameOf img n → isKind img 13 (climb img (suc b) (e .table .words) (e .table .symbols) b x) ≡ false → walkIdent img (defines b) n e ≡ introduce img n e
   unfolding walkIdent
-  var-new n b e x o q p h = ap (λ (v : Bool). elim v as (λ _. Exit) [ true ↦ e | false ↦ introduce img n e ]) (ap (isKind img 13) (found-from img n b e x o q p) ∙ h)
+  var-new n b e x q h = ap (λ (v : Bool). elim v as (λ _. Exit) [ true ↦ e | false ↦ introduce img n e ]) (ap (isKind img 13) (found-from img n b e x _ q refl) ∙ h)
 
   -- only an ident's walk goes by the role
   free-plain : {fs : List Field} {n : ℕ} (r : Role) (e : Exit) → Is img (kindBy (inner plain) fs) n → walk img r (treeAt img n) e ≡ over img n e
@@ -108,7 +105,7 @@ module _ (img : List ℕ) where
   declares-ident n e = refl
 
   -- an if-var's ident is looked up from where it stands
-  declares-as : {n : ℕ} (e : Exit) → Is img (kindOf 12) n → walk img declares (treeAt img n) e ≡ walk img (defines (e .scope)) (treeAt img n) e
+  pub declares-as : {n : ℕ} (e : Exit) → Is img (kindOf 12) n → walk img declares (treeAt img n) e ≡ walk img (defines (e .scope)) (treeAt img n) e
   declares-as {n} e is = term-whole-as img declares e is ∙ ap (marked img n (e .scope)) (go (field img n 0) refl) ∙ sym (term-whole-as img (defines (e .scope)) e is)
     where
       go : (c : ℕ) → c ≡ field img n 0 → inside img declares n e ≡ inside img (defines (e .scope)) n e
@@ -122,7 +119,7 @@ module _ (img : List ℕ) where
   pub record IfVar (n c d : ℕ) (e : Exit) : Type 0 where
     pub first : Ready img (kindOf 23) d e
     pub second : Variable img ((over img d e) .scope) c (over img d e)
-    pub whole : over img n e ≡ marked img n (e .scope) (walk img (defines ((over img d e) .scope)) (treeAt img c) (over img d e))
+    pub whole : over img n e ≡ marked img n (e .scope) (walk img declares (treeAt img c) (over img d e))
 
   ifVar-whole : {n : ℕ} (e : Exit) → Is img (kindOf 33) n → over img n e ≡ marked img n (e .scope) (walk img declares (treeAt img (field img n 0)) (over img (field img n 1) e))
   unfolding walk nodeOf kindOf
@@ -135,11 +132,11 @@ module _ (img : List ℕ) where
       let h2 : Child img n 23 (field img n 1) = (row img (p .is)) .1 .0 in
       let f = over img (field img n 1) e in
       let i = child-is img (p .is) h in
-      let w = ifVar-whole e (p .is) ∙ ap (marked img n (e .scope)) (declares-as f i) in
+      let w = ifVar-whole e (p .is) in
       subst (λ (x : ℕ). IfVar n x d e) (sym q) (subst (λ (x : ℕ). IfVar n (field img n 0) x e) (sym r)
       (record {
         first = record { is = child-is img (p .is) h2; room = part-room img p w (tree-grows img _ _ _) };
-        second = record { is = i; room = part-room img p w (stays _) };
+        second = record { is = i; room = part-room img p (w ∙ ap (marked img n (e .scope)) (declares-as f i)) (stays _) };
         whole = w;
       }))
 
