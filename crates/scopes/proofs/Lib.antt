@@ -8,3 +8,4 @@ pub mod Declaring
 pub mod Stamps
 pub mod Entries
 pub mod Visiting
+pub mod Rooting

@@ -245,7 +245,7 @@ module _ (img : List ℕ) where
   visit-ended {n} {j} {count} {i} {e} {vs} w b l = record { same = sym (b .left ∙ visit-end n j count i (exitOf w vs) l); passed = b .passed }
 
   -- the lists of an enum and of a model ---------------------------------------------------------------------------------------
-  listOf : {kd : Kind} {k n j count : ℕ} → Is img kd n → Items img n k count j → j + count ≤ 8192 → Lists img k n j count
+  pub listOf : {kd : Kind} {k n j count : ℕ} → Is img kd n → Items img n k count j → j + count ≤ 8192 → Lists img k n j count
   listOf is h l = record { accepted = is .accepted; below = is .below; lower = λ i m. (h i m) .below; kinds = λ i m. (h i m) .kind; short = l }
 
   abbrev listTrees : ℕ → Trees
@@ -280,7 +280,7 @@ module _ (img : List ℕ) where
       })
 
   -- a list: its names, then its declarations
-  over-start : (n j count : ℕ) (e : Exit) → andThen img (enterAll img (items img n count j) e) (visitAll img (items img n count j)) ≡ overList img n j count e
+  pub over-start : (n j count : ℕ) (e : Exit) → andThen img (enterAll img (items img n count j) e) (visitAll img (items img n count j)) ≡ overList img n j count e
   over-start n j count e =
       ap (λ (l : Listed). andThen img l (visitAll img (items img n count j))) (enter-start img n j count e)
       ∙ ap (λ (k : Exit → Listed). andThen img (restEnter img n j count 0 e) k) (fun-ext (λ f. visit-start n j count f))

@@ -148,6 +148,11 @@ module _ (img : List ℕ) where
     pub newest : suc (e .scope) ≡ e .table .scopes
     pub fresh : (j : ℕ) → j < e .table .symbols → scopeOf (nodes img) (e .table .words) j < e .scope
 
+-- an accepted image, and a table of enough words
+pub record Lent (img ws : List ℕ) : Type 0 where
+  pub accepted : verdict img ≡ 0
+  pub long : tableLength (nodes img) ≤ length ws
+
 -- a name stamped for a scope: whether it was not yet
 pub record Stamped (seen : List ℕ) (x s : ℕ) (r : Bool) (vs : List ℕ) : Type 0 where
   pub new : r ≡ true → (getD seen x 0 ≡ suc s → ⊥) × (x < length seen) × (vs ≡ set seen x (suc s))

@@ -1,9 +1,9 @@
 // Declaration lists, Resolve and Lookup.
 ghost use mathlib.Core.Path.{_≡_};
 ghost use Prim.Native.Nat.{ℕ, suc, _+_, _*_, _-_, _<_, _≤_, _^_};
-ghost use mathlib.Core.List.{[], _∷_};
+ghost use mathlib.Core.List.{[], _∷_, _++_};
 ghost use mathlib.Core.Option.{some};
-ghost use lib.ListN.{length, getD, set};
+ghost use lib.ListN.{length, getD, set, drop, replicate};
 ghost use lib.Seq.{slice};
 ghost use Rattle.ast.specs.Image as «image-spec»;
 ghost use Rattle.ast.specs.Tests as «tests-spec»;
@@ -11,14 +11,14 @@ ghost use Rattle.ast.specs.Is.{Is, kindBy};
 ghost use Rattle.ast.specs.Kinds.{outer, signature, name, child, kindOf};
 ghost use Rattle.ast.specs.Tree.{treeAt};
 ghost use Rattle.table.specs.State.{marked, back};
-ghost use Rattle.table.specs.Values.{exitOf, optionOf};
+ghost use Rattle.table.specs.Values.{tableOf, exitOf, optionOf};
 ghost use Rattle.ordered.specs.Walk.{occurs};
 ghost use Rattle.ordered.specs.Walkers.{inside};
-ghost use Rattle.scopes.specs.Walk.{done, enterName, enter, visit};
-ghost use Rattle.scopes.specs.Lists.{ent, restEnter, restVisit, overList, Entering, Enters, Visits, Signature, Inside, Visit, EnterRun, VisitRun, ListRun, Stamped};
-ghost use Rattle.scopes.specs.Resolve.{testTable};
+ghost use Rattle.scopes.specs.Walk.{done, enterName, enter, visit, resolveTree};
+ghost use Rattle.scopes.specs.Lists.{ent, restEnter, restVisit, overList, Entering, Enters, Visits, Signature, Inside, Visit, EnterRun, VisitRun, ListRun, Lent, Stamped};
+ghost use Rattle.scopes.specs.Resolve.{testTable, headed, resolve};
 ghost use Rattle.scopes.specs.Lookup as «lookup-spec»;
-ghost use Rattle.scopes.specs.Answers.{lookedAnswer, numberIn};
+ghost use Rattle.scopes.specs.Answers.{resolvedAnswer, lookedAnswer, numberIn};
 use ast::NodeId;
 use table::Found;
 use table::ScopeId;
@@ -357,6 +357,72 @@ fn walk_decls(
     }
 }
 
+// The whole module, in a table with no scope and no symbol.
+fn walk_module(image: &[u8], table: &mut [u32]) -> Declared
+    requires { ⌜ Lent (now image) (now table) ⌝ }
+    ensures { λ r. ⌜ Visits (now (image .entry)) (resolveTree (now (image .entry)) (treeAt (now (image .entry)) («image-spec».last (now (image .entry)))) (record { words = now (table .entry); scopes = 0; symbols = 0 })) (now (table .entry)) r (now (table .exit)) ⌝ }
+{
+    let last = ast::node_count(image) - 1;
+    let root = NodeId(last);
+    let count = ast::wide(ast::field(image, root, 0));
+    let mut seen = [0u32; 1024];
+    let none = Walked {
+        scopes: 0,
+        symbols: 0,
+        scope: ScopeId(4294967295),
+    };
+    let module = table::new_scope(image, table, none);
+    insert_unordered(image, table, module, root);
+    walk_decls(image, table, &mut seen, module, root, 1, count)
+}
+
+// The first `count` words zero.
+fn clear(table: &mut [u32], count: usize)
+    requires { ⌜ count ≤ length (now table) ⌝ }
+    ensures { λ _. ⌜ now (table .exit) ≡ replicate count 0 ++ drop count (now (table .entry)) ⌝ }
+{
+    let mut i = 0;
+    while i < count {
+        table[i] = 0;
+        i += 1;
+    }
+}
+
+// N, K and Y, in front.
+fn insert_counts(image: &[u8], table: &mut [u32], w: Walked)
+    ensures { λ _. ⌜ now (table .exit) ≡ headed (now (image .entry)) (tableOf w (now (table .entry))) ⌝ }
+{
+    table::put(table, 0, ast::node_count(image));
+    table::put(table, 1, w.scopes);
+    table::put(table, 2, w.symbols);
+}
+
+// What Resolve hands back: a refusal, a name that is declared twice with its two nodes, or K and Y.
+pub enum Resolved {
+    Refused(u32),
+    Twice(u32, NodeId, NodeId),
+    Scopes(u32, u32),
+}
+
+// Resolve, where 1 to 13 refuse nothing.
+pub fn resolve_into(image: &[u8], table: &mut [u32]) -> Resolved
+    requires { ⌜ testTable (now image) (now table) ≡ 0 ⌝ }
+    ensures { λ r. ⌜ (resolvedAnswer r ≡ (resolve (now (image .entry)) (now (table .entry))) .answer) × (now (table .exit) ≡ (resolve (now (image .entry)) (now (table .entry))) .table) ⌝ }
+{
+    let words = 3 + 5 * ast::wide(ast::node_count(image));
+    clear(table, words);
+    match walk_module(image, table) {
+        Declared::Done(w) => {
+            insert_counts(image, table, w);
+            Resolved::Scopes(w.scopes, w.symbols)
+        }
+        Declared::Twice(name, first, second) => {
+            clear(table, words);
+            Resolved::Twice(name, first, second)
+        }
+    }
+}
+
 // The refusals of a call that is lent an image and a table: 1 to 13.
 pub fn test_table(image: &[u8], table: &[u32]) -> u32
     ensures { λ r. ⌜ r ≡ testTable (now (image .entry)) (now (table .entry)) ⌝ }
@@ -369,6 +435,17 @@ pub fn test_table(image: &[u8], table: &[u32]) -> u32
         return 13;
     }
     0
+}
+
+// Resolve: fills the lent table with the scopes and symbols of the image.
+pub fn resolve_scopes(image: &[u8], table: &mut [u32]) -> Resolved
+    ensures { λ r. ⌜ (resolvedAnswer r ≡ (resolve (now (image .entry)) (now (table .entry))) .answer) × (now (table .exit) ≡ (resolve (now (image .entry)) (now (table .entry))) .table) ⌝ }
+{
+    let code = test_table(image, table);
+    if code != 0 {
+        return Resolved::Refused(code);
+    }
+    resolve_into(image, table)
 }
 
 // What Lookup hands back: a refusal, a symbol number with its node, or none.
