@@ -1,0 +1,4 @@
+pub mod Members
+pub mod Flat
+pub mod Frame
+pub mod Steps
