@@ -2,3 +2,5 @@ pub mod Members
 pub mod Flat
 pub mod Frame
 pub mod Steps
+pub mod Keep
+pub mod Good
