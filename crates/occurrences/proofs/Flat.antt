@@ -388,3 +388,13 @@ module _ (name : ℕ → ℕ) (var const : Option ℕ → Bool) (outer : ℕ →
                     none-fresh q (h .0) (subst (λ (z : Place). Last ps (suc (q .at)) (q .around) (name (q .ident)) z) p≡ (k .6)),
                   ),
                 )
+
+        -- the binding of a Var is the IdentTerm of a naming place, which has itself for its binding
+        pub introduced : (o : Place) → In o ps → var (binding o) ≡ true
+            → (q : Place) × In q ps × Naming name constant q × (binding o ≡ some (q .ident)) × (binding q ≡ some (q .ident))
+        introduced o i v =
+            let h : From ps (suc (o .at)) (o .around) (name (o .ident)) = bind-from ps s (suc (o .at)) (o .around) (name (o .ident)) v in
+            let e : binding o ≡ binding (h .0) =
+                at-naming o (h .0) i (h .1) (h .3) (h .4) (let m = h .5 .0 in (omega arith, h .5 .1))
+                (λ d k f e′ l u. let m = u .0 in h .6 d k f e′ l (omega arith, u .1)) in
+            (h .0, h .1, h .3, h .2, sym e ∙ h .2)

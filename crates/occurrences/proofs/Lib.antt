@@ -4,3 +4,4 @@ pub mod Frame
 pub mod Steps
 pub mod Keep
 pub mod Good
+pub mod OneRule
