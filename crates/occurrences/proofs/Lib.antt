@@ -5,3 +5,4 @@ pub mod Steps
 pub mod Keep
 pub mod Good
 pub mod OneRule
+pub mod Moves
