@@ -6,3 +6,4 @@ pub mod Keep
 pub mod Good
 pub mod OneRule
 pub mod Moves
+pub mod Lists
