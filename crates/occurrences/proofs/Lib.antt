@@ -7,3 +7,4 @@ pub mod Good
 pub mod OneRule
 pub mod Moves
 pub mod Lists
+pub mod Bounded

@@ -1,7 +1,7 @@
 -- The walk of a rule body and its list of places take the same steps.
 use mathlib.Core.Path.{_≡_, refl, sym, _∙_, ap, subst}
 use mathlib.Core.Logic.{_⊎_, inl, inr}
-use mathlib.Core.List.{List, [], _∷_, _++_, append-assoc}
+use mathlib.Core.List.{List, [], _∷_, _++_, append-nil}
 use Prim.Native.Nat.{ℕ, zero, suc}
 use Rattle.ast.specs.Image.{kindAt}
 use Rattle.ast.specs.Kinds.{Class, outer, inner, Outer, Inner, plain, term, ident, head, headMember, member, branch, match, case, ifVar, definedThen, arg}
@@ -75,9 +75,11 @@ module _ (img : List ℕ) where
     pub is : u ≡ node n k (inner term) sh vs
     pub only : IdentOnly vs ⊎ (vs ≡ none)
 
+  -- at most one
   unfoldable pub VarTerms : Trees → Type 0
   VarTerms none = Unit {0}
-  VarTerms (u ◂ us) = VarTerm u × VarTerms us
+  VarTerms (u ◂ none) = VarTerm u
+  VarTerms (u ◂ (v ◂ us)) = ⊥
 
   unfoldable pub Idents : Trees → Type 0
   Idents none = Unit {0}
@@ -114,7 +116,7 @@ module _ (img : List ℕ) where
     Members none = Unit {0}
     Members (u ◂ us) = Body u × Idents us
 
-    -- a term, then variables
+    -- a term, then at most one variable
     pub Defines : Trees → Type 0
     Defines none = Unit {0}
     Defines (u ◂ us) = Body u × VarTerms us
@@ -181,7 +183,7 @@ module _ (img : List ℕ) where
       subst (λ (d : Class). Steps b (numbersSeq (node n k d sh ts ◂ us)) st (nameState (node n k d sh ts ◂ us) st))
       (sym (h .0)) (next (marks n (st .now .scope) (st .now .scope)) (memberNames b us (h .1) (marking n (st .now .scope) (st .now .scope) st)))
 
-  -- a defined-then's variables after its term
+  -- a defined-then's variable after its term
   abbrev varState : ℕ → List ℕ → State → State → Trees → State
   varState o b st st′ us =
       record { now = walkSeq img (defines (st .now .scope)) us (st′ .now); met = placeSeq (defined (st .met .next)) o b us (st′ .met) }
@@ -208,9 +210,9 @@ module _ (img : List ℕ) where
       → Steps b (ns ++ numbersSeq us) st (varState o b st st′ us)
   unfolding numbers walk place VarTerms
   defineVars o b none v ns st st′ s = next s stay
-  defineVars o b (u ◂ us) v ns st st′ s =
-      subst (λ (ms : List ℕ). Steps b ms st (varState o b st (oneVar o b st st′ u) us)) (append-assoc ns (numbers u) (numbersSeq us))
-      (defineVars o b us (v .1) (ns ++ numbers u) st (oneVar o b st st′ u) (defineVar o b u (v .0) ns st st′ s))
+  defineVars o b (u ◂ none) v ns st st′ s =
+      subst (λ (ms : List ℕ). Steps b (ns ++ ms) st (oneVar o b st st′ u)) (sym (append-nil (numbers u))) (defineVar o b u v ns st st′ s)
+  defineVars o b (u ◂ (w ◂ us)) v ns st st′ s = absurd v
 
   mutual
     unfolding numbers walk place Body
