@@ -8,3 +8,4 @@ pub mod OneRule
 pub mod Moves
 pub mod Lists
 pub mod Bounded
+pub mod WholeModule
