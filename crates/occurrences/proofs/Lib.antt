@@ -9,3 +9,5 @@ pub mod Moves
 pub mod Lists
 pub mod Bounded
 pub mod WholeModule
+pub mod Listing
+pub mod Spots
