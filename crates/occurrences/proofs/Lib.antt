@@ -11,3 +11,4 @@ pub mod Bounded
 pub mod WholeModule
 pub mod Listing
 pub mod Spots
+pub mod Verdict
