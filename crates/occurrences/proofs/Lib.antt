@@ -12,3 +12,4 @@ pub mod WholeModule
 pub mod Listing
 pub mod Spots
 pub mod Verdict
+pub mod Counting
