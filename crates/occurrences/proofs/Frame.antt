@@ -77,7 +77,7 @@ module _ (img : List ℕ) where
   unfolding own
   row-same n s x = ap (λ (b : Bool). hit (elim b [ true ↦ eqb (nameOf img n) x | false ↦ false ]) n none) (eq-eqb s s refl)
 
-  find-cong : (c : ℕ) (ws ws′ : List ℕ) (j s x : ℕ) → ((i : ℕ) → i < j + c → (scopeAt ws i ≡ scopeAt ws′ i) × (symbolAt ws i ≡ symbolAt ws′ i))
+  pub find-cong : (c : ℕ) (ws ws′ : List ℕ) (j s x : ℕ) → ((i : ℕ) → i < j + c → (scopeAt ws i ≡ scopeAt ws′ i) × (symbolAt ws i ≡ symbolAt ws′ i))
       → findFrom img c ws j s x ≡ findFrom img c ws′ j s x
   unfolding findFrom
   find-cong zero ws ws′ j s x h = refl

@@ -13,3 +13,4 @@ pub mod Listing
 pub mod Spots
 pub mod Verdict
 pub mod Counting
+pub mod Resolving

@@ -199,12 +199,18 @@ module _ (img : List ℕ) where
           (λ x. kind-orElse img (D x) (m x) (en .novar x) (outs x)) in
       held-after (n ∷ es) ns [] rs (e .table) (e′ .table) (e″ .table) (omega arith) q₀ di f g
 
-  pub walks-of : (n k : ℕ) (c : Class) (sh : List ℕ) (ts : Trees) (ws : List ℕ) (e : Exit)
+  -- what resolving leaves for the rules rs
+  pub record Resolved (rs : List Rule) (e : Exit) : Type 0 where
+    pub bounds : Bounds img e
+    pub sane : Sane img (e .table)
+    pub walks : (r : Rule) → In r rs → WalkOf r (e .table)
+
+  pub resolves : (n k : ℕ) (c : Class) (sh : List ℕ) (ts : Trees) (ws : List ℕ) (e : Exit)
       → resolveTree img (node n k c sh ts) (record { words = ws; scopes = 0; symbols = 0 }) ≡ done e → tableLength (nodes img) ≤ length ws
       → Decls img ts → ((m : ℕ) → In m (moduleNumbers n ts) → m < nodes img) → Distinct (moduleNumbers n ts)
-      → (r : Rule) → In r (rulesAll img (saysAll img ts) ts) → WalkOf r (e .table)
+      → Resolved (rulesAll img (saysAll img ts) ts) e
   unfolding resolveTree newScope marked
-  walks-of n k c sh ts ws e q size d sm di r j =
+  resolves n k c sh ts ws e q size d sm di =
       let b = bounded img n k c sh ts ws e q sm di in
       let t₀ : Table = record { words = ws; scopes = 0; symbols = 0 } in
       let t₁ : Table = newScope img allOnes t₀ in
@@ -231,7 +237,7 @@ module _ (img : List ℕ) where
           ∙ ap (λ u. orElse u (D x)) (mark-find img n 0 0 t₁ n<N 0 x ∙ child-empty img allOnes t₀ so (omega arith) x) in
       let held : Held ns (rulesAll img D ts) (h .0 .table) (e .table) =
           holds v b (λ m i. sm m (inr (in-right m es ns i))) (distinct-right es ns (di .1)) (en .sane) (omega arith) reads (en .novar) in
-      held .walked (e .table) (record { lookups = λ s x l. refl; exits = λ m l i. refl }) r j
+      record { bounds = b; sane = held .sane; walks = held .walked (e .table) (record { lookups = λ s x l. refl; exits = λ m l i. refl }) }
 
   -- the third demand for a rule that was walked
   module _ (T : Table) (r : Rule) (w : WalkOf r T) where
