@@ -14,3 +14,4 @@ pub mod Spots
 pub mod Verdict
 pub mod Counting
 pub mod Resolving
+pub mod RowLaws
