@@ -15,3 +15,4 @@ pub mod Verdict
 pub mod Counting
 pub mod Resolving
 pub mod RowLaws
+pub mod Written
