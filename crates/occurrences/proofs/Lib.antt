@@ -16,3 +16,4 @@ pub mod Counting
 pub mod Resolving
 pub mod RowLaws
 pub mod Written
+pub mod Leaving

@@ -51,24 +51,28 @@ abbrev pub spotsOf : List Place → List Spot
 spotsOf [] = []
 spotsOf (p ∷ ps) = spotOf p ∷ spotsOf ps
 
+-- the places of a rule
+abbrev pub placesOf : Rule → List Place
+placesOf r = rulePlaces (r .statements)
+
+-- p is a variable occurrence of the rule r
+abbrev pub Occurs : List ℕ → Rule → Place → Type 0
+Occurs img r p = Occurrence (nameOf img) (outerConst img r) (placesOf r) p
+
 module _ (img : List ℕ) (binding : Place → Option ℕ) where
   module _ (r : Rule) where
-    -- p is a variable occurrence of the rule
-    abbrev pub Occurs : Place → Type 0
-    Occurs p = Occurrence (nameOf img) (outerConst img r) (rulePlaces (r .statements)) p
-
     -- the rows that list, one after another, those of some places that are variable occurrences, each by its node and with
     -- its binding, and nothing else
     pub data RowsOf : List Place → List Row → Type 0 where
       end : RowsOf [] []
-      put : {p : Place} {b : ℕ} {ps : List Place} {ws : List Row} → Occurs p → binding p ≡ some b → RowsOf ps ws → RowsOf (p ∷ ps) (row (p .node) b ∷ ws)
-      pass : {p : Place} {ps : List Place} {ws : List Row} → (Occurs p → ⊥) → RowsOf ps ws → RowsOf (p ∷ ps) ws
+      put : {p : Place} {b : ℕ} {ps : List Place} {ws : List Row} → Occurs img r p → binding p ≡ some b → RowsOf ps ws → RowsOf (p ∷ ps) (row (p .node) b ∷ ws)
+      pass : {p : Place} {ps : List Place} {ws : List Row} → (Occurs img r p → ⊥) → RowsOf ps ws → RowsOf (p ∷ ps) ws
 
     -- the rows of a rule: all its places, in the list's order
     pub record RuleRows (ws : List Row) : Type 0 where
       pub places : List Place
-      pub all : (p : Place) → In p (rulePlaces (r .statements)) → In p places
-      pub only : (p : Place) → In p places → In p (rulePlaces (r .statements))
+      pub all : (p : Place) → In p (placesOf r) → In p places
+      pub only : (p : Place) → In p places → In p (placesOf r)
       pub order : InOrder places
       pub rows : RowsOf places ws
 

@@ -13,12 +13,12 @@ use Rattle.ast.specs.Tests.{is, times, verdict}
 use Rattle.ast.proofs.Count.{times-append}
 use Rattle.table.specs.Table.{Table, isKind}
 use Rattle.scopes.specs.Rows.{Row, row, lefts}
-use Rattle.occurrences.specs.Sight.{Place, In, Rule, rulePlaces, moduleRules, Spot, ruleSpots, Occurrence}
+use Rattle.occurrences.specs.Sight.{Place, In, Rule, moduleRules, Spot, ruleSpots, Occurrence}
 use Rattle.occurrences.specs.Occurrences.{found, listed, rowsFor, ruleRows, allRows, occurrenceRows}
 use Rattle.occurrences.proofs.Members.{in-left, in-right, in-split, Distinct, pigeonhole}
 use Rattle.occurrences.proofs.Flat.{true-not-false}
 use Rattle.occurrences.proofs.Steps.{numbersSeq}
-use Rattle.occurrences.proofs.Listing.{spotOf, spotsOf, Occurs, RowsOf, end, put, pass, RuleRows, AllRows, noRule, rule}
+use Rattle.occurrences.proofs.Listing.{spotOf, spotsOf, placesOf, Occurs, RowsOf, end, put, pass, RuleRows, AllRows, noRule, rule}
 use Rattle.occurrences.proofs.Spots.{owners, Ordered, ordered, owners-once}
 use Rattle.occurrences.proofs.WholeModule.{WalkOf, var-is-occurrence}
 use Rattle.occurrences.proofs.Counting.{in-times, distinct-times, ruleNumbers, rule-nodes-once, rule-nodes-small}
@@ -54,7 +54,7 @@ one-row (x ∷ ws) d w v (inr i) (inr j) e = one-row ws (d .1) w v i j e
 module _ (img : List ℕ) (binding : Place → Option ℕ) where
   -- w is the row of the occurrence p of the rule r
   abbrev pub RowAt : Rule → Place → Row → Type 0
-  RowAt r p w = Occurs img binding r p × (w .left ≡ p .node) × (binding p ≡ some (w .right))
+  RowAt r p w = Occurs img r p × (w .left ≡ p .node) × (binding p ≡ some (w .right))
 
   rows-only : {r : Rule} {ps : List Place} {ws : List Row} → RowsOf img binding r ps ws → (w : Row) → In w ws → (p : Place) × In p ps × RowAt r p w
   rows-only end w i = absurd i
@@ -63,33 +63,33 @@ module _ (img : List ℕ) (binding : Place → Option ℕ) where
   rows-only (put o e s) w (inr i) = let h = rows-only s w i in (h .0, inr (h .1), h .2)
   rows-only (pass f s) w i = let h = rows-only s w i in (h .0, inr (h .1), h .2)
 
-  rows-all : {r : Rule} {ps : List Place} {ws : List Row} → RowsOf img binding r ps ws → (p : Place) → In p ps → Occurs img binding r p
+  rows-all : {r : Rule} {ps : List Place} {ws : List Row} → RowsOf img binding r ps ws → (p : Place) → In p ps → Occurs img r p
       → (b : ℕ) × (binding p ≡ some b) × In (row (p .node) b) ws
   rows-all end p i o = absurd i
   rows-all {r} (put {p = q} {b = b} {ws = ws} o′ e s) p (inl f) o =
       subst (λ (z : Place). (c : ℕ) × (binding z ≡ some c) × In (row (z .node) c) (row (q .node) b ∷ ws)) (sym f) (b, e, inl refl)
   rows-all (put o′ e s) p (inr i) o = let h = rows-all s p i o in (h .0, h .1, inr (h .2))
-  rows-all {r} (pass f s) p (inl e) o = absurd (f (subst (Occurs img binding r) e o))
+  rows-all {r} (pass f s) p (inl e) o = absurd (f (subst (Occurs img r) e o))
   rows-all (pass f s) p (inr i) o = rows-all s p i o
 
   pub all-only : {rs : List Rule} {ws : List Row} → AllRows img binding rs ws → (w : Row) → In w ws
-      → (r : Rule) × In r rs × ((p : Place) × In p (rulePlaces (r .statements)) × RowAt r p w)
+      → (r : Rule) × In r rs × ((p : Place) × In p (placesOf r) × RowAt r p w)
   all-only noRule w i = absurd i
   all-only (rule {r = r} {rs = rs} {ws = ws} {vs = vs} h s) w i = go (in-split w ws vs i) (λ j. all-only s w j)
     where
       Found : List Rule → Type 0
-      Found qs = (q : Rule) × In q qs × ((p : Place) × In p (rulePlaces (q .statements)) × RowAt q p w)
+      Found qs = (q : Rule) × In q qs × ((p : Place) × In p (placesOf q) × RowAt q p w)
 
       go : In w ws ⊎ In w vs → (In w vs → Found rs) → Found (r ∷ rs)
       go (inl j) f = let g = rows-only (h .rows) w j in (r, inl refl, (g .0, h .only (g .0) (g .1), g .2))
       go (inr j) f = let g = f j in (g .0, inr (g .1), g .2)
 
-  pub all-all : {rs : List Rule} {ws : List Row} → AllRows img binding rs ws → (r : Rule) → In r rs → (p : Place) → In p (rulePlaces (r .statements)) → Occurs img binding r p
+  pub all-all : {rs : List Rule} {ws : List Row} → AllRows img binding rs ws → (r : Rule) → In r rs → (p : Place) → In p (placesOf r) → Occurs img r p
       → (b : ℕ) × (binding p ≡ some b) × In (row (p .node) b) ws
   all-all noRule r i p j o = absurd i
   all-all (rule {r = q} {rs = rs} {ws = ws} {vs = vs} h s) r (inl e) p j o =
-      let f : (z : Rule) → z ≡ q → In p (rulePlaces (z .statements)) → Occurs img binding z p → (b : ℕ) × (binding p ≡ some b) × In (row (p .node) b) ws = λ z g.
-      subst (λ (y : Rule). In p (rulePlaces (y .statements)) → Occurs img binding y p → (b : ℕ) × (binding p ≡ some b) × In (row (p .node) b) ws) (sym g)
+      let f : (z : Rule) → z ≡ q → In p (placesOf z) → Occurs img z p → (b : ℕ) × (binding p ≡ some b) × In (row (p .node) b) ws = λ z g.
+      subst (λ (y : Rule). In p (placesOf y) → Occurs img y p → (b : ℕ) × (binding p ≡ some b) × In (row (p .node) b) ws) (sym g)
       (λ k u. rows-all (h .rows) p (h .all p k) u) in
       let g = f r e j o in
       (g .0, g .1, in-left (row (p .node) (g .0)) ws vs (g .2))
@@ -106,7 +106,7 @@ module _ (img : List ℕ) (t : Table) where
     abbrev Rows : List Place → List Row → Type 0
     Rows ps ws = RowsOf img bindingOf r ps ws
 
-    one-place : (p : Place) (ps : List Place) (ws : List Row) → In p (rulePlaces (r .statements)) → Rows ps ws
+    one-place : (p : Place) (ps : List Place) (ws : List Row) → In p (placesOf r) → Rows ps ws
         → (o : Option ℕ) → bindingOf p ≡ o → Rows (p ∷ ps) (listed img t (p .node) o ws)
     unfolding listed isKind
     one-place p ps ws i s nothing e = pass (λ o. true-not-false ((var-is-occurrence img t r w p i) .1 o) (ap (isKind img 13) e)) s
@@ -116,7 +116,7 @@ module _ (img : List ℕ) (t : Table) where
         go true q = put ((var-is-occurrence img t r w p i) .0 (ap (isKind img 13) e ∙ q)) e s
         go false q = pass (λ o. true-not-false ((var-is-occurrence img t r w p i) .1 o) (ap (isKind img 13) e ∙ q)) s
 
-    some-places : (ps : List Place) → ((p : Place) → In p ps → In p (rulePlaces (r .statements))) → Rows ps (rowsFor img t (spotsOf ps))
+    some-places : (ps : List Place) → ((p : Place) → In p ps → In p (placesOf r)) → Rows ps (rowsFor img t (spotsOf ps))
     unfolding rowsFor
     some-places [] f = end
     some-places (p ∷ ps) f = one-place p ps (rowsFor img t (spotsOf ps)) (f p (inl refl)) (some-places ps (λ q i. f q (inr i))) (bindingOf p) refl
