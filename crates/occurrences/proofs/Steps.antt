@@ -73,6 +73,7 @@ module _ (img : List ℕ) where
     pub sh : List ℕ
     pub vs : Trees
     pub is : u ≡ node n k (inner term) sh vs
+    pub kind : kindAt img n ≡ 12
     pub only : IdentOnly vs ⊎ (vs ≡ none)
 
   -- at most one
@@ -95,9 +96,11 @@ module _ (img : List ℕ) where
     Body (block ts) = Bodies ts
     Body (node n k (outer c) sh ts) = ⊥
     Body (node n k (inner plain) sh ts) = Bodies ts
-    Body (node n k (inner term) sh ts) = IdentOnly ts ⊎ Bodies ts
+    Body (node n k (inner term) sh ts) = (kindAt img n ≡ 12) × (IdentOnly ts ⊎ Bodies ts)
     Body (node n k (inner ident) sh ts) = ⊥
-    Body (node n k (inner head) sh ts) = IdentOnly ts ⊎ Bodies ts
+    Body (node n k (inner head) [] ts) = ⊥
+    Body (node n k (inner head) (zero ∷ sh) ts) = (kindAt img n ≡ 15) × IdentOnly ts
+    Body (node n k (inner head) (suc c ∷ sh) ts) = Bodies ts
     Body (node n k (inner headMember) sh ts) = Members ts
     Body (node n k (inner member) sh ts) = Members ts
     Body (node n k (inner branch) sh ts) = Bodies ts
@@ -167,11 +170,15 @@ module _ (img : List ℕ) where
       Steps b (numbersSeq ts ++ (n ∷ [])) st
       (marking n (st .now .scope) ((walkSeq img (role c) ts (st .now)) .scope) (seqState (role c) (sort c) n b ts st))
 
-  -- a Term or AppHead: its IdentTerm, or what stands below it
+  -- a Term or AppHead with its IdentTerm
+  identSteps : (c : Simple) (n : ℕ) (b : List ℕ) (ts : Trees) (st : State) → IdentOnly ts → owned c n b st ts
+  unfolding numbers walk place
+  identSteps c n b ts st h = subst (owned c n b st) (sym (h .only)) (places c n (h .i) (h .kind))
+
+  -- a Term: its IdentTerm, or what stands below it
   owner : (c : Simple) (n : ℕ) (b : List ℕ) (ts : Trees) (st : State) → IdentOnly ts ⊎ Bodies ts
       → (Bodies ts → Steps b (numbersSeq ts) st (seqState (role c) (sort c) n b ts st)) → owned c n b st ts
-  unfolding numbers walk place
-  owner c n b ts st (inl h) f = subst (owned c n b st) (sym (h .only)) (places c n (h .i) (h .kind))
+  owner c n b ts st (inl h) f = identSteps c n b ts st h
   owner c n b ts st (inr h) f = next (f h) (marks n (st .now .scope) ((walkSeq img (role c) ts (st .now)) .scope))
 
   -- member names: marks alone
@@ -222,11 +229,12 @@ module _ (img : List ℕ) where
     steps c o b (node n k (outer d) sh ts) h st = absurd h
     steps c o b (node n k (inner plain) sh ts) h st =
         next (stepsSeq occur n b ts h st) (marks n (st .now .scope) ((walkSeq img occurs ts (st .now)) .scope))
-    steps c o b (node n k (inner term) sh ts) h st = owner c n b ts st h (λ g. stepsSeq c n b ts g st)
+    steps c o b (node n k (inner term) sh ts) h st = owner c n b ts st (h .1) (λ g. stepsSeq c n b ts g st)
     steps c o b (node n k (inner ident) sh ts) h st = absurd h
-    steps c o b (node n k (inner head) [] ts) h st = owner occur n b ts st h (λ g. stepsSeq occur n b ts g st)
-    steps c o b (node n k (inner head) (zero ∷ sh) ts) h st = owner apply n b ts st h (λ g. stepsSeq apply n b ts g st)
-    steps c o b (node n k (inner head) (suc m ∷ sh) ts) h st = owner occur n b ts st h (λ g. stepsSeq occur n b ts g st)
+    steps c o b (node n k (inner head) [] ts) h st = absurd h
+    steps c o b (node n k (inner head) (zero ∷ sh) ts) h st = identSteps apply n b ts st (h .1)
+    steps c o b (node n k (inner head) (suc m ∷ sh) ts) h st =
+        next (stepsSeq occur n b ts h st) (marks n (st .now .scope) ((walkSeq img occurs ts (st .now)) .scope))
     steps c o b (node n k (inner headMember) sh ts) h st = next (stepsMember n b ts h st) (marks n allOnes allOnes)
     steps c o b (node n k (inner member) sh ts) h st =
         next (stepsMember n b ts h st) (marks n (st .now .scope) ((walkFirst img names ts (st .now)) .scope))

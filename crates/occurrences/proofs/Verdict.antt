@@ -11,7 +11,7 @@ use lib.Dec.{T, eqb, eqb→eq, not-T, T-not}
 use lib.ListN.{length, getD}
 use Rattle.ast.specs.Image.{nodes, last, kindAt, startAt, opAt}
 use Rattle.ast.specs.Kinds.{Class, outer, inner, Outer, root, decl, signature, rule, enum, model, Inner, plain, term, ident, head, headMember, member, branch, match, case, ifVar, definedThen, arg, Field, name, optName, child, optChild, list, lists, cases, noChild, Kind, kinds, kindOf}
-use Rattle.ast.specs.Rows.{Kid, one, many, ones, numbers, opsFrom, after, blockKids, fieldKids, fieldsKids, fieldsAt, kids, shape}
+use Rattle.ast.specs.Rows.{Kid, one, many, ones, numbers, opsFrom, after, blockKids, fieldKids, fieldsKids, fieldShape, fieldsShape, fieldsAt, kids, shape}
 use Rattle.ast.specs.Tests.{verdict}
 use Rattle.ast.specs.Tree.{Tree, node, block, Trees, none, _◂_, swap, swaps, ordered, growAll, grow, classAt, treeAt}
 use Rattle.ast.proofs.Accepted.{formed, last-below}
@@ -189,10 +189,15 @@ module _ (img : List ℕ) where
   -- a plain variable in a body is a defined-then's variable
   var-term : {u : Tree} → PlainVar u → Body img u → VarTerm img u
   unfolding Body
-  var-term (named n i) (inl h) =
-      record { n = n; k = 12; sh = 0 ∷ []; vs = node i 13 (inner ident) [] none ◂ none; is = refl; only = inl h }
-  var-term (named n i) (inr h) = absurd (h .0)
-  var-term (wildcard n) h = record { n = n; k = 12; sh = 1 ∷ []; vs = none; is = refl; only = inr refl }
+  var-term (named n i) h = go (h .1)
+    where
+      vs : Trees
+      vs = node i 13 (inner ident) [] none ◂ none
+
+      go : IdentOnly img vs ⊎ Bodies img vs → VarTerm img (node n 12 (inner term) (0 ∷ []) vs)
+      go (inl o) = record { n = n; k = 12; sh = 0 ∷ []; vs = vs; is = refl; kind = h .0; only = inl o }
+      go (inr o) = absurd (o .0)
+  var-term (wildcard n) h = record { n = n; k = 12; sh = 1 ∷ []; vs = none; is = refl; kind = h .0; only = inr refl }
 
 -- an IdentTerm, or what stands in a body
 identOr : ℕ → Bool
@@ -221,7 +226,7 @@ module _ (img : List ℕ) (f : Formed img) (n : ℕ) (n<N : n < nodes img)
   child-body : (k c : ℕ) → T (bodyKind k) → Child img n k c → Body img (treeAt img c)
   child-body k c t h = let q = child-passes img n bodyKind k c t h in each c (q .0) (q .1)
 
-  -- the case of a Term or an AppHead
+  -- the case of a Term
   case-body : (ks : List ℕ) (p : ℕ) → T (casesAll identOr ks) → FormedFields img n (cases ks ∷ []) p
       → IdentOnly img (grow (treeAt img) (fieldsKids img (cases ks ∷ []) p)) ⊎ Bodies img (grow (treeAt img) (fieldsKids img (cases ks ∷ []) p))
   unfolding FormedFields fieldsKids fieldKids identOr grow Body
@@ -290,9 +295,22 @@ module _ (img : List ℕ) (f : Formed img) (n : ℕ) (n<N : n < nodes img)
   unfolding kindOf kinds bodyKind casesAll identOr
   term-body k p e = subst (λ j. FormedFields img n ((kindOf j) .fields) p → IdentOnly img (kin j p) ⊎ Bodies img (kin j p)) (sym e) (case-body termKinds p tt)
 
-  head-body : (k p : ℕ) → k ≡ 15 → FormedFields img n ((kindOf k) .fields) p → IdentOnly img (kin k p) ⊎ Bodies img (kin k p)
-  unfolding kindOf kinds bodyKind casesAll identOr
-  head-body k p e = subst (λ j. FormedFields img n ((kindOf j) .fields) p → IdentOnly img (kin j p) ⊎ Bodies img (kin j p)) (sym e) (case-body headKinds p tt)
+  -- an AppHead of case Ident has its IdentTerm for its one child, and no other has
+  head-case : (m w c : ℕ) → kindAt img n ≡ 15
+      → elim (eqb (getD headKinds w noChild) noChild) as (λ x. Type 0) [ true ↦ Unit {0} | false ↦ Child img n (getD headKinds w noChild) c ]
+      → Body img (node n m (inner head) (w ∷ []) (grow (treeAt img) (elim (eqb (getD headKinds w noChild) noChild) [ true ↦ [] | false ↦ one c ∷ [] ] ++ [])))
+  unfolding grow Body bodyKind kindOf kinds
+  head-case m zero c k h = (k, ident-only c h)
+  head-case m (suc zero) c k h = (child-body 16 c tt h, tt)
+  head-case m (suc (suc zero)) c k h = (child-body 12 c tt h, tt)
+  head-case m (suc (suc (suc w))) c k h = tt
+
+  head-body : (k m p : ℕ) → kindAt img n ≡ 15 → k ≡ 15 → FormedFields img n ((kindOf k) .fields) p
+      → Body img (node n m (inner head) (fieldsShape img ((kindOf k) .fields) p) (kin k p))
+  unfolding kindOf kinds FormedFields fieldsKids fieldKids fieldsShape fieldShape
+  head-body k m p e q =
+      subst (λ j. FormedFields img n ((kindOf j) .fields) p → Body img (node n m (inner head) (fieldsShape img ((kindOf j) .fields) p) (kin j p))) (sym q)
+      (λ h. head-case m (opAt img p) (opAt img (p + 1)) e (h .1 .1))
 
   headMember-body : (k p : ℕ) → k ≡ 16 → FormedFields img n ((kindOf k) .fields) p → Members img (kin k p)
   unfolding kindOf kinds bodyKind
@@ -308,23 +326,26 @@ module _ (img : List ℕ) (f : Formed img) (n : ℕ) (n<N : n < nodes img)
       subst (λ j. FormedFields img n ((kindOf j) .fields) p → AfterFirst PlainVar (swap (kin j p)) → Defines img (swap (kin j p))) (sym e) (defines-body 12 12 p tt tt)
 
   -- the node n, of kind k and class c
-  body-at : (c : Class) (k m p : ℕ) (sh : List ℕ) → T (bodyClass c) → T (not (eqb k 11)) → T (fitsClass c k ((kindOf k) .fields)) → FormedFields img n ((kindOf k) .fields) p
-      → PlainAt (node n m c sh (ordered c (kin k p))) → Body img (node n m c sh (ordered c (kin k p)))
+  abbrev built : Class → ℕ → ℕ → Tree
+  built c k p = node n k c (fieldsShape img ((kindOf k) .fields) p) (ordered c (kin k p))
+
+  body-at : (c : Class) (k p : ℕ) → kindAt img n ≡ k → T (bodyClass c) → T (not (eqb k 11)) → T (fitsClass c k ((kindOf k) .fields))
+      → FormedFields img n ((kindOf k) .fields) p → PlainAt (built c k p) → Body img (built c k p)
   unfolding bodyClass fitsClass ordered swaps PlainAt Body
-  body-at (outer o) k m p sh b s t h v = absurd b
-  body-at (inner plain) k m p sh b s t h v =
-      elim (or-split (eqb k 11) (fieldsAll bodyKind ((kindOf k) .fields)) t) [ inl e ↦ absurd (T-not (eqb k 11) s e) | inr e ↦ bodies-of ((kindOf k) .fields) p e h ]
-  body-at (inner term) k m p sh b s t h v = term-body k p (eqb→eq k 12 t) h
-  body-at (inner ident) k m p sh b s t h v = absurd b
-  body-at (inner head) k m p sh b s t h v = head-body k p (eqb→eq k 15 t) h
-  body-at (inner headMember) k m p sh b s t h v = headMember-body k p (eqb→eq k 16 t) h
-  body-at (inner member) k m p sh b s t h v = member-body k p (eqb→eq k 17 t) h
-  body-at (inner branch) k m p sh b s t h v = bodies-of ((kindOf k) .fields) p t h
-  body-at (inner match) k m p sh b s t h v = bodies-of ((kindOf k) .fields) p t h
-  body-at (inner case) k m p sh b s t h v = bodies-of ((kindOf k) .fields) p t h
-  body-at (inner ifVar) k m p sh b s t h v = bodies-swap img (kin k p) (bodies-of ((kindOf k) .fields) p t h)
-  body-at (inner definedThen) k m p sh b s t h v = definedThen-body k p (eqb→eq k 34 t) h v
-  body-at (inner arg) k m p sh b s t h v = absurd b
+  body-at (outer o) k p e b s t h v = absurd b
+  body-at (inner plain) k p e b s t h v =
+      elim (or-split (eqb k 11) (fieldsAll bodyKind ((kindOf k) .fields)) t) [ inl z ↦ absurd (T-not (eqb k 11) s z) | inr z ↦ bodies-of ((kindOf k) .fields) p z h ]
+  body-at (inner term) k p e b s t h v = (e ∙ eqb→eq k 12 t, term-body k p (eqb→eq k 12 t) h)
+  body-at (inner ident) k p e b s t h v = absurd b
+  body-at (inner head) k p e b s t h v = head-body k k p (e ∙ eqb→eq k 15 t) (eqb→eq k 15 t) h
+  body-at (inner headMember) k p e b s t h v = headMember-body k p (eqb→eq k 16 t) h
+  body-at (inner member) k p e b s t h v = member-body k p (eqb→eq k 17 t) h
+  body-at (inner branch) k p e b s t h v = bodies-of ((kindOf k) .fields) p t h
+  body-at (inner match) k p e b s t h v = bodies-of ((kindOf k) .fields) p t h
+  body-at (inner case) k p e b s t h v = bodies-of ((kindOf k) .fields) p t h
+  body-at (inner ifVar) k p e b s t h v = bodies-swap img (kin k p) (bodies-of ((kindOf k) .fields) p t h)
+  body-at (inner definedThen) k p e b s t h v = definedThen-body k p (eqb→eq k 34 t) h v
+  body-at (inner arg) k p e b s t h v = absurd b
 
   -- a declaration
   decl-at : (o : Outer) (k m p : ℕ) (sh : List ℕ) → NoVar img n → T (fitsClass (outer o) k ((kindOf k) .fields)) → FormedFields img n ((kindOf k) .fields) p
@@ -349,14 +370,14 @@ no-var model k fs t = is-not (eqb k 13) t
 
 module _ (img : List ℕ) (e : verdict img ≡ 0) where
   bodies : (m n : ℕ) → n < m → n < nodes img → T (bodyKind (kindAt img n)) → Body img (treeAt img n)
-  unfolding bodyKind fits classAt kids fieldsAt
+  unfolding bodyKind fits classAt kids shape fieldsAt
   bodies zero n l h t = absurd (omega arith)
   bodies (suc m) n l h t =
       let f = formed img e in
       let k = kindAt img n in
       let s = and-split (bodyClass ((kindOf k) .class)) (not (eqb k 11)) t in
       subst (Body img) (sym (treeAt-is img f n h))
-      (body-at img f n h (λ c q. bodies m c (omega arith) (omega arith)) ((kindOf k) .class) k k (startAt img n + 2) (shape img n) (s .0) (s .1)
+      (body-at img f n h (λ c q. bodies m c (omega arith) (omega arith)) ((kindOf k) .class) k (startAt img n + 2) refl (s .0) (s .1)
       (every-fits k (f .each n h .kind)) (f .each n h .row) (subst PlainAt (treeAt-is img f n h) (vars-at img e n h)))
 
   declared : (m n : ℕ) → n < m → n < nodes img → Decl img (treeAt img n)
