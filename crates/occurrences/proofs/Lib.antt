@@ -17,3 +17,4 @@ pub mod Resolving
 pub mod RowLaws
 pub mod Written
 pub mod Leaving
+pub mod Lone

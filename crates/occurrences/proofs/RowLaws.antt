@@ -56,14 +56,14 @@ module _ (img : List ℕ) (binding : Place → Option ℕ) where
   abbrev pub RowAt : Rule → Place → Row → Type 0
   RowAt r p w = Occurs img r p × (w .left ≡ p .node) × (binding p ≡ some (w .right))
 
-  rows-only : {r : Rule} {ps : List Place} {ws : List Row} → RowsOf img binding r ps ws → (w : Row) → In w ws → (p : Place) × In p ps × RowAt r p w
+  pub rows-only : {r : Rule} {ps : List Place} {ws : List Row} → RowsOf img binding r ps ws → (w : Row) → In w ws → (p : Place) × In p ps × RowAt r p w
   rows-only end w i = absurd i
   rows-only {r} (put {p = p} {b = b} o e s) w (inl f) =
       (p, inl refl, (o, ap (λ (z : Row). z .left) f, e ∙ ap (λ (z : Row). some (z .right)) (sym f)))
   rows-only (put o e s) w (inr i) = let h = rows-only s w i in (h .0, inr (h .1), h .2)
   rows-only (pass f s) w i = let h = rows-only s w i in (h .0, inr (h .1), h .2)
 
-  rows-all : {r : Rule} {ps : List Place} {ws : List Row} → RowsOf img binding r ps ws → (p : Place) → In p ps → Occurs img r p
+  pub rows-all : {r : Rule} {ps : List Place} {ws : List Row} → RowsOf img binding r ps ws → (p : Place) → In p ps → Occurs img r p
       → (b : ℕ) × (binding p ≡ some b) × In (row (p .node) b) ws
   rows-all end p i o = absurd i
   rows-all {r} (put {p = q} {b = b} {ws = ws} o′ e s) p (inl f) o =
@@ -121,7 +121,7 @@ module _ (img : List ℕ) (t : Table) where
     some-places [] f = end
     some-places (p ∷ ps) f = one-place p ps (rowsFor img t (spotsOf ps)) (f p (inl refl)) (some-places ps (λ q i. f q (inr i))) (bindingOf p) refl
 
-    rule-rows : RuleRows img bindingOf r (ruleRows img t r)
+    pub rule-rows : RuleRows img bindingOf r (ruleRows img t r)
     unfolding ruleRows
     rule-rows =
         let o = ordered img (r .statements) (w .1 .body) in
