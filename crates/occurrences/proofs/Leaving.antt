@@ -6,22 +6,24 @@ use mathlib.Core.Option.{Option, none as nothing, some}
 use Prim.Native.Nat.{ℕ, zero, suc, _≤_}
 use native.Mathlib.Omega.{arith}
 use lib.ListN.{length}
+use borrow.Author.Tests.{eqb-true}
 use Rattle.ast.specs.Answer.{refused, result}
-use Rattle.ast.specs.Image.{nodes, nameOf}
+use Rattle.ast.specs.Image.{nodes, kindAt, nameOf}
 use Rattle.ast.specs.Tests.{_▸_, verdict}
 use Rattle.ast.proofs.Accepted.{both}
 use Rattle.table.specs.State.{Exit}
-use Rattle.table.specs.Table.{Table, lookup, exitAt}
+use Rattle.table.specs.Table.{Table, lookup, isKind, exitAt}
 use Rattle.scopes.specs.Resolve.{testTable, walked, headed}
 use Rattle.scopes.specs.Rows.{Row, row, lefts, written, testRows, Outcome}
 use Rattle.scopes.specs.Walk.{done}
-use Rattle.occurrences.specs.Sight.{Place, In, Rule, moduleRules, outerConst, Same}
+use Rattle.occurrences.specs.Sight.{Sort, ordinary, declared, applied, defined, Place, In, Rule, moduleRules, outerConst, Same}
 use Rattle.occurrences.specs.Occurrences.{occurrenceRows, occurrencesOf, occurrences}
 use Rattle.occurrences.proofs.Members.{Distinct}
 use Rattle.occurrences.proofs.Listing.{placesOf, Occurs, AllRows}
+use Rattle.occurrences.proofs.Spots.{ownerKind, ordered}
 use Rattle.occurrences.proofs.Resolving.{tableOf, resolved, headed-exit, headed-lookup}
 use Rattle.occurrences.proofs.RowLaws.{bindingOf, RowAt, all-only, all-all, one-row, rows-list, rows-distinct, rows-few}
-use Rattle.occurrences.proofs.WholeModule.{WalkOf, equal-is-same}
+use Rattle.occurrences.proofs.WholeModule.{WalkOf, var-is-occurrence, equal-is-same}
 use Rattle.occurrences.proofs.Written.{rowsIn, rows-read}
 
 module _ (img tab rows : List ℕ) (accepted : testRows img tab rows ≡ 0) (e : Exit) (single : walked img tab ≡ done e) where
@@ -114,3 +116,23 @@ module _ (img tab rows : List ℕ) (accepted : testRows img tab rows ≡ 0) (e :
         (λ h. let g : bindingOf img (e .table) p ≡ bindingOf img (e .table) q = cc in s .0 g),
         (λ h. let g = s .1 h in cc),
       )
+
+  owner-kinds : (σ : Sort) (k : ℕ) → k ≡ ownerKind σ → (k ≡ 12) ⊎ (k ≡ 15)
+  owner-kinds ordinary k e = inl e
+  owner-kinds declared k e = inl e
+  owner-kinds applied k e = inr e
+  owner-kinds (defined a) k e = inl e
+
+  -- a Term or an AppHead, with an IdentTerm
+  pub row-kinds : (w : Row) → In w list → ((kindAt img (w .left) ≡ 12) ⊎ (kindAt img (w .left) ≡ 15)) × (kindAt img (w .right) ≡ 13)
+  unfolding isKind
+  row-kinds w i = go ((row-of w) .0 i)
+    where
+      go : ((r : Rule) × In r (moduleRules img) × ((p : Place) × In p (placesOf r) × RowAt img binding r p w))
+          → ((kindAt img (w .left) ≡ 12) ⊎ (kindAt img (w .left) ≡ 15)) × (kindAt img (w .right) ≡ 13)
+      go (r, j, (p, k, (o, l, b))) =
+          let m = ordered img (r .statements) ((walks r j) .1 .body) in
+          let v = (var-is-occurrence img (e .table) r (walks r j) p k) .1 o in (
+            owner-kinds (p .sort) (kindAt img (w .left)) (ap (kindAt img) l ∙ m .kinds p (m .all p k)),
+            eqb-true (kindAt img (w .right)) 13 (ap (isKind img 13) (sym b ∙ binding-is p) ∙ v),
+          )

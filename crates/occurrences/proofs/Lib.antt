@@ -18,3 +18,4 @@ pub mod RowLaws
 pub mod Written
 pub mod Leaving
 pub mod Lone
+pub mod Demand
