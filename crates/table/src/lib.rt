@@ -8,7 +8,6 @@ ghost use Rattle.table.specs.Table as «table-spec»;
 ghost use Rattle.table.specs.State.{childScope, ownSymbol, introduce, marked, unmarked};
 ghost use Rattle.table.specs.Rows.{scopeOf, nodeAt, parentAt, Sorted, Cut, Before, Block};
 ghost use Rattle.table.specs.Values.{tableOf, exitOf, optionOf};
-
 use ast::NodeId;
 
 pub struct ScopeId(pub u32);

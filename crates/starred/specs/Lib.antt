@@ -1,0 +1,3 @@
+pub mod Encode
+pub mod Starred
+pub mod Calls
