@@ -24,13 +24,13 @@ use Rattle.bindings.specs.Errors.{when, sameNode, asked as asksFor, introduces,
 use Rattle.occurrences.specs.Sight.{add, opened, headSort, rulePlaces, ruleSpots, own, ruleOwn, rulesOf, moduleRules, outerConst, place, placeSeq, placeThen, placeFirst, spots, spotsSeq, spotsBack, spotsFirst, says, saysAll, rules, rulesAll}
 use Rattle.occurrences.specs.Occurrences.{listed, rowsFor, ruleRows, allRows, occurrenceRows, timesBound, loneIn, lone, rowsByRule, onceAnswer, occurrencesOf, occurrences, onceOf, once}
 use Rattle.starred.specs.Encode.{bytesOf, kindsOf, startsOf, wordsOf, endsOf, joined, encode}
-use Rattle.starred.specs.Report.{lentTable, lentRows}
+use Rattle.lines.specs.Report.{lentTable, lentRows}
 use Rattle.ast.specs.Answer.{Answer, refused, result, other}
 use Rattle.starred.specs.Starred.{ifEqual, enumTwice, modelList, repeatedArgs}
 
 -- a table that Resolve leaves
 abbrev left : List ℕ → List ℕ
-left img = (resolve img (lentTable img)) .table
+left img = (resolve img lentTable) .table
 
 abbrev x : List ℕ
 x = 120 ∷ []
@@ -56,10 +56,10 @@ calls =
     ∷ asked (lookupCall (encode ifEqual) (set (left (encode ifEqual)) 25 0) 1 x) (refused 16)
     ∷ asked (lookupCall (encode ifEqual) (set (left (encode ifEqual)) 47 8) 1 x) (refused 16)
     -- rows too short, a mode that is none, strict, plain
-    ∷ asked ((errors (encode repeatedArgs) (lentTable (encode repeatedArgs)) (take 20 (lentRows (encode repeatedArgs))) 2) .answer) (refused 14)
-    ∷ asked ((errors (encode repeatedArgs) (lentTable (encode repeatedArgs)) (lentRows (encode repeatedArgs)) 3) .answer) (refused 15)
-    ∷ asked ((errors (encode repeatedArgs) (lentTable (encode repeatedArgs)) (lentRows (encode repeatedArgs)) 2) .answer) (result 0 1)
-    ∷ asked ((errors (encode repeatedArgs) (lentTable (encode repeatedArgs)) (lentRows (encode repeatedArgs)) 0) .answer) (result 0 0)
+    ∷ asked ((errors (encode repeatedArgs) lentTable (take 20 lentRows) 2) .answer) (refused 14)
+    ∷ asked ((errors (encode repeatedArgs) lentTable lentRows 3) .answer) (refused 15)
+    ∷ asked ((errors (encode repeatedArgs) lentTable lentRows 2) .answer) (result 0 1)
+    ∷ asked ((errors (encode repeatedArgs) lentTable lentRows 0) .answer) (result 0 0)
     ∷ []
 
 abbrev pub AsWanted : List Asked → Type 0
@@ -71,7 +71,7 @@ unfolding word nodes kindAt startAt opAt field nameOf operands names bytes last 
 computed = (refl, (refl, (refl, (refl, (refl, (refl, (refl, (refl, (refl, (refl, (refl, (refl, tt))))))))))))
 
 -- row 4 stands at the second argument
-strict : (errors (encode repeatedArgs) (lentTable (encode repeatedArgs)) (lentRows (encode repeatedArgs)) 2) .rows ≡ 1 ∷ 4 ∷ 0 ∷ 0 ∷ 0 ∷ 0 ∷ 0 ∷ 0 ∷ 0 ∷ 0 ∷ 0 ∷ 5 ∷ 0 ∷ 0 ∷ 0 ∷ 0 ∷ 0 ∷ 0 ∷ 0 ∷ 0 ∷ 0 ∷ []
+strict : take 21 ((errors (encode repeatedArgs) lentTable lentRows 2) .rows) ≡ 1 ∷ 4 ∷ 0 ∷ 0 ∷ 0 ∷ 0 ∷ 0 ∷ 0 ∷ 0 ∷ 0 ∷ 0 ∷ 5 ∷ 0 ∷ 0 ∷ 0 ∷ 0 ∷ 0 ∷ 0 ∷ 0 ∷ 0 ∷ 0 ∷ []
 unfolding word nodes kindAt startAt opAt field nameOf operands names bytes last nameEnd nameStart nameBytes kindOf ones numbers opsFrom afterBlocks blockKids blockCounts after fieldKids fieldShape afterFields fieldsKids fieldsShape fieldsAt rowEnd kids shape kidsTo swap swaps ordered growAll grow classAt treeTo treeAt _▸_ need run is times same testSizes testNames inRow isChild childWord testBlocks testField testFields endBefore testNode testParents first isVar testVar testTree verdict symbolOf markWords mark newScope newSymbol rowIs findFrom climb find lookup isKind isValue childScope ownSymbol introduce marked unmarked walkIdent headRole walkArg walk walkSeq walkFirst enterName enterRule andThen resolveTree enter enterAll visit visitAll testTable zeroed walked headed outcomeOf resolve hasName isSymbol parentBelow rowSound testSound numberFrom numberOf testLookup symbolAnswer foundBy lookupCall lefts rights filled written testRows among repeats ruleNames twiceIn declaredTwice declares declaresAll inModel inModels when sameNode asksFor introduces introducedRow definedRow definedRows argRow argRows listRows isCtor appRows patternRows plainRows argsOf repeated repeatedIn repeatedTo strictFrom strictRows isStrict errorRows testErrors errorsOf errors rowsOf rowsSeq rowsFirst rowsDefined declRows declsRows add opened headSort rulePlaces ruleSpots own ruleOwn rulesOf moduleRules outerConst place placeSeq placeThen placeFirst spots spotsSeq spotsBack spotsFirst says saysAll rules rulesAll listed rowsFor ruleRows allRows occurrenceRows timesBound loneIn lone rowsByRule onceAnswer occurrencesOf occurrences onceOf once bytesOf kindsOf startsOf wordsOf endsOf joined encode
 strict = refl
 

@@ -1,4 +1,3 @@
 pub mod Encode
-pub mod Report
 pub mod Starred
 pub mod Calls

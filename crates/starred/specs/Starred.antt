@@ -20,7 +20,7 @@ use Rattle.bindings.specs.Errors.{when, sameNode, asked, introduces, introduced
 use Rattle.occurrences.specs.Sight.{add, opened, headSort, rulePlaces, ruleSpots, own, ruleOwn, rulesOf, moduleRules, outerConst, place, placeSeq, placeThen, placeFirst, spots, spotsSeq, spotsBack, spotsFirst, says, saysAll, rules, rulesAll}
 use Rattle.occurrences.specs.Occurrences.{listed, rowsFor, ruleRows, allRows, occurrenceRows, timesBound, loneIn, lone, rowsByRule, onceAnswer, occurrencesOf, occurrences, onceOf, once}
 use Rattle.starred.specs.Encode.{File, bytesOf, kindsOf, startsOf, wordsOf, endsOf, joined, encode}
-use Rattle.starred.specs.Report.{Line, resolved, error, var, endOnce, endOk, refusal, declaredTwice, zipped, rowLines, endLines, bodyLines, linesOf, report}
+use Rattle.lines.specs.Report.{Line, resolved, error, var, endOnce, endOk, refusal, declaredTwice, zipped, rowLines, endLines, bodyLines, linesOf, report}
 
 -- ★A: one unnamed rule `if x = x`
 abbrev pub ifEqual : File

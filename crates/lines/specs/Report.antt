@@ -35,19 +35,19 @@ endLines (twice x a b) = []
 endLines (result a b) = endOk ∷ []
 endLines (other n b) = endOnce n b ∷ []
 
--- lent words: as many as are needed, none of them 0
-abbrev pub lentTable : List ℕ → List ℕ
-lentTable img = replicate (tableLength (nodes img)) 7
+-- the words that the report lends: enough for any image
+abbrev pub lentTable : List ℕ
+lentTable = replicate (tableLength 2048) 0
 
-abbrev pub lentRows : List ℕ → List ℕ
-lentRows img = replicate (rowsLength (nodes img)) 7
+abbrev pub lentRows : List ℕ
+lentRows = replicate (rowsLength 2048) 0
 
 unfoldable pub bodyLines : List ℕ → List Line
 unfolding rowLines endLines
 bodyLines img =
-    let e = errors img (lentTable img) (lentRows img) 1 in
-    let o = occurrences img (lentTable img) (lentRows img) in
-    rowLines error (nodes img) (e .answer) (e .rows) ++ (rowLines var (nodes img) (o .answer) (o .rows) ++ endLines ((once img (lentTable img)) .answer))
+    let e = errors img lentTable lentRows 1 in
+    let o = occurrences img lentTable lentRows in
+    rowLines error (nodes img) (e .answer) (e .rows) ++ (rowLines var (nodes img) (o .answer) (o .rows) ++ endLines ((once img lentTable) .answer))
 
 unfoldable pub linesOf : List ℕ → Answer → List Line
 unfolding bodyLines
@@ -59,4 +59,4 @@ linesOf img (other a b) = []
 -- the report of an image
 unfoldable pub report : List ℕ → List Line
 unfolding linesOf
-report img = linesOf img ((resolve img (lentTable img)) .answer)
+report img = linesOf img ((resolve img lentTable) .answer)
