@@ -135,7 +135,7 @@ module _ (img : List ℕ) (a b to : ℕ) where
       let g : i ≡ a + (to - b) = omega arith in
       l .left ∙ rw (e, g) (rw (slice-empty to img, slice-empty (a + (to - b)) img))
 
-same-length : (xs ys : List ℕ) → (length xs ≡ length ys → ⊥) → same xs ys ≡ false
+pub same-length : (xs ys : List ℕ) → (length xs ≡ length ys → ⊥) → same xs ys ≡ false
 unfolding same
 same-length [] [] h = absurd (h refl)
 same-length [] (y ∷ ys) h = refl

@@ -871,7 +871,7 @@ pub struct Span {
     pub end: u32,
 }
 
-fn span_of(image: &[u8], s: Sizes, i: u32, start: u32) -> Span
+pub fn span_of(image: &[u8], s: Sizes, i: u32, start: u32) -> Span
     requires { ⌜ Spanned (now image) s i start ⌝ }
     ensures { λ r. ⌜ NameAt (now (image .entry)) s i (r .from) (r .to) × (r .end ≡ «image-spec».nameEnd (now (image .entry)) i) ⌝ }
 {

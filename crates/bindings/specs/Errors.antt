@@ -17,7 +17,8 @@ use Rattle.table.specs.State.{Exit}
 use Rattle.scopes.specs.Walk.{Listed, done, twice}
 use Rattle.scopes.specs.Resolve.{zeroed, walked, headed}
 use Rattle.scopes.specs.Twice.{among}
-use Rattle.scopes.specs.Rows.{Row, row, written, testRows, Outcome}
+use Rattle.rows.specs.Rows.{Row, row, written}
+use Rattle.scopes.specs.Rows.{testRows, Outcome}
 
 unfoldable pub when : Bool → Row → List Row
 when true w = w ∷ []

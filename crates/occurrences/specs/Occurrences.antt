@@ -12,7 +12,8 @@ use Rattle.table.specs.State.{Exit}
 use Rattle.scopes.specs.Walk.{Listed, done, twice}
 use Rattle.scopes.specs.Resolve.{testTable, zeroed, walked, headed}
 use Rattle.scopes.specs.Resolve as resolving
-use Rattle.scopes.specs.Rows.{Row, row, written, testRows, Outcome}
+use Rattle.rows.specs.Rows.{Row, row, written}
+use Rattle.scopes.specs.Rows.{testRows, Outcome}
 use Rattle.occurrences.specs.Sight.{Spot, ruleSpots, Rule, moduleRules}
 
 module _ (img : List ℕ) (t : Table) where

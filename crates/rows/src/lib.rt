@@ -1,0 +1,28 @@
+// Rows that a check appends to lent words: a count, then two parallel arrays of N words.
+ghost use mathlib.Core.Path.{_≡_};
+ghost use mathlib.Core.List.{[], _∷_};
+ghost use Prim.Native.Nat.{_+_, _<_, _≤_, _^_};
+ghost use lib.ListN.{length};
+ghost use Rattle.rows.specs.Rows.{row, cleared, Appended};
+
+// The first n words set to 0.
+pub fn clear(words: &mut [u32], n: usize)
+    requires { ⌜ n ≤ length (now words) ⌝ }
+    ensures { λ _. ⌜ now (words .exit) ≡ cleared n (now (words .entry)) ⌝ }
+{
+    let mut i = 0;
+    while i < n {
+        words[i] = 0;
+        i += 1;
+    }
+}
+
+// One row more after the first `count`, of an image of n nodes.
+pub fn put_row(rows: &mut [u32], n: u32, count: u32, left: u32, right: u32) -> u32
+    requires { ⌜ count + 1 < 2 ^ 32 ⌝ }
+    ensures { λ r. ⌜ Appended n (row left right ∷ []) count (now (rows .entry)) r (now (rows .exit)) ⌝ }
+{
+    table::put(rows, 1 + ast::wide(count), left);
+    table::put(rows, 1 + ast::wide(n) + ast::wide(count), right);
+    count + 1
+}
