@@ -13,18 +13,19 @@ use Prim.Native.Nat.{ℕ, _≤_}
 use lib.ListN.{length}
 use Rattle.ast.specs.Answer.{result}
 use Rattle.ast.specs.Image.{nodes, kindAt, nameOf}
+use Rattle.rows.specs.Rows.{Row, lefts}
+use Rattle.scopes.specs.Resolve.{walked}
+use Rattle.scopes.specs.Rows.{testRows, Outcome}
+use Rattle.scopes.specs.Walk.{done}
 use Rattle.table.specs.State.{Exit}
 use Rattle.table.specs.Table.{lookup, exitAt}
-use Rattle.scopes.specs.Resolve.{walked}
-use Rattle.scopes.specs.Rows.{Row, lefts, testRows, Outcome}
-use Rattle.scopes.specs.Walk.{done}
-use Rattle.occurrences.specs.Sight.{Place, In, Rule, moduleRules, outerConst, Same}
 use Rattle.occurrences.specs.Occurrences.{occurrences}
-use Rattle.occurrences.proofs.Members.{Distinct}
+use Rattle.occurrences.specs.Sight.{Place, In, Rule, moduleRules, outerConst, Same}
+use Rattle.occurrences.proofs.Leaving.{answered, lists-all, lists-once, row-of, row-kinds, same-bindings}
 use Rattle.occurrences.proofs.Listing.{placesOf, Occurs, AllRows}
+use Rattle.occurrences.proofs.Members.{Distinct}
 use Rattle.occurrences.proofs.Resolving.{tableOf}
 use Rattle.occurrences.proofs.Written.{rowsIn}
-use Rattle.occurrences.proofs.Leaving.{answered, lists-all, lists-once, row-of, row-kinds, same-bindings}
 
 module _ (img tab rows : List ℕ) (unrefused : testRows img tab rows ≡ 0) (e : Exit) (single : walked img tab ≡ done e) where
   -- what the call leaves: its answer, the table's words and the rows' words

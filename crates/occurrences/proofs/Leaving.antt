@@ -10,19 +10,20 @@ use borrow.Author.Tests.{eqb-true}
 use Rattle.ast.specs.Answer.{refused, result}
 use Rattle.ast.specs.Image.{nodes, kindAt, nameOf}
 use Rattle.ast.specs.Tests.{_▸_, verdict}
-use Rattle.ast.proofs.Accepted.{both}
+use Rattle.rows.specs.Rows.{Row, row, lefts, written}
+use Rattle.scopes.specs.Resolve.{testTable, walked, headed}
+use Rattle.scopes.specs.Rows.{testRows, Outcome}
+use Rattle.scopes.specs.Walk.{done}
 use Rattle.table.specs.State.{Exit}
 use Rattle.table.specs.Table.{Table, lookup, isKind, exitAt}
-use Rattle.scopes.specs.Resolve.{testTable, walked, headed}
-use Rattle.scopes.specs.Rows.{Row, row, lefts, written, testRows, Outcome}
-use Rattle.scopes.specs.Walk.{done}
-use Rattle.occurrences.specs.Sight.{Sort, ordinary, declared, applied, defined, Place, In, Rule, moduleRules, outerConst, Same}
+use Rattle.ast.proofs.Accepted.{both}
 use Rattle.occurrences.specs.Occurrences.{occurrenceRows, occurrencesOf, occurrences}
-use Rattle.occurrences.proofs.Members.{Distinct}
+use Rattle.occurrences.specs.Sight.{Sort, ordinary, declared, applied, defined, Place, In, Rule, moduleRules, outerConst, Same}
 use Rattle.occurrences.proofs.Listing.{placesOf, Occurs, AllRows}
-use Rattle.occurrences.proofs.Spots.{ownerKind, ordered}
+use Rattle.occurrences.proofs.Members.{Distinct}
 use Rattle.occurrences.proofs.Resolving.{tableOf, resolved, headed-exit, headed-lookup}
 use Rattle.occurrences.proofs.RowLaws.{bindingOf, RowAt, all-only, all-all, one-row, rows-list, rows-distinct, rows-few}
+use Rattle.occurrences.proofs.Spots.{ownerKind, ordered}
 use Rattle.occurrences.proofs.WholeModule.{WalkOf, var-is-occurrence, equal-is-same}
 use Rattle.occurrences.proofs.Written.{rowsIn, rows-read}
 

@@ -9,10 +9,10 @@ use native.Mathlib.Omega.{arith}
 use lib.Dec.{eqb, leb}
 use borrow.Author.Tests.{eq-eqb, leb-false}
 use Rattle.ast.specs.Image.{kindAt, nameOf}
+use Rattle.rows.specs.Rows.{Row, row}
 use Rattle.table.specs.Table.{Table, isKind}
-use Rattle.scopes.specs.Rows.{Row, row}
-use Rattle.occurrences.specs.Sight.{Sort, ordinary, declared, applied, defined, Place, In, Rule, outerConst, Names, Naming}
 use Rattle.occurrences.specs.Occurrences.{ruleRows, timesBound, loneIn}
+use Rattle.occurrences.specs.Sight.{Sort, ordinary, declared, applied, defined, Place, In, Rule, outerConst, Names, Naming}
 use Rattle.occurrences.proofs.Listing.{placesOf, Occurs}
 use Rattle.occurrences.proofs.RowLaws.{bindingOf, rows-only, rows-all, rule-rows}
 use Rattle.occurrences.proofs.Spots.{ownerKind, ordered}

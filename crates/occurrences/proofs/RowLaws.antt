@@ -10,18 +10,18 @@ use lib.Dec.{eqb}
 use lib.ListN.{length}
 use Rattle.ast.specs.Image.{nodes, kindAt, nameOf}
 use Rattle.ast.specs.Tests.{is, times, verdict}
-use Rattle.ast.proofs.Count.{times-append}
+use Rattle.rows.specs.Rows.{Row, row, lefts}
 use Rattle.table.specs.Table.{Table, isKind}
-use Rattle.scopes.specs.Rows.{Row, row, lefts}
-use Rattle.occurrences.specs.Sight.{Place, In, Rule, moduleRules, Spot, ruleSpots, Occurrence}
+use Rattle.ast.proofs.Count.{times-append}
 use Rattle.occurrences.specs.Occurrences.{found, listed, rowsFor, ruleRows, allRows, occurrenceRows}
-use Rattle.occurrences.proofs.Members.{in-left, in-right, in-split, Distinct, pigeonhole}
-use Rattle.occurrences.proofs.Flat.{true-not-false}
-use Rattle.occurrences.proofs.Steps.{numbersSeq}
-use Rattle.occurrences.proofs.Listing.{spotOf, spotsOf, placesOf, Occurs, RowsOf, end, put, pass, RuleRows, AllRows, noRule, rule}
-use Rattle.occurrences.proofs.Spots.{owners, Ordered, ordered, owners-once}
-use Rattle.occurrences.proofs.WholeModule.{WalkOf, var-is-occurrence}
+use Rattle.occurrences.specs.Sight.{Place, In, Rule, moduleRules, Spot, ruleSpots, Occurrence}
 use Rattle.occurrences.proofs.Counting.{in-times, distinct-times, ruleNumbers, rule-nodes-once, rule-nodes-small}
+use Rattle.occurrences.proofs.Flat.{true-not-false}
+use Rattle.occurrences.proofs.Listing.{spotOf, spotsOf, placesOf, Occurs, RowsOf, end, put, pass, RuleRows, AllRows, noRule, rule}
+use Rattle.occurrences.proofs.Members.{in-left, in-right, in-split, Distinct, pigeonhole}
+use Rattle.occurrences.proofs.Spots.{owners, Ordered, ordered, owners-once}
+use Rattle.occurrences.proofs.Steps.{numbersSeq}
+use Rattle.occurrences.proofs.WholeModule.{WalkOf, var-is-occurrence}
 
 lefts-append : (ws vs : List Row) → lefts (ws ++ vs) ≡ lefts ws ++ lefts vs
 unfolding lefts

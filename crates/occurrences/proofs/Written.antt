@@ -6,7 +6,7 @@ use native.Mathlib.Nat.{add-zero}
 use native.Mathlib.Omega.{arith}
 use lib.ListN.{length, getD, drop, replicate, length-append, length-replicate, List·getD-append}
 use lib.Seq.{getD-append-add}
-use Rattle.scopes.specs.Rows.{Row, row, lefts, rights, rowsLength, filled, written}
+use Rattle.rows.specs.Rows.{Row, row, lefts, rights, rowsLength, filled, written}
 use Rattle.occurrences.proofs.RowLaws.{length-lefts}
 
 -- the c rows from j on
