@@ -1,21 +1,21 @@
 -- What Occurrences leaves where it refuses nothing and no name is declared twice: the resolver's table, and the list.
 use mathlib.Core.Path.{_≡_, refl, sym, _∙_, ap, ap₂, subst, fun-ext}
 use mathlib.Core.Logic.{_⊎_, inl, inr, _↔_}
-use mathlib.Core.List.{List, [], _∷_}
-use mathlib.Core.Option.{Option, none as nothing, some}
+use mathlib.Core.List.{List}
+use mathlib.Core.Option.{Option, some}
 use Prim.Native.Nat.{ℕ, zero, suc, _≤_}
 use native.Mathlib.Omega.{arith}
 use lib.ListN.{length}
 use borrow.Author.Tests.{eqb-true}
 use Rattle.ast.specs.Answer.{refused, result}
 use Rattle.ast.specs.Image.{nodes, kindAt, nameOf}
-use Rattle.ast.specs.Tests.{_▸_, verdict}
+use Rattle.ast.specs.Tests.{verdict}
 use Rattle.rows.specs.Rows.{Row, row, lefts, written}
 use Rattle.scopes.specs.Resolve.{testTable, walked, headed}
 use Rattle.scopes.specs.Rows.{testRows, Outcome}
 use Rattle.scopes.specs.Walk.{done}
 use Rattle.table.specs.State.{Exit}
-use Rattle.table.specs.Table.{Table, lookup, isKind, exitAt}
+use Rattle.table.specs.Table.{lookup, isKind, exitAt}
 use Rattle.ast.proofs.Accepted.{both}
 use Rattle.occurrences.specs.Occurrences.{occurrenceRows, occurrencesOf, occurrences}
 use Rattle.occurrences.specs.Sight.{Sort, ordinary, declared, applied, defined, Place, In, Rule, moduleRules, outerConst, Same}
@@ -98,7 +98,8 @@ module _ (img tab rows : List ℕ) (accepted : testRows img tab rows ≡ 0) (e :
   )
 
   -- the listed binding of a variable occurrence
-  listed-binding : (r : Rule) → In r (moduleRules img) → (p : Place) → In p (placesOf r) → Occurs img r p → (w : Row) → In w list → w .left ≡ p .node → binding p ≡ some (w .right)
+  listed-binding : (r : Rule) → In r (moduleRules img) → (p : Place) → In p (placesOf r) → Occurs img r p
+      → (w : Row) → In w list → w .left ≡ p .node → binding p ≡ some (w .right)
   listed-binding r i p j o w k q =
       let g = all-all img binding lists-all r i p j o in
       let z = one-row list lists-once w (row (p .node) (g .0)) k (g .2) q in
