@@ -9,7 +9,7 @@ use mathlib.Core.Path.{_≡_}
 use mathlib.Core.Logic.{_⊎_, _↔_}
 use mathlib.Core.List.{List}
 use mathlib.Core.Option.{Option, some}
-use Prim.Native.Nat.{ℕ}
+use Prim.Native.Nat.{ℕ, _≤_}
 use lib.ListN.{length}
 use Rattle.ast.specs.Answer.{result}
 use Rattle.ast.specs.Image.{nodes, kindAt, nameOf}
@@ -21,7 +21,7 @@ use Rattle.table.specs.State.{Exit}
 use Rattle.table.specs.Table.{lookup, exitAt}
 use Rattle.occurrences.specs.Occurrences.{occurrences}
 use Rattle.occurrences.specs.Sight.{Place, In, Rule, moduleRules, outerConst, Same}
-use Rattle.occurrences.proofs.Leaving.{answered, lists-all, lists-once, row-of, row-kinds, same-bindings}
+use Rattle.occurrences.proofs.Leaving.{answered, list-few, lists-all, lists-once, row-of, row-kinds, same-bindings}
 use Rattle.occurrences.proofs.Listing.{placesOf, Occurs, AllRows}
 use Rattle.occurrences.proofs.Members.{Distinct}
 use Rattle.occurrences.proofs.Resolving.{tableOf}
@@ -40,9 +40,12 @@ module _ (img tab rows : List ℕ) (unrefused : testRows img tab rows ≡ 0) (e 
   abbrev pub binding : Place → Option ℕ
   binding p = lookup img (tableOf img (left .table)) (exitAt img (left .table) (p .node)) (nameOf img (p .ident))
 
-  -- the call hands back how long the list is
+  -- the call hands back how long the list is; there is room for all of it
   pub count : left .answer ≡ result 0 (length list)
   count = answered img tab rows unrefused e single
+
+  pub few : length list ≤ nodes img
+  few = list-few img tab rows unrefused e single
 
   -- (a) The list holds, rule after rule and in the list's order, exactly the variable occurrences of all rules, each with its
   -- binding, and nothing else;

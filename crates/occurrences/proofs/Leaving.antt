@@ -27,6 +27,10 @@ use Rattle.occurrences.proofs.Spots.{ownerKind, ordered}
 use Rattle.occurrences.proofs.WholeModule.{WalkOf, var-is-occurrence, equal-is-same}
 use Rattle.occurrences.proofs.Written.{rowsIn, rows-read}
 
+-- no more rows than nodes: no row is dropped
+pub few-rows : (img tab : List ℕ) (e : Exit) → verdict img ≡ 0 → walked img tab ≡ done e → length (occurrenceRows img (e .table)) ≤ nodes img
+few-rows img tab e accepted single = rows-few img (e .table) accepted ((resolved img tab e accepted single) .walks)
+
 module _ (img tab rows : List ℕ) (accepted : testRows img tab rows ≡ 0) (e : Exit) (single : walked img tab ≡ done e) where
   pub image-accepted : verdict img ≡ 0
   unfolding testRows testTable
@@ -59,17 +63,17 @@ module _ (img tab rows : List ℕ) (accepted : testRows img tab rows ≡ 0) (e :
   walks : (r : Rule) → In r (moduleRules img) → WalkOf img r (e .table)
   walks = (resolved img tab e image-accepted single) .walks
 
-  pub list-few : length found-rows ≤ nodes img
-  list-few = rows-few img (e .table) image-accepted walks
-
   pub list-is : list ≡ found-rows
-  list-is = ap (λ (o : Outcome). rowsIn (nodes img) (o .rows)) leaves ∙ rows-read (nodes img) found-rows rows list-few
+  list-is = ap (λ (o : Outcome). rowsIn (nodes img) (o .rows)) leaves ∙ rows-read (nodes img) found-rows rows (few-rows img tab e image-accepted single)
 
   pub binding-is : (p : Place) → binding p ≡ bindingOf img (e .table) p
   binding-is p =
       ap (λ (o : Outcome). lookup img (tableOf img (o .table)) (exitAt img (o .table) (p .node)) (nameOf img (p .ident))) leaves
       ∙ headed-lookup img tab e image-accepted single (exitAt img (headed img (e .table)) (p .node)) (nameOf img (p .ident))
       ∙ ap (λ s. lookup img (e .table) s (nameOf img (p .ident))) (headed-exit img tab e image-accepted single (p .node))
+
+  pub list-few : length list ≤ nodes img
+  list-few = subst (λ (l : List Row). length l ≤ nodes img) (sym list-is) (few-rows img tab e image-accepted single)
 
   pub answered : left .answer ≡ result 0 (length list)
   answered = ap (λ (o : Outcome). o .answer) leaves ∙ ap (λ (l : List Row). result 0 (length l)) (sym list-is)

@@ -17,5 +17,5 @@ pub mod Resolving
 pub mod RowLaws
 pub mod Written
 pub mod Leaving
-pub mod Lone
+pub mod LoneTerm
 pub mod Demand
