@@ -18,4 +18,5 @@ pub mod RowLaws
 pub mod Written
 pub mod Leaving
 pub mod LoneTerm
+pub mod Single
 pub mod Demand
