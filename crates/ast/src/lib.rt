@@ -10,9 +10,12 @@ ghost use Rattle.ast.specs.Kinds.{name, optName, child, optChild, list, 
 ghost use Rattle.ast.specs.Scan.{Head, Within, Place, Step, FieldTested, FieldsTested, NodeTested, bump, claimAll};
 ghost use lib.Seq.{slice};
 ghost use Rattle.ast.specs.Names.{hash, Spanned, NameAt, Chain, Met};
+ghost use Rattle.ast.specs.RowShapes.{locationOf};
 ghost use Rattle.ast.specs.Name.{nameCall, namePlace};
 ghost use Rattle.ast.specs.ImageAnswer.{answerOf, testCall};
 ghost use Rattle.ast.specs.Parts.{partOf, rowParts, caseKinds, caseList, Cased};
+
+pub mod rows; // the rows by kind
 
 pub fn wide(x: u32) -> usize
     ensures { λ r. ⌜ r ≡ x ⌝ }
@@ -102,6 +105,17 @@ pub fn operand(image: &[u8], place: usize) -> u32
     ensures { λ r. ⌜ r ≡ «image-spec».opAt (now (image .entry)) place ⌝ }
 {
     word(image, 16 + 8 * wide(node_count(image)) + 4 * place)
+}
+
+// Where a node's text begins and ends.
+pub struct Location(pub u32, pub u32);
+
+// The two words that a node's row begins with.
+pub fn loc(image: &[u8], node: NodeId) -> Location
+    ensures { λ r. ⌜ r ≡ locationOf (now (image .entry)) (node .0) ⌝ }
+{
+    let start = wide(row_start(image, node));
+    Location(operand(image, start), operand(image, start + 1))
 }
 
 // The j-th word of a node's row after its two location words.

@@ -1,3 +1,4 @@
+use native.Mathlib.Omega.{arith}
 use Rattle.ast.proofs.Parts.{parts-cased}
 use Rattle.ast.proofs.Whole.{row-halt, row-halt-2, row-in}
 use borrow.Author.Needs.{needs}
@@ -5,7 +6,7 @@ use Rattle.ast.proofs.check_row.Statement.{statement}
 use Rattle.ast.proofs.check_row.Tie as tie
 
 mul-part-at : tie.Need-mul-part-at
-mul-part-at c = search needs
+mul-part-at c = omega arith
 
 part-at-requires : tie.Need-part-at-requires
 part-at-requires c κs = search needs
@@ -17,10 +18,10 @@ returns : tie.Need-returns
 returns c = row-halt _ _ _ _ _ _ (c .before .before .before .before .before .before .pre .1) (c .before .before .before .before .part-at .ensures) (c .before .before .check-part .ensures) (c .if1 .taken)
 
 mul-part-at-2 : tie.Need-mul-part-at-2
-mul-part-at-2 c = search needs
+mul-part-at-2 c = omega arith
 
 add-part-at : tie.Need-add-part-at
-add-part-at c = search needs
+add-part-at c = omega arith
 
 part-at-requires-2 : tie.Need-part-at-requires-2
 part-at-requires-2 c κs = search needs
@@ -32,10 +33,10 @@ returns-2 : tie.Need-returns-2
 returns-2 c = row-halt-2 _ _ _ _ _ _ (c .before .before .before .before .before .before .before .before .before .before .before .pre .1) (c .before .before .before .before .before .before .before .before .before .part-at .ensures) (c .before .before .before .before .before .before .before .check-part .ensures) _ _ (c .before .before .before .before .before .if1 .left) (c .before .before .before .before .part-at2 .ensures) (c .before .before .check-part2 .ensures) (c .if2 .taken)
 
 mul-part-at-3 : tie.Need-mul-part-at-3
-mul-part-at-3 c = search needs
+mul-part-at-3 c = omega arith
 
 add-part-at-2 : tie.Need-add-part-at-2
-add-part-at-2 c = search needs
+add-part-at-2 c = omega arith
 
 part-at-requires-3 : tie.Need-part-at-requires-3
 part-at-requires-3 c κs = search needs

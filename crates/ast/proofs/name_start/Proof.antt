@@ -12,7 +12,7 @@ unfolding image.nameStart
 returns c = sym (ap (image.nameStart (c .before .before .args .image .now)) (c .if1 .taken))
 
 sub-name-end : tie.Need-sub-name-end
-sub-name-end c = search needs
+sub-name-end c = omega arith
 
 name-end-requires : tie.Need-name-end-requires
 name-end-requires c κs = search needs

@@ -1,14 +1,14 @@
+use native.Mathlib.Omega.{arith}
 use mathlib.Core.Path.{refl}
 use Rattle.ast.specs.Parts.{rowParts}
-use borrow.Author.Needs.{needs}
 use Rattle.ast.proofs.part_at.Statement.{statement}
 use Rattle.ast.proofs.part_at.Tie as tie
 
 mul-result : tie.Need-mul-result
-mul-result c = search needs
+mul-result c = omega arith
 
 array-read-result : tie.Need-array-read-result
-array-read-result c = search needs
+array-read-result c = omega arith
 
 returns : tie.Need-returns
 unfolding rowParts

@@ -1,11 +1,10 @@
 use mathlib.Core.Path.{sym, _∙_}
 use Rattle.ast.proofs.Whole.{verdict-sizes, verdict-names, verdict-nodes, verdict-tree, sized-within}
-use borrow.Author.Needs.{needs}
 use Rattle.ast.proofs.verdict.Statement.{statement}
 use Rattle.ast.proofs.verdict.Tie as tie
 
 sizes-of-requires : tie.Need-sizes-of-requires
-sizes-of-requires c κs = search needs
+sizes-of-requires c κs = tt
 
 test-sizes-requires : tie.Need-test-sizes-requires
 test-sizes-requires c κs = c .sizes-of .ensures
