@@ -56,3 +56,13 @@ rowParts = 301 ∷ 0 ∷ 0 ∷ 507 ∷ 0 ∷ 0 ∷ 1 ∷ 0 ∷ 0 ∷ 1 ∷ 111 �
 -- the cases of a part stand in the table
 abbrev pub Cased : ℕ → Type 0
 Cased x = (x - 500) / 10 + (x - 500) % 10 ≤ 34
+
+-- the two tables, as the test lends them to its parts
+abbrev pub Tables : List ℕ → List ℕ → Type 0
+Tables parts kinds = (parts ≡ rowParts) × (kinds ≡ caseKinds)
+
+-- the fields of c parts of the table from the i-th on
+unfoldable pub partsOf : ℕ → ℕ → List Field
+unfolding partOf rowParts
+partsOf zero i = []
+partsOf (suc c) i = partOf (getD rowParts i 0) ++ partsOf c (i + 1)

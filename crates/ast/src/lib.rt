@@ -13,7 +13,7 @@ ghost use Rattle.ast.specs.Names.{hash, Spanned, NameAt, Chain, Met};
 ghost use Rattle.ast.specs.RowShapes.{locationOf};
 ghost use Rattle.ast.specs.Name.{nameCall, namePlace};
 ghost use Rattle.ast.specs.ImageAnswer.{answerOf, testCall};
-ghost use Rattle.ast.specs.Parts.{partOf, rowParts, caseKinds, caseList, Cased};
+ghost use Rattle.ast.specs.Parts.{partOf, rowParts, caseKinds, caseList, Cased, Tables};
 
 pub mod rows; // the rows by kind
 
@@ -422,11 +422,11 @@ const CASES: [u32; 34] = [
     40, // Stmt
 ];
 
-fn case_kind(i: u32) -> u32
-    requires { ⌜ i < 34 ⌝ }
+fn case_kind(kinds: &[u32; 34], i: u32) -> u32
+    requires { ⌜ (now kinds ≡ caseKinds) × (i < 34) ⌝ }
     ensures { λ r. ⌜ r ≡ getD caseKinds i 0 ⌝ }
 {
-    CASES[i as usize]
+    kinds[i as usize]
 }
 
 // A case number, of `count` cases whose kinds stand from `from` on, and the child.
@@ -437,9 +437,10 @@ fn check_case(
     from: u32,
     count: u32,
     p: u32,
+    kinds: &[u32; 34],
     claims: &mut [u8; 2048],
 ) -> Scan
-    requires { ⌜ Place (now image) s (node .0) p × (from + count ≤ 34) ⌝ }
+    requires { ⌜ Place (now image) s (node .0) p × (from + count ≤ 34) × (now kinds ≡ caseKinds) ⌝ }
     ensures { λ r. ⌜ FieldTested (now (image .entry)) (node .0) (cases (caseList from count)) p (now (claims .entry)) r (now (claims .exit)) ⌝ }
 {
     if s.operands <= p {
@@ -449,7 +450,7 @@ fn check_case(
     if count <= case {
         return Scan { code: 8, at: p };
     }
-    let k = case_kind(from + case);
+    let k = case_kind(kinds, from + case);
     if k == 41 {
         let next = p + 1;
         return Scan { code: 0, at: next };
@@ -585,11 +586,11 @@ const ROWS: [u32; 123] = [
     0, // MatchStmt
 ];
 
-fn part_at(i: u32) -> u32
-    requires { ⌜ i < 123 ⌝ }
+fn part_at(parts: &[u32; 123], i: u32) -> u32
+    requires { ⌜ (now parts ≡ rowParts) × (i < 123) ⌝ }
     ensures { λ r. ⌜ r ≡ getD rowParts i 0 ⌝ }
 {
-    ROWS[i as usize]
+    parts[i as usize]
 }
 
 fn check_part(
@@ -598,9 +599,10 @@ fn check_part(
     node: NodeId,
     part: u32,
     p: u32,
+    kinds: &[u32; 34],
     claims: &mut [u8; 2048],
 ) -> Scan
-    requires { ⌜ Place (now image) s (node .0) p × Cased part ⌝ }
+    requires { ⌜ Place (now image) s (node .0) p × Cased part × (now kinds ≡ caseKinds) ⌝ }
     ensures { λ r. ⌜ FieldsTested (now (image .entry)) (node .0) (partOf part) p (now (claims .entry)) r (now (claims .exit)) ⌝ }
 {
     if part == 0 {
@@ -631,6 +633,7 @@ fn check_part(
         (part - 500) / 10,
         (part - 500) % 10,
         p,
+        kinds,
         claims,
     )
 }
@@ -641,28 +644,38 @@ fn check_row(
     node: NodeId,
     kind: u32,
     p: u32,
+    parts: &[u32; 123],
+    kinds: &[u32; 34],
     claims: &mut [u8; 2048],
 ) -> Scan
-    requires { ⌜ Place (now image) s (node .0) p × (kind ≤ 40) ⌝ }
+    requires { ⌜ Place (now image) s (node .0) p × (kind ≤ 40) × Tables (now parts) (now kinds) ⌝ }
     ensures { λ r. ⌜ FieldsTested (now (image .entry)) (node .0) ((kindOf kind) .fields) p (now (claims .entry)) r (now (claims .exit)) ⌝ }
 {
-    let first = part_at(3 * kind);
-    let a = check_part(image, s, node, first, p, claims);
-    if a.code != 0 {
-        return a;
+    let mut j = 0u32;
+    let mut at = p;
+    while j < 3 {
+        let part = part_at(parts, 3 * kind + j);
+        let step = check_part(image, s, node, part, at, kinds, claims);
+        if step.code != 0 {
+            return step;
+        }
+        at = step.at;
+        j += 1;
     }
-    let second = part_at(3 * kind + 1);
-    let b = check_part(image, s, node, second, a.at, claims);
-    if b.code != 0 {
-        return b;
-    }
-    let third = part_at(3 * kind + 2);
-    check_part(image, s, node, third, b.at, claims)
+    Scan { code: 0, at }
 }
 
 // Refusals 6 to 9 of a node; `end` is where the row before ends.
-fn check_node(image: &[u8], s: Sizes, node: NodeId, end: u32, claims: &mut [u8; 2048]) -> Scan
-    requires { ⌜ Place (now image) s (node .0) 0 × (end ≡ «tests-spec».endBefore (now image) (node .0)) ⌝ }
+fn check_node(
+    image: &[u8],
+    s: Sizes,
+    node: NodeId,
+    end: u32,
+    parts: &[u32; 123],
+    kinds: &[u32; 34],
+    claims: &mut [u8; 2048],
+) -> Scan
+    requires { ⌜ Place (now image) s (node .0) 0 × (end ≡ «tests-spec».endBefore (now image) (node .0)) × Tables (now parts) (now kinds) ⌝ }
     ensures { λ r. ⌜ NodeTested (now (image .entry)) (node .0) (now (claims .entry)) r (now (claims .exit)) ⌝ }
 {
     let kind = kind_at(image, node);
@@ -679,18 +692,24 @@ fn check_node(image: &[u8], s: Sizes, node: NodeId, end: u32, claims: &mut [u8; 
     if s.operands <= start + 1 {
         return Scan { code: 7, at: 0 };
     }
-    check_row(image, s, node, kind, start + 2, claims)
+    check_row(image, s, node, kind, start + 2, parts, kinds, claims)
 }
 
 // Refusals 6 to 9.
-fn check_nodes(image: &[u8], s: Sizes, claims: &mut [u8; 2048]) -> Scan
-    requires { ⌜ Within (now image) s ⌝ }
+fn check_nodes(
+    image: &[u8],
+    s: Sizes,
+    parts: &[u32; 123],
+    kinds: &[u32; 34],
+    claims: &mut [u8; 2048],
+) -> Scan
+    requires { ⌜ Within (now image) s × Tables (now parts) (now kinds) ⌝ }
     ensures { λ r. ⌜ Step («tests-spec».run («tests-spec».testNode (now (image .entry))) («image-spec».nodes (now (image .entry))) 0) («tests-spec».endBefore (now (image .entry)) («image-spec».nodes (now (image .entry)))) (kidsTo (now (image .entry)) («image-spec».nodes (now (image .entry)))) (now (claims .entry)) r (now (claims .exit)) ⌝ }
 {
     let mut n = 0u32;
     let mut end = 0u32;
     while n < s.nodes {
-        let step = check_node(image, s, NodeId(n), end, claims);
+        let step = check_node(image, s, NodeId(n), end, parts, kinds, claims);
         if step.code != 0 {
             return step;
         }
@@ -969,8 +988,10 @@ pub fn verdict(image: &[u8]) -> u32
     if b != 0 {
         return b;
     }
+    let parts = ROWS;
+    let kinds = CASES;
     let mut claims = [0u8; 2048];
-    let step = check_nodes(image, s, &mut claims);
+    let step = check_nodes(image, s, &parts, &kinds, &mut claims);
     if step.code != 0 {
         return step.code;
     }

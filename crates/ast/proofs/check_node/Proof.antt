@@ -30,7 +30,7 @@ add-check-row : tie.Need-add-check-row
 add-check-row c = omega arith
 
 check-row-requires : tie.Need-check-row-requires
-check-row-requires c κs = (search needs, omega arith)
+check-row-requires c κs = (search needs, omega arith, c .before .before .before .before .before .before .before .before .before .before .pre .2)
 
 returns-5 : tie.Need-returns-5
 returns-5 c = node-in _ _ _ _ _ (c .before .before .before .before .before .before .before .before .before .kind-at .ensures) (omega arith) (c .before .before .before .before .before .before .before .start-at .ensures) (c .before .before .before .before .before .before .if2 .left ∙ c .before .before .before .before .before .before .before .before .before .before .before .pre .1) (omega arith) (c .check-row .ensures)
