@@ -104,12 +104,47 @@ pub fn row_start(image: &[u8], node: NodeId) -> u32
     word(image, 16 + 4 * wide(node_count(image)) + 4 * wide(node.0))
 }
 
-// The operand word at a place.
-pub fn operand(image: &[u8], place: usize) -> u32
-    requires { ⌜ place < 2 ^ 40 ⌝ }
-    ensures { λ r. ⌜ r ≡ «image-spec».opAt (now (image .entry)) place ⌝ }
+// The operand word at a place; 0 where it does not fit.
+pub fn operand_at(image: &[u8], at: usize) -> u32
+    ensures { λ r. ⌜ r ≡ «image-spec».opAt (now (image .entry)) at ⌝ }
 {
-    word(image, 16 + 8 * wide(node_count(image)) + 4 * place)
+    if image.len() / 4 < at {
+        return 0;
+    }
+    word(image, 16 + 8 * wide(node_count(image)) + 4 * at)
+}
+
+// A row reader: the image that it reads from, and the place of its next operand.
+pub struct RowReader<'a> {
+    pub image: &'a [u8],
+    pub at: usize,
+}
+
+pub fn read_from<'a>(image: &'a [u8], at: usize) -> RowReader<'a>
+    ensures { λ r. ⌜ (r .image ≡ image .entry) × (r .at ≡ at) ⌝ }
+{
+    RowReader { image, at }
+}
+
+// Where a reader stands.
+pub fn place<'a>(r: RowReader<'a>) -> usize
+    ensures { λ n. ⌜ n ≡ r .entry .at ⌝ }
+{
+    r.at
+}
+
+// The next operand of a reader.
+pub fn next<'a>(r: RowReader<'a>) -> u32
+    ensures { λ w. ⌜ w ≡ «image-spec».opAt (now (r .entry .image)) (r .entry .at) ⌝ }
+{
+    operand_at(r.image, r.at)
+}
+
+// The operand word at a place, read by a reader that starts there.
+pub fn operand(image: &[u8], at: usize) -> u32
+    ensures { λ w. ⌜ w ≡ «image-spec».opAt (now (image .entry)) at ⌝ }
+{
+    next(read_from(image, at))
 }
 
 // Where a node's text begins and ends.
