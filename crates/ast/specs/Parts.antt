@@ -1,9 +1,10 @@
 -- The table of kinds as the code has it: a number for each field. Vocabulary of the contracts of its two tables.
+use mathlib.Core.Path.{_≡_}
 use mathlib.Core.Bool.{true, false}
-use mathlib.Core.List.{List, [], _∷_}
-use Prim.Native.Nat.{ℕ, _+_, _-_, _/_, _%_, _≤_}
+use mathlib.Core.List.{List, [], _∷_, _++_}
+use Prim.Native.Nat.{ℕ, zero, suc, _+_, _-_, _*_, _/_, _%_, _≤_}
 use lib.Dec.{ltb, eqb}
-use lib.ListN.{take, drop}
+use lib.ListN.{getD, take, drop}
 use Rattle.ast.specs.Kinds.{Field, name, optName, child, optChild, list, lists, cases}
 
 -- the children's kinds of each enum's cases, one enum after another
