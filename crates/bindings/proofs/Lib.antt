@@ -1,0 +1,4 @@
+pub mod Leaves
+pub mod RowLaws
+pub mod Quiet
+pub mod Epic
