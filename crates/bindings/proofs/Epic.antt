@@ -16,7 +16,9 @@ use Rattle.ast.specs.Items.{items}
 use Rattle.ast.proofs.Row.{Child, Items, FormedFields, next}
 use Rattle.ast.proofs.Shapes.{row as fields-of, formed-row, child-is, case-child, case-kids, items-more, term-last, termKinds, headKinds}
 use Rattle.table.specs.Table.{Table}
+use Rattle.table.specs.Rows.{Sorted}
 use Rattle.rows.specs.Rows.{Row, Appended}
+use Rattle.rows.proofs.Parts.{Left, left-room}
 use Rattle.bindings.specs.Errors.{asked, introducedRow, rowsOf, rowsSeq}
 use Rattle.bindings.specs.Checks.{Room, inside, listed}
 use Rattle.bindings.proofs.RowLaws.{rowsAt, plain-rows, term-rows, ident-rows, member-rows, receiver-rows, head-ident, head-other, one-inside, two-inside, case-inside, list-inside}
@@ -36,6 +38,10 @@ module _ {img : List ℕ} {t : Table} where
   room-rest {l} {k} e h f =
       let g = (room-as e h) .fits in
       record { rising = h .rising; fits = let a = length-append l k in let b = f .count in omega arith }
+
+  -- room for a part of what a loop has left
+  pub room-left : {l whole rest : List Row} {N c r : ℕ} {ws vs : List ℕ} (more : List Row) → Sorted (nodes img) (t .symbols) (t .words) → Left N whole rest c ws r vs → rest ≡ l ++ more → Room img t l r
+  room-left {l} more s h e = record { rising = s; fits = left-room l more h e }
 
 module _ (img : List ℕ) (t : Table) where
   -- the rows l are those below the node d, which is below n and of kind k
