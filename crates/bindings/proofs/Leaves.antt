@@ -57,3 +57,7 @@ introduced-is img t n i e = ap (λ (c : Bool). when c (row 1 n)) (sym e)
 -- the same row, by its number
 pub when-number : {k m : ℕ} (b : Bool) (n : ℕ) → k ≡ m → when b (row k n) ≡ when b (row m n)
 when-number b n e = ap (λ (k : ℕ). when b (row k n)) e
+
+-- rows that stand where a test says so, by what the code tests and the number that it has
+pub row-when : {l : List Row} {b c : Bool} {k m : ℕ} (n : ℕ) → l ≡ when c (row m n) → b ≡ c → k ≡ m → l ≡ when b (row k n)
+row-when {b = b} {m = m} n e p q = e ∙ ap (λ (x : Bool). when x (row m n)) (sym p) ∙ sym (when-number b n q)

@@ -2,3 +2,5 @@ pub mod Leaves
 pub mod RowLaws
 pub mod Quiet
 pub mod Epic
+pub mod Bodies
+pub mod Marking

@@ -21,9 +21,9 @@ use Rattle.table.specs.Table.{Table}
 use Rattle.rows.specs.Rows.{Row}
 use Rattle.bindings.specs.Errors.{asked, introducedRow, rowsOf, rowsSeq, rowsFirst}
 
--- the kinds from Term to IfAtom, and the if-atoms
+-- the kinds from Term to IfAtom, the atoms but DefinedThenAtom, and IfStmt
 abbrev quietKind : ℕ → Bool
-quietKind k = (leb 12 k && leb k 28) || (leb 30 k && leb k 33)
+quietKind k = (leb 12 k && leb k 28) || ((leb 30 k && leb k 33) || eqb k 37)
 
 abbrev quietCase : ℕ → Bool
 quietCase k = eqb k noChild || quietKind k
@@ -198,7 +198,7 @@ module _ (img : List ℕ) (t : Table) where
     quiet-below (suc m) n l h q =
         let kd = kindOf (kindAt img n) in
         let k = not-or (quietKind (kindAt img n)) (not (asked (kindAt img n) false) && (quietClass (kd .class) && quietFields (kd .fields))) q
-            (closed-kinds (kindAt img n) ((formed img accepted) .each n h .kind)) in
+        (closed-kinds (kindAt img n) ((formed img accepted) .each n h .kind)) in
         let r = and-both (not (asked (kindAt img n) false)) (quietClass (kd .class) && quietFields (kd .fields)) k in
         let s = and-both (quietClass (kd .class)) (quietFields (kd .fields)) (r .1) in
         subst Silent (sym (tree-is img accepted n h))

@@ -299,9 +299,9 @@ module _ (img : List ℕ) (t : Table) where
   decl-child {n} {d} is c q r s = (
     case-child img (outer decl) declKinds is c d q r s,
     ap (declRows img t) (tree-of img is)
-    ∙ ap (declsRows img t) (sym (ap below (tree-of img is)) ∙ case-kids img (outer decl) declKinds is (λ ts. refl) c q ∙ case-one img declKinds n c s)
-    ∙ append-nil _
-    ∙ ap (λ (i : ℕ). declRows img t (treeAt img i)) (sym r),
+        ∙ ap (declsRows img t) (sym (ap below (tree-of img is)) ∙ case-kids img (outer decl) declKinds is (λ ts. refl) c q ∙ case-one img declKinds n c s)
+        ∙ append-nil _
+        ∙ ap (λ (i : ℕ). declRows img t (treeAt img i)) (sym r),
   )
 
   pub rule-rows : {n : ℕ} → Is img (kindOf 6) n → declRows img t (treeAt img n) ≡ listed img t false n (field img n 1) 2

@@ -13,7 +13,7 @@ use Rattle.ast.specs.Items.{items, below}
 use Rattle.table.specs.Table.{Table}
 use Rattle.table.specs.Rows.{Sorted}
 use Rattle.rows.specs.Rows.{Row}
-use Rattle.bindings.specs.Errors.{rowsOf, rowsSeq, patternRows, argRows, declsRows, repeatedTo}
+use Rattle.bindings.specs.Errors.{rowsOf, rowsSeq, patternRows, argRows, declsRows, repeated, repeatedTo, strictRows}
 
 -- the symbol rows of the table stand by rising scope, and the count has room for the rows l
 pub record Room (img : List ℕ) (t : Table) (l : List Row) (count : ℕ) : Type 0 where
@@ -73,7 +73,13 @@ unfoldable pub marked : List ℕ → List ℕ → List ℕ
 marked [] ms = ms
 marked (n ∷ ns) ms = marked ns (set ms n 1)
 
--- all of them
-unfoldable pub allMarked : List ℕ → List ℕ
-unfolding marked repeatedTo
-allMarked img = marked (repeatedTo img (nodes img)) (replicate 2048 0)
+-- from the marks ms and the name `near` one argument comes to the marks vs and the name r, with the rest of its list
+-- still to mark
+pub record MarkedOne (img : List ℕ) (n near : ℕ) (ms : List ℕ) (r : ℕ) (vs : List ℕ) : Type 0 where
+  pub so : (ns : List ℕ) → marked (repeated img near (n ∷ ns)) ms ≡ marked (repeated img r ns) vs
+
+-- all of them are marked, and the count has room for their rows
+pub record Marks (img ms : List ℕ) (count : ℕ) : Type 0 where
+  pub accepted : verdict img ≡ 0
+  pub all : ms ≡ marked (repeatedTo img (nodes img)) (replicate 2048 0)
+  pub fits : count + length (strictRows img) < 2 ^ 32
