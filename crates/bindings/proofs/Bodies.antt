@@ -41,6 +41,72 @@ plain-first : {u : Tree} → PlainVar u → firstOf u ≤ 1
 plain-first (named n i) = omega arith
 plain-first (wildcard n) = omega arith
 
+module _ (img : List ℕ) where
+  variable-plain : {n v : ℕ} → Is img (kindOf 34) n → suc v ≡ field img n 0 → Is img (kindOf 12) v → field img v 0 ≤ 1
+  unfolding kindOf nodeOf PlainAt swaps
+  variable-plain {n} {v} is e z =
+      let p = subst PlainAt (tree-of img is) (vars-at img (is .accepted) n (is .below)) in
+      subst (λ (u : Tree). firstOf u ≤ 1) (tree-of img z) (go (field img n 0) (sym e) p)
+    where
+      go : (x : ℕ) → x ≡ suc v
+          → AfterFirst PlainVar (ordered (inner definedThen) (append (elim x [ zero ↦ none | suc m ↦ treeAt img m ◂ none ]) (append (treeAt img (field img n 1) ◂ none) none)))
+          → firstOf (treeAt img v) ≤ 1
+      go x q h = pick (subst (λ (y : ℕ). AfterFirst PlainVar (ordered (inner definedThen) (append (elim y [ zero ↦ none | suc m ↦ treeAt img m ◂ none ]) (append (treeAt img (field img n 1) ◂ none) none)))) q h)
+        where
+          pick : AfterFirst PlainVar (treeAt img (field img n 1) ◂ (treeAt img v ◂ none)) → firstOf (treeAt img v) ≤ 1
+          pick k = unfold AfterFirst Each in plain-first (k .0)
+
+  -- patterns -------------------------------------------------------------------------------------------------------
+  pub case-pattern : {n p : ℕ} → Is img (kindOf 35) n → p ≡ field img n 0 → Is img (kindOf 12) p
+  unfolding kindOf FormedFields
+  case-pattern {n} is q = child-is img is (subst (Child img n 12) (sym q) ((fields-of img is) .0))
+
+  pub stmt-last : {n : ℕ} → Is img (kindOf 36) n → field img n 0 < 4
+  unfolding kindOf
+  stmt-last is = case-last img _ stmtKinds is
+
+  pub atom-last : {n : ℕ} → Is img (kindOf 29) n → field img n 0 < 3
+  unfolding kindOf
+  atom-last is = case-last img _ atomKinds is
+
+  -- a run of children, from what acceptance says of a list
+  pub run-of : {kd : Kind} {k n c j : ℕ} → Is img kd n → Items img n k c j → j + c ≤ 8192 → Run img k n c j
+  run-of is h l = record { accepted = is .accepted; below = is .below; short = l; lower = λ i m. (h i m) .below; kinds = λ i m. (h i m) .kind }
+
+  run-child : {k n c j x : ℕ} (i : ℕ) → Run img k n c j → i < c → x ≡ field img n (j + i) → (x < n) × (kindAt img x ≡ k) × Is img (kindOf k) x
+  run-child {k} {n} {c} {j} {x} i h l q =
+      let low : x < n = subst (λ (y : ℕ). y < n) (sym q) (h .lower i l) in
+      let e : kindAt img x ≡ k = ap (kindAt img) q ∙ h .kinds i l in
+      (low, e, record { accepted = h .accepted; below = let b = h .below in omega arith; kind = ap kindOf e })
+
+  pub case-run : {n c : ℕ} → Is img (kindOf 35) n → c ≡ field img n 1 → Run img 36 n c 2
+  unfolding kindOf FormedFields next ends
+  case-run {n} is q =
+      subst (λ (x : ℕ). Run img 36 n x 2) (sym q) (run-of is ((fields-of img is) .1 .0) ((formed-row img is) .short))
+
+  ends-grows : (n c j : ℕ) → j ≤ blocksEnd img n c j
+  unfolding blocksEnd
+  ends-grows n zero j = le-refl j
+  ends-grows n (suc c) j = let h = ends-grows n c (j + 1 + field img n j) in omega arith
+
+  -- what acceptance says of the blocks that are left after i of them, from place j on
+  pub record BlocksFrom (n i j : ℕ) : Type 0 where
+    pub within : i ≤ field img n 0
+    pub formed : FormedBlocks img n 36 (field img n 0 - i) j
+    pub short : blocksEnd img n (field img n 0 - i) j ≤ 8192
+
+  pub blocks-start : {n : ℕ} → Is img (kindOf 39) n → BlocksFrom n 0 1
+  unfolding FormedFields ends next kindOf
+  blocks-start {n} is =
+      record {
+        within = omega arith;
+        formed = subst (λ (c : ℕ). FormedBlocks img n 36 c 1) (sym (sub-zero (field img n 0))) ((fields-of img is) .0);
+        short = subst (λ (c : ℕ). blocksEnd img n c 1 ≤ 8192) (sym (sub-zero (field img n 0))) ((formed-row img is) .short);
+      }
+
+  pub blocks-place : {n i j : ℕ} → BlocksFrom n i j → j ≤ 8192
+  blocks-place {n} {i} {j} b = le-trans (ends-grows n (field img n 0 - i) j) (b .short)
+
 module _ (img : List ℕ) (t : Table) where
   -- then-atoms -----------------------------------------------------------------------------------------------------
   pub then-none : {n d : ℕ} (o : ℕ) → Is img (kindOf 34) n → 0 ≡ field img n 0 → d ≡ field img n 1 → Down img t true 12 n d (rowsAt img t true o n)
@@ -57,20 +123,6 @@ module _ (img : List ℕ) (t : Table) where
     pub is2 : Is img (kindOf 12) d
     pub same : rowsAt img t true o n ≡ definedRow img t o (treeAt img v) ++ inside img t true d
 
-  variable-plain : {n v : ℕ} → Is img (kindOf 34) n → suc v ≡ field img n 0 → Is img (kindOf 12) v → field img v 0 ≤ 1
-  unfolding kindOf nodeOf PlainAt swaps
-  variable-plain {n} {v} is e z =
-      let p = subst PlainAt (tree-of img is) (vars-at img (is .accepted) n (is .below)) in
-      subst (λ (u : Tree). firstOf u ≤ 1) (tree-of img z) (go (field img n 0) (sym e) p)
-    where
-      go : (x : ℕ) → x ≡ suc v
-          → AfterFirst PlainVar (ordered (inner definedThen) (append (elim x [ zero ↦ none | suc m ↦ treeAt img m ◂ none ]) (append (treeAt img (field img n 1) ◂ none) none)))
-          → firstOf (treeAt img v) ≤ 1
-      go x q h = pick (subst (λ (y : ℕ). AfterFirst PlainVar (ordered (inner definedThen) (append (elim y [ zero ↦ none | suc m ↦ treeAt img m ◂ none ]) (append (treeAt img (field img n 1) ◂ none) none)))) q h)
-        where
-          pick : AfterFirst PlainVar (treeAt img (field img n 1) ◂ (treeAt img v ◂ none)) → firstOf (treeAt img v) ≤ 1
-          pick k = unfold AfterFirst Each in plain-first (k .0)
-
   pub then-some : {n d : ℕ} (o v : ℕ) → Is img (kindOf 34) n → suc v ≡ field img n 0 → d ≡ field img n 1 → Defined o n v d
   unfolding kindOf FormedFields next
   then-some {n} {d} o v is e q =
@@ -79,7 +131,7 @@ module _ (img : List ℕ) (t : Table) where
       let z = child-is img is h in
       record {
         is = child-is img is k;
-        plain = variable-plain is e (child-is img is k);
+        plain = variable-plain img is e (child-is img is k);
         is2 = z;
         same = defined-some img t true o v is e q ∙ ap (λ (l : List Row). definedRow img t o (treeAt img v) ++ l) (term-rows img t true n z);
       }
@@ -125,13 +177,8 @@ module _ (img : List ℕ) (t : Table) where
             ∙ ap₂ _++_ (pred-none d (child-is img i h) (h .kind)) (plain-rows img t true 22 _ d j (k .kind));
       }
 
-  -- patterns -------------------------------------------------------------------------------------------------------
-  pub case-pattern : {n p : ℕ} → Is img (kindOf 35) n → p ≡ field img n 0 → Is img (kindOf 12) p
-  unfolding kindOf FormedFields
-  case-pattern {n} is q = child-is img is (subst (Child img n 12) (sym q) ((fields-of img is) .0))
-
   pub no-pattern : {n p : ℕ} → Is img (kindOf 35) n → p ≡ field img n 0 → (2 ≡ field img p 0 → ⊥) → ofPattern img t n ≡ []
-  no-pattern {n} is q h = pattern-first img t is q ∙ pattern-none img t (items img n (field img n 1) 2) (case-pattern is q) h
+  no-pattern {n} is q h = pattern-first img t is q ∙ pattern-none img t (items img n (field img n 1) 2) (case-pattern img is q) h
 
   -- a pattern that applies the head h to the list l
   pub record Applied (n h l : ℕ) : Type 0 where
@@ -142,7 +189,7 @@ module _ (img : List ℕ) (t : Table) where
   pub applied : {n p d h l : ℕ} → Is img (kindOf 35) n → p ≡ field img n 0 → 2 ≡ field img p 0 → d ≡ field img p 1 → h ≡ field img d 0 → l ≡ field img d 1 → Applied n h l
   unfolding kindOf FormedFields next
   applied {n} {p} {d} {h} {l} is q e r x y =
-      let z = case-pattern is q in
+      let z = case-pattern img is q in
       let k = case-child img (inner term) termKinds z 2 d e r refl in
       let app = child-is img z k in
       record {
@@ -187,14 +234,6 @@ module _ (img : List ℕ) (t : Table) where
     case-inside img t false (inner plain) stmtKinds is (λ ts. refl) c q r s,
   )
 
-  pub stmt-last : {n : ℕ} → Is img (kindOf 36) n → field img n 0 < 4
-  unfolding kindOf
-  stmt-last is = case-last img _ stmtKinds is
-
-  pub atom-last : {n : ℕ} → Is img (kindOf 29) n → field img n 0 < 3
-  unfolding kindOf
-  atom-last is = case-last img _ atomKinds is
-
   pub stmt-if : {n : ℕ} → Is img (kindOf 36) n → 0 ≡ field img n 0 → inside img t false n ≡ []
   stmt-if {n} is q = let s = stmt-down is 0 q refl refl in s .1 ∙ quiet img t (is .accepted) n ((child-is img is (s .0)) .below) (s .0 .kind) tt
 
@@ -226,22 +265,12 @@ module _ (img : List ℕ) (t : Table) where
       let i = child-is img is (s .0) in
       record { low = s .0 .below; is = i; same = s .1 ∙ match-rows img t false n i }
 
-  -- a run of children, from what acceptance says of a list
-  pub run-of : {kd : Kind} {k n c j : ℕ} → Is img kd n → Items img n k c j → j + c ≤ 8192 → Run img k n c j
-  run-of is h l = record { accepted = is .accepted; below = is .below; short = l; lower = λ i m. (h i m) .below; kinds = λ i m. (h i m) .kind }
-
-  run-child : {k n c j x : ℕ} (i : ℕ) → Run img k n c j → i < c → x ≡ field img n (j + i) → (x < n) × (kindAt img x ≡ k) × Is img (kindOf k) x
-  run-child {k} {n} {c} {j} {x} i h l q =
-      let low : x < n = subst (λ (y : ℕ). y < n) (sym q) (h .lower i l) in
-      let e : kindAt img x ≡ k = ap (kindAt img) q ∙ h .kinds i l in
-      (low, e, record { accepted = h .accepted; below = let b = h .below in omega arith; kind = ap kindOf e })
-
   -- the statements of a block
   pub stmts-item : {n c j x : ℕ} (i : ℕ) → Run img 36 n c j → i < c → x ≡ field img n (j + i)
       → Item img t 36 n x (listed img t false n (c - i) (j + i)) (inside img t false x) (listed img t false n (c - (i + 1)) (j + (i + 1)))
   unfolding kindOf asked
   stmts-item {n} {c} {j} {x} i h l q =
-      let z = run-child i h l q in
+      let z = run-child img i h l q in
       record {
         low = z .0;
         is = z .2;
@@ -285,37 +314,9 @@ module _ (img : List ℕ) (t : Table) where
       ∙ ap (λ (l : List Row). l ++ listed img t false n (field img n 1) 2) (quiet img t (is .accepted) n ((child-is img is h) .below) (h .kind) tt)
       ∙ ap (λ (c : ℕ). listed img t false n c 2) (sym q))
 
-  pub case-run : {n c : ℕ} → Is img (kindOf 35) n → c ≡ field img n 1 → Run img 36 n c 2
-  unfolding kindOf FormedFields next ends
-  case-run {n} is q =
-      subst (λ (x : ℕ). Run img 36 n x 2) (sym q) (run-of is ((fields-of img is) .1 .0) ((formed-row img is) .short))
-
   -- the blocks of a branch -----------------------------------------------------------------------------------------
   abbrev pub blocksLeft : ℕ → ℕ → ℕ → List Row
   blocksLeft n c j = rowsSeq img t false n (blocks img n c j)
-
-  ends-grows : (n c j : ℕ) → j ≤ blocksEnd img n c j
-  unfolding blocksEnd
-  ends-grows n zero j = le-refl j
-  ends-grows n (suc c) j = let h = ends-grows n c (j + 1 + field img n j) in omega arith
-
-  -- what acceptance says of the blocks that are left after i of them, from place j on
-  pub record BlocksFrom (n i j : ℕ) : Type 0 where
-    pub within : i ≤ field img n 0
-    pub formed : FormedBlocks img n 36 (field img n 0 - i) j
-    pub short : blocksEnd img n (field img n 0 - i) j ≤ 8192
-
-  pub blocks-start : {n : ℕ} → Is img (kindOf 39) n → BlocksFrom n 0 1
-  unfolding FormedFields ends next kindOf
-  blocks-start {n} is =
-      record {
-        within = omega arith;
-        formed = subst (λ (c : ℕ). FormedBlocks img n 36 c 1) (sym (sub-zero (field img n 0))) ((fields-of img is) .0);
-        short = subst (λ (c : ℕ). blocksEnd img n c 1 ≤ 8192) (sym (sub-zero (field img n 0))) ((formed-row img is) .short);
-      }
-
-  pub blocks-place : {n i j : ℕ} → BlocksFrom n i j → j ≤ 8192
-  blocks-place {n} {i} {j} b = le-trans (ends-grows n (field img n 0 - i) j) (b .short)
 
   pub blocks-whole : {n : ℕ} → Is img (kindOf 39) n → inside img t false n ≡ blocksLeft n (field img n 0 - 0) 1
   blocks-whole {n} is = branch-inside img t false is ∙ ap (λ (c : ℕ). blocksLeft n c 1) (sym (sub-zero (field img n 0)))
@@ -324,20 +325,20 @@ module _ (img : List ℕ) (t : Table) where
   pub record BlockItem (n i j s : ℕ) : Type 0 where
     pub run : Run img 36 n s (j + 1)
     pub fits : j + 1 + s ≤ 8192
-    pub from : BlocksFrom n (i + 1) (j + 1 + s)
+    pub from : BlocksFrom img n (i + 1) (j + 1 + s)
     pub same : blocksLeft n (field img n 0 - i) j ≡ listed img t false n s (j + 1) ++ blocksLeft n (field img n 0 - (i + 1)) (j + 1 + s)
 
-  pub block-item : {n i j s : ℕ} → Is img (kindOf 39) n → BlocksFrom n i j → i < field img n 0 → s ≡ field img n j → BlockItem n i j s
+  pub block-item : {n i j s : ℕ} → Is img (kindOf 39) n → BlocksFrom img n i j → i < field img n 0 → s ≡ field img n j → BlockItem n i j s
   unfolding FormedBlocks blocksEnd blocks rowsOf
   block-item {n} {i} {j} {s} is b l q =
       let c = field img n 0 - (i + 1) in
       let z = field img n j in
       let hs : FormedBlocks img n 36 (suc c) j = subst (λ (x : ℕ). FormedBlocks img n 36 x j) (one-more l) (b .formed) in
       let sh : blocksEnd img n c (j + 1 + z) ≤ 8192 = subst (λ (x : ℕ). blocksEnd img n x j ≤ 8192) (one-more l) (b .short) in
-      let fit : j + 1 + z ≤ 8192 = le-trans (ends-grows n c (j + 1 + z)) sh in
+      let fit : j + 1 + z ≤ 8192 = le-trans (ends-grows img n c (j + 1 + z)) sh in
       subst (λ (x : ℕ). BlockItem n i j x) (sym q)
       (record {
-        run = run-of is (hs .0) fit;
+        run = run-of img is (hs .0) fit;
         fits = fit;
         from = record { within = omega arith; formed = hs .1; short = sh };
         same = ap (λ (x : ℕ). blocksLeft n x j) (one-more l);
@@ -359,7 +360,7 @@ module _ (img : List ℕ) (t : Table) where
       → Item img t 1 n x (declared img t n (c - i) (j + i)) (declRows img t (treeAt img x)) (declared img t n (c - (i + 1)) (j + (i + 1)))
   unfolding declRows
   decls-item {n} {c} {j} {x} i h l q =
-      let z = run-child i h l q in
+      let z = run-child img i h l q in
       record {
         low = z .0;
         is = z .2;
@@ -381,7 +382,7 @@ module _ (img : List ℕ) (t : Table) where
       let s = decl-child img t is 4 q r refl in
       let i = child-is img is (s .0) in
       subst (λ (x : ℕ). Listing 36 n d x 2 (declRows img t (treeAt img n)) (listed img t false d x 2)) (sym z)
-      (record { low = s .0 .below; run = run-of i ((fields-of img i) .1 .0) ((formed-row img i) .short); same = s .1 ∙ rule-rows img t i })
+      (record { low = s .0 .below; run = run-of img i ((fields-of img i) .1 .0) ((formed-row img i) .short); same = s .1 ∙ rule-rows img t i })
 
   pub decl-model : {n d c : ℕ} → Is img (kindOf 1) n → 6 ≡ field img n 0 → d ≡ field img n 1 → c ≡ field img d 1
       → Listing 1 n d c 2 (declRows img t (treeAt img n)) (declared img t d c 2)
@@ -390,10 +391,10 @@ module _ (img : List ℕ) (t : Table) where
       let s = decl-child img t is 6 q r refl in
       let i = child-is img is (s .0) in
       subst (λ (x : ℕ). Listing 1 n d x 2 (declRows img t (treeAt img n)) (declared img t d x 2)) (sym z)
-      (record { low = s .0 .below; run = run-of i ((fields-of img i) .1 .0) ((formed-row img i) .short); same = s .1 ∙ model-rows img t i })
+      (record { low = s .0 .below; run = run-of img i ((fields-of img i) .1 .0) ((formed-row img i) .short); same = s .1 ∙ model-rows img t i })
 
   pub module-run : {n c : ℕ} → Is img (kindOf 0) n → c ≡ field img n 0 → Run img 1 n c 1 × (declRows img t (treeAt img n) ≡ declared img t n c 1)
   unfolding kindOf FormedFields next ends
   module-run {n} is q =
       subst (λ (x : ℕ). Run img 1 n x 1 × (declRows img t (treeAt img n) ≡ declared img t n x 1)) (sym q)
-      (run-of is ((fields-of img is) .0) ((formed-row img is) .short), module-rows img t is)
+      (run-of img is ((fields-of img is) .0) ((formed-row img is) .short), module-rows img t is)

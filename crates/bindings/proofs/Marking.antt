@@ -146,6 +146,9 @@ pub to-start : (img ms : List ℕ) → ms ≡ marked (repeatedTo img 0) ms
 unfolding repeatedTo marked
 to-start img ms = refl
 
+pub to-end : (img ms : List ℕ) {vs : List ℕ} (m : ℕ) {k : ℕ} → vs ≡ marked (repeatedTo img m) ms → m ≡ k → vs ≡ marked (repeatedTo img k) ms
+to-end img ms m e q = e ∙ ap (λ (x : ℕ). marked (repeatedTo img x) ms) q
+
 -- row 4: what is left after m nodes
 module _ (img : List ℕ) where
   abbrev pub strictLeft : ℕ → List Row

@@ -36,7 +36,7 @@ field-requires-3 c κs = search needs
 
 -- src/lib.rt:287:13
 check-epic-terms-requires : tie.Need-check-epic-terms-requires
-check-epic-terms-requires c κs = let o = atom-pred _ _ (c .before .before .before .before .before .before .before .before .pre .is) (let l = atom-last _ (tableOf (c .before .before .before .before .before .before .before .before .args .w) (c .before .before .before .before .before .before .before .before .args .table .now)) (c .before .before .before .before .before .before .before .before .pre .is) in omega arith) (c .before .before .before .field2 .ensures) (c .before .field3 .ensures) in record { is = o .is; room = room-as (o .same) (c .before .before .before .before .before .before .before .before .pre .room) }
+check-epic-terms-requires c κs = let o = atom-pred _ _ (c .before .before .before .before .before .before .before .before .pre .is) (let l = atom-last _ (c .before .before .before .before .before .before .before .before .pre .is) in omega arith) (c .before .before .before .field2 .ensures) (c .before .field3 .ensures) in record { is = o .is; room = room-as (o .same) (c .before .before .before .before .before .before .before .before .pre .room) }
 
 -- src/lib.rt:268:1
 same-length : tie.Need-same-length
@@ -60,7 +60,7 @@ same-length-3 c = search needs
 
 -- src/lib.rt:268:1
 returns-3 : tie.Need-returns-3
-returns-3 c = appended-as (sym ((atom-pred _ _ (c .before .before .before .before .before .before .before .before .before .before .before .pre .is) (let l = atom-last _ (tableOf (c .before .before .before .before .before .before .before .before .before .before .before .args .w) (c .before .before .before .before .before .before .before .before .before .before .before .args .table .now)) (c .before .before .before .before .before .before .before .before .before .before .before .pre .is) in omega arith) (c .before .before .before .before .before .before .field2 .ensures) (c .before .before .before .before .field3 .ensures)) .same)) (c .before .before .check-epic-terms .ensures)
+returns-3 c = appended-as (sym ((atom-pred _ _ (c .before .before .before .before .before .before .before .before .before .before .before .pre .is) (let l = atom-last _ (c .before .before .before .before .before .before .before .before .before .before .before .pre .is) in omega arith) (c .before .before .before .before .before .before .field2 .ensures) (c .before .before .before .before .field3 .ensures)) .same)) (c .before .before .check-epic-terms .ensures)
 
 pub check-then-atom-spec : {M : Type 1} → statement M
 check-then-atom-spec =
