@@ -35,7 +35,7 @@ field-requires-4 c κs = search needs
 
 -- src/lib.rt:369:8
 is-ctor-head-requires : tie.Need-is-ctor-head-requires
-is-ctor-head-requires c κs = record { is = (applied _ (tableOf (c .before .before .before .before .before .before .before .before .args .w) (c .before .before .before .before .before .before .before .before .args .table .now)) (c .before .before .before .before .before .before .before .before .pre .is) (c .before .before .before .before .field .ensures) (sym (c .before .before .if1 .left) ∙ c .before .before .before .field2 .ensures) (c .before .field3 .ensures) (c .field4 .ensures)  refl) .head; room = record { rising = c .before .before .before .before .before .before .before .before .pre .room .rising; fits = omega arith } }
+is-ctor-head-requires c κs = record { is = (applied _ (tableOf (c .before .before .before .before .before .before .before .before .args .w) (c .before .before .before .before .before .before .before .before .args .table .now)) (c .before .before .before .before .before .before .before .before .pre .is) (c .before .before .before .before .field .ensures) (sym (c .before .before .if1 .left) ∙ c .before .before .before .field2 .ensures) (c .before .field3 .ensures) (c .field4 .ensures) refl) .head; room = record { rising = c .before .before .before .before .before .before .before .before .pre .room .rising; fits = omega arith } }
 
 -- src/lib.rt:370:27
 field-requires-5 : tie.Need-field-requires-5
@@ -43,7 +43,7 @@ field-requires-5 c κs = search needs
 
 -- src/lib.rt:371:9
 check-pattern-args-requires : tie.Need-check-pattern-args-requires
-check-pattern-args-requires c κs = let o = applied _ (tableOf (c .before .before .before .before .before .before .before .before .before .before .before .before .args .w) (c .before .before .before .before .before .before .before .before .before .before .before .before .args .table .now)) (c .before .before .before .before .before .before .before .before .before .before .before .before .pre .is) (c .before .before .before .before .before .before .before .before .field .ensures) (sym (c .before .before .before .before .before .before .if1 .left) ∙ c .before .before .before .before .before .before .before .field2 .ensures) (c .before .before .before .before .before .field3 .ensures) (c .before .before .before .before .field4 .ensures)  (c .before .field5 .ensures) in record { is = o .args; room = room-as (applied-yes _ _ o (c .before .before .before .is-ctor-head .ensures) (c .before .before .if2 .taken)) (c .before .before .before .before .before .before .before .before .before .before .before .before .pre .room) }
+check-pattern-args-requires c κs = let o = applied _ (tableOf (c .before .before .before .before .before .before .before .before .before .before .before .before .args .w) (c .before .before .before .before .before .before .before .before .before .before .before .before .args .table .now)) (c .before .before .before .before .before .before .before .before .before .before .before .before .pre .is) (c .before .before .before .before .before .before .before .before .field .ensures) (sym (c .before .before .before .before .before .before .if1 .left) ∙ c .before .before .before .before .before .before .before .field2 .ensures) (c .before .before .before .before .before .field3 .ensures) (c .before .before .before .before .field4 .ensures) (c .before .field5 .ensures) in record { is = o .args; room = room-as (applied-yes _ _ o (c .before .before .before .is-ctor-head .ensures) (c .before .before .if2 .taken)) (c .before .before .before .before .before .before .before .before .before .before .before .before .pre .room) }
 
 -- src/lib.rt:371:9
 same-length : tie.Need-same-length
@@ -51,11 +51,11 @@ same-length c = search needs
 
 -- src/lib.rt:371:9
 returns-2 : tie.Need-returns-2
-returns-2 c = appended-as (sym (applied-yes _ _ (applied _ (tableOf (c .before .before .before .before .before .before .before .before .before .before .before .before .before .before .before .args .w) (c .before .before .before .before .before .before .before .before .before .before .before .before .before .before .before .args .table .now)) (c .before .before .before .before .before .before .before .before .before .before .before .before .before .before .before .pre .is) (c .before .before .before .before .before .before .before .before .before .before .before .field .ensures) (sym (c .before .before .before .before .before .before .before .before .before .if1 .left) ∙ c .before .before .before .before .before .before .before .before .before .before .field2 .ensures) (c .before .before .before .before .before .before .before .before .field3 .ensures) (c .before .before .before .before .before .before .before .field4 .ensures)  (c .before .before .before .before .field5 .ensures)) (c .before .before .before .before .before .before .is-ctor-head .ensures) (c .before .before .before .before .before .if2 .taken))) (c .before .before .check-pattern-args .ensures)
+returns-2 c = appended-as (sym (applied-yes _ _ (applied _ (tableOf (c .before .before .before .before .before .before .before .before .before .before .before .before .before .before .before .args .w) (c .before .before .before .before .before .before .before .before .before .before .before .before .before .before .before .args .table .now)) (c .before .before .before .before .before .before .before .before .before .before .before .before .before .before .before .pre .is) (c .before .before .before .before .before .before .before .before .before .before .before .field .ensures) (sym (c .before .before .before .before .before .before .before .before .before .if1 .left) ∙ c .before .before .before .before .before .before .before .before .before .before .field2 .ensures) (c .before .before .before .before .before .before .before .before .field3 .ensures) (c .before .before .before .before .before .before .before .field4 .ensures) (c .before .before .before .before .field5 .ensures)) (c .before .before .before .before .before .before .is-ctor-head .ensures) (c .before .before .before .before .before .if2 .taken))) (c .before .before .check-pattern-args .ensures)
 
 -- src/lib.rt:352:1
 returns-3 : tie.Need-returns-3
-returns-3 c = appended-no _ _ (applied-no _ _ (applied _ (tableOf (c .before .before .before .before .before .before .before .before .before .before .args .w) (c .before .before .before .before .before .before .before .before .before .before .args .table .now)) (c .before .before .before .before .before .before .before .before .before .before .pre .is) (c .before .before .before .before .before .before .field .ensures) (sym (c .before .before .before .before .if1 .left) ∙ c .before .before .before .before .before .field2 .ensures) (c .before .before .before .field3 .ensures) (c .before .before .field4 .ensures)  refl) (c .before .is-ctor-head .ensures) (c .if2 .left))
+returns-3 c = appended-no _ _ (applied-no _ _ (applied _ (tableOf (c .before .before .before .before .before .before .before .before .before .before .args .w) (c .before .before .before .before .before .before .before .before .before .before .args .table .now)) (c .before .before .before .before .before .before .before .before .before .before .pre .is) (c .before .before .before .before .before .before .field .ensures) (sym (c .before .before .before .before .if1 .left) ∙ c .before .before .before .before .before .field2 .ensures) (c .before .before .before .field3 .ensures) (c .before .before .field4 .ensures) refl) (c .before .is-ctor-head .ensures) (c .if2 .left))
 
 pub check-match-case-pattern-spec : {M : Type 1} → statement M
 check-match-case-pattern-spec =
