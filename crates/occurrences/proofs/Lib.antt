@@ -1,0 +1,2 @@
+pub mod CollectRows
+pub mod CollectSteps
