@@ -3,6 +3,7 @@ use mathlib.Core.Path.{_≡_, refl, sym, ap, ap₂, subst, _∙_}
 use mathlib.Core.Bool.{Bool, true, false}
 use mathlib.Core.Logic.{⊎-elim}
 use mathlib.Core.List.{List, [], _∷_, _++_}
+use mathlib.Core.Option.{some}
 use Prim.Native.Nat.{ℕ, zero, suc, _+_, _-_, _<_, _≤_, _^_}
 use native.Mathlib.Omega.{arith}
 use native.Mathlib.Nat.{sub-zero, add-zero, le-trans, eq-or-lt-of-le}
@@ -15,12 +16,12 @@ use Rattle.ast.specs.Is.{Is, kindBy}
 use Rattle.ast.proofs.Row.{Child, Items, FormedBlocks, FormedFields, FormedRow, next, ends, blocksEnd}
 use Rattle.ast.proofs.Shapes.{termKinds, headKinds, one-more, formed-row, row, child-is, case-child}
 use Rattle.table.specs.Table.{Table}
-use Rattle.rows.specs.Rows.{Row, Appended}
+use Rattle.rows.specs.Rows.{Row, row as rowOf, Appended}
 use Rattle.rows.proofs.Appends.{appended-none, appended-next}
 use Rattle.occurrences.specs.Sight.{spots, spotsFirst}
-use Rattle.occurrences.specs.Occurrences.{rowsFor}
-use Rattle.occurrences.specs.Collect.{identRows, rowsIn, rowsAt, Room, Ready, Run}
-use Rattle.occurrences.proofs.CollectRows.{bare, threads, ident-rows, owner, one-rows, two-rows, leaf-rows, first-rows, ifVar-rows, undefined-rows, defined-rows, case-rows, case-none, list-rows, items-rows, items-none, child-list-rows, blockRows, branch-rows, block-more, block-none}
+use Rattle.occurrences.specs.Occurrences.{found, rowsFor}
+use Rattle.occurrences.specs.Collect.{spot, identRows, rowsIn, rowsAt, Room, Ready, Run}
+use Rattle.occurrences.proofs.CollectRows.{bare, threads, ident-var, ident-rows, owner, one-rows, two-rows, leaf-rows, first-rows, ifVar-rows, undefined-rows, defined-rows, case-rows, case-none, list-rows, items-rows, items-none, child-list-rows, blockRows, branch-rows, block-more, block-none}
 
 pub appended-as : {N c r : ℕ} {l k : List Row} {ws vs : List ℕ} → l ≡ k → Appended N k c ws r vs → Appended N l c ws r vs
 appended-as {N} {c} {r} {ws = ws} {vs} e a = subst (λ (l : List Row). Appended N l c ws r vs) (sym e) a
@@ -249,3 +250,11 @@ module _ (img : List ℕ) (t : Table) where
       let w = list-rows img t (p .is) in
       subst (λ (x : ℕ). ListRun k n x c) (sym q)
       (record { run = runOf (p .is) ((row img (p .is)) .0) ((formed-row img (p .is)) .short) (room-as w (p .room)); whole = w ∙ run-start n 1 (field img n 0) })
+
+  -- an ident's row, written by one that knows the number of nodes as N
+  pub ident-put : (n i : ℕ) {b N c r : ℕ} {ws vs : List ℕ} → found img t (spot n i) ≡ some b → kindAt img b ≡ 13 → N ≡ nodes img → Appended N (rowOf n b ∷ []) c ws r vs
+      → Appended (nodes img) (identRows img t n i) c ws r vs
+  ident-put n i {b} {N} {c} {r} {ws} {vs} e k q a = appended-as (ident-var img t n i b e k) (subst (λ (x : ℕ). Appended x (rowOf n b ∷ []) c ws r vs) q a)
+
+  pub ident-fits : (n i : ℕ) {b c : ℕ} → found img t (spot n i) ≡ some b → kindAt img b ≡ 13 → Room img t (identRows img t n i) c → c + 1 < 2 ^ 32
+  ident-fits n i {b} e k p = (room-as (ident-var img t n i b e k) p) .fits

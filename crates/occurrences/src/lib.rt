@@ -1,1 +1,394 @@
 // Variable occurrences: Occurrences and Once.
+ghost use mathlib.Core.Path.{_≡_};
+ghost use mathlib.Core.List.{[], _∷_};
+ghost use Prim.Native.Nat.{_+_, _<_, _≤_, _^_};
+ghost use Rattle.ast.specs.Image as «image-spec»;
+ghost use Rattle.ast.specs.Kinds.{kindOf};
+ghost use Rattle.table.specs.Rows.{Sorted};
+ghost use Rattle.table.specs.Values.{optionOf};
+ghost use Rattle.rows.specs.Rows.{Appended};
+ghost use Rattle.occurrences.specs.Occurrences.{found};
+ghost use Rattle.occurrences.specs.Collect.{sought, spot, identRows, rowsIn, rowsAt, Room, Ready, Run};
+use ast::NodeId;
+use table::Found;
+use table::ScopeId;
+
+// What lookup of the ident's name gives at the exit of the node.
+fn lookup_at(image: &[u8], table: &[u32], symbols: u32, node: NodeId, ident: NodeId) -> Found
+    requires { ⌜ Sorted («image-spec».nodes (now image)) symbols (now table) ⌝ }
+    ensures { λ r. ⌜ optionOf r ≡ found (now (image .entry)) (sought (now (table .entry)) symbols) (spot (node .0) (ident .0)) ⌝ }
+{
+    let n = ast::wide(ast::node_count(image));
+    let exit = table::get(table, 3 + n + ast::wide(node.0));
+    let name = ast::name_of(image, ident);
+    table::seek(image, table, symbols, ScopeId(exit), name)
+}
+
+// An ident directly under a Term or AppHead: a row if it is a Var.
+fn collect_ident(
+    image: &[u8],
+    table: &[u32],
+    symbols: u32,
+    rows: &mut [u32],
+    count: u32,
+    node: NodeId,
+    ident: NodeId,
+) -> u32
+    requires { ⌜ Room (now image) (sought (now table) symbols) (identRows (now image) (sought (now table) symbols) (node .0) (ident .0)) count ⌝ }
+    ensures { λ r. ⌜ Appended («image-spec».nodes (now (image .entry))) (identRows (now (image .entry)) (sought (now (table .entry)) symbols) (node .0) (ident .0)) count (now (rows .entry)) r (now (rows .exit)) ⌝ }
+{
+    match lookup_at(image, table, symbols, node, ident) {
+        Found::At(binding) => {
+            if ast::kind_at(image, binding) == 13 {
+                let n = ast::node_count(image);
+                rows::put_row(rows, n, count, node.0, binding.0)
+            } else {
+                count
+            }
+        }
+        Found::Nothing => count,
+    }
+}
+
+fn collect_term(
+    image: &[u8],
+    table: &[u32],
+    symbols: u32,
+    rows: &mut [u32],
+    count: u32,
+    term: NodeId,
+) -> u32
+    requires { ⌜ Ready (now image) (sought (now table) symbols) (kindOf 12) (term .0) count ⌝ }
+    ensures { λ r. ⌜ Appended («image-spec».nodes (now (image .entry))) (rowsIn (now (image .entry)) (sought (now (table .entry)) symbols) (term .0)) count (now (rows .entry)) r (now (rows .exit)) ⌝ }
+{
+    let case = ast::field(image, term, 0);
+    let id = NodeId(ast::field(image, term, 1));
+    match case {
+        0 => collect_ident(image, table, symbols, rows, count, term, id),
+        2 => {
+            let head = NodeId(ast::field(image, id, 0));
+            let args = NodeId(ast::field(image, id, 1));
+            let after = collect_app_head(image, table, symbols, rows, count, head);
+            collect_term_list(image, table, symbols, rows, after, args)
+        }
+        3 | 4 | 5 | 6 => {
+            let inner = NodeId(ast::field(image, id, 0));
+            collect_term(image, table, symbols, rows, count, inner)
+        }
+        7 => {
+            let first = NodeId(ast::field(image, id, 0));
+            let second = NodeId(ast::field(image, id, 1));
+            let after = collect_term(image, table, symbols, rows, count, first);
+            collect_term(image, table, symbols, rows, after, second)
+        }
+        _ => count,
+    }
+}
+
+fn collect_app_head(
+    image: &[u8],
+    table: &[u32],
+    symbols: u32,
+    rows: &mut [u32],
+    count: u32,
+    head: NodeId,
+) -> u32
+    requires { ⌜ Ready (now image) (sought (now table) symbols) (kindOf 15) (head .0) count ⌝ }
+    ensures { λ r. ⌜ Appended («image-spec».nodes (now (image .entry))) (rowsIn (now (image .entry)) (sought (now (table .entry)) symbols) (head .0)) count (now (rows .entry)) r (now (rows .exit)) ⌝ }
+{
+    let case = ast::field(image, head, 0);
+    let id = NodeId(ast::field(image, head, 1));
+    match case {
+        0 => collect_ident(image, table, symbols, rows, count, head, id),
+        1 => {
+            let receiver = NodeId(ast::field(image, id, 0));
+            collect_term(image, table, symbols, rows, count, receiver)
+        }
+        _ => collect_term(image, table, symbols, rows, count, id),
+    }
+}
+
+fn collect_term_list(
+    image: &[u8],
+    table: &[u32],
+    symbols: u32,
+    rows: &mut [u32],
+    count: u32,
+    list: NodeId,
+) -> u32
+    requires { ⌜ Ready (now image) (sought (now table) symbols) (kindOf 22) (list .0) count ⌝ }
+    ensures { λ r. ⌜ Appended («image-spec».nodes (now (image .entry))) (rowsIn (now (image .entry)) (sought (now (table .entry)) symbols) (list .0)) count (now (rows .entry)) r (now (rows .exit)) ⌝ }
+{
+    let size = ast::wide(ast::field(image, list, 0));
+    let mut i = 0;
+    let mut after = count;
+    while i < size {
+        let term = NodeId(ast::field(image, list, 1 + i));
+        after = collect_term(image, table, symbols, rows, after, term);
+        i += 1;
+    }
+    after
+}
+
+fn collect_type_expr(
+    image: &[u8],
+    table: &[u32],
+    symbols: u32,
+    rows: &mut [u32],
+    count: u32,
+    type_expr: NodeId,
+) -> u32
+    requires { ⌜ Ready (now image) (sought (now table) symbols) (kindOf 23) (type_expr .0) count ⌝ }
+    ensures { λ r. ⌜ Appended («image-spec».nodes (now (image .entry))) (rowsIn (now (image .entry)) (sought (now (table .entry)) symbols) (type_expr .0)) count (now (rows .entry)) r (now (rows .exit)) ⌝ }
+{
+    let case = ast::field(image, type_expr, 0);
+    if case == 1 {
+        let id = NodeId(ast::field(image, type_expr, 1));
+        let receiver = NodeId(ast::field(image, id, 0));
+        return collect_term(image, table, symbols, rows, count, receiver);
+    }
+    count
+}
+
+fn collect_pred_expr(
+    image: &[u8],
+    table: &[u32],
+    symbols: u32,
+    rows: &mut [u32],
+    count: u32,
+    pred_expr: NodeId,
+) -> u32
+    requires { ⌜ Ready (now image) (sought (now table) symbols) (kindOf 26) (pred_expr .0) count ⌝ }
+    ensures { λ r. ⌜ Appended («image-spec».nodes (now (image .entry))) (rowsIn (now (image .entry)) (sought (now (table .entry)) symbols) (pred_expr .0)) count (now (rows .entry)) r (now (rows .exit)) ⌝ }
+{
+    let case = ast::field(image, pred_expr, 0);
+    if case == 1 {
+        let id = NodeId(ast::field(image, pred_expr, 1));
+        let receiver = NodeId(ast::field(image, id, 0));
+        return collect_term(image, table, symbols, rows, count, receiver);
+    }
+    count
+}
+
+// Two terms: an Equal atom.
+fn collect_equal(
+    image: &[u8],
+    table: &[u32],
+    symbols: u32,
+    rows: &mut [u32],
+    count: u32,
+    id: NodeId,
+) -> u32
+    requires { ⌜ Ready (now image) (sought (now table) symbols) (kindOf 30) (id .0) count ⌝ }
+    ensures { λ r. ⌜ Appended («image-spec».nodes (now (image .entry))) (rowsIn (now (image .entry)) (sought (now (table .entry)) symbols) (id .0)) count (now (rows .entry)) r (now (rows .exit)) ⌝ }
+{
+    let lhs = NodeId(ast::field(image, id, 0));
+    let rhs = NodeId(ast::field(image, id, 1));
+    let after = collect_term(image, table, symbols, rows, count, lhs);
+    collect_term(image, table, symbols, rows, after, rhs)
+}
+
+fn collect_pred(
+    image: &[u8],
+    table: &[u32],
+    symbols: u32,
+    rows: &mut [u32],
+    count: u32,
+    id: NodeId,
+) -> u32
+    requires { ⌜ Ready (now image) (sought (now table) symbols) (kindOf 31) (id .0) count ⌝ }
+    ensures { λ r. ⌜ Appended («image-spec».nodes (now (image .entry))) (rowsIn (now (image .entry)) (sought (now (table .entry)) symbols) (id .0)) count (now (rows .entry)) r (now (rows .exit)) ⌝ }
+{
+    let pred = NodeId(ast::field(image, id, 0));
+    let args = NodeId(ast::field(image, id, 1));
+    let after = collect_pred_expr(image, table, symbols, rows, count, pred);
+    collect_term_list(image, table, symbols, rows, after, args)
+}
+
+// A defined-then: its variable, if it has one, before its term.
+fn collect_defined(
+    image: &[u8],
+    table: &[u32],
+    symbols: u32,
+    rows: &mut [u32],
+    count: u32,
+    id: NodeId,
+) -> u32
+    requires { ⌜ Ready (now image) (sought (now table) symbols) (kindOf 34) (id .0) count ⌝ }
+    ensures { λ r. ⌜ Appended («image-spec».nodes (now (image .entry))) (rowsIn (now (image .entry)) (sought (now (table .entry)) symbols) (id .0)) count (now (rows .entry)) r (now (rows .exit)) ⌝ }
+{
+    let var = ast::field(image, id, 0);
+    let term = NodeId(ast::field(image, id, 1));
+    if var == 0 {
+        return collect_term(image, table, symbols, rows, count, term);
+    }
+    let after = collect_term(image, table, symbols, rows, count, NodeId(var - 1));
+    collect_term(image, table, symbols, rows, after, term)
+}
+
+fn collect_if_atom(
+    image: &[u8],
+    table: &[u32],
+    symbols: u32,
+    rows: &mut [u32],
+    count: u32,
+    atom: NodeId,
+) -> u32
+    requires { ⌜ Ready (now image) (sought (now table) symbols) (kindOf 28) (atom .0) count ⌝ }
+    ensures { λ r. ⌜ Appended («image-spec».nodes (now (image .entry))) (rowsIn (now (image .entry)) (sought (now (table .entry)) symbols) (atom .0)) count (now (rows .entry)) r (now (rows .exit)) ⌝ }
+{
+    let case = ast::field(image, atom, 0);
+    let id = NodeId(ast::field(image, atom, 1));
+    match case {
+        0 => collect_equal(image, table, symbols, rows, count, id),
+        1 => {
+            let term = NodeId(ast::field(image, id, 0));
+            collect_term(image, table, symbols, rows, count, term)
+        }
+        2 => collect_pred(image, table, symbols, rows, count, id),
+        _ => {
+            let term = NodeId(ast::field(image, id, 0));
+            let typ = NodeId(ast::field(image, id, 1));
+            let after = collect_type_expr(image, table, symbols, rows, count, typ);
+            collect_term(image, table, symbols, rows, after, term)
+        }
+    }
+}
+
+fn collect_then_atom(
+    image: &[u8],
+    table: &[u32],
+    symbols: u32,
+    rows: &mut [u32],
+    count: u32,
+    atom: NodeId,
+) -> u32
+    requires { ⌜ Ready (now image) (sought (now table) symbols) (kindOf 29) (atom .0) count ⌝ }
+    ensures { λ r. ⌜ Appended («image-spec».nodes (now (image .entry))) (rowsIn (now (image .entry)) (sought (now (table .entry)) symbols) (atom .0)) count (now (rows .entry)) r (now (rows .exit)) ⌝ }
+{
+    let case = ast::field(image, atom, 0);
+    let id = NodeId(ast::field(image, atom, 1));
+    match case {
+        0 => collect_equal(image, table, symbols, rows, count, id),
+        1 => collect_defined(image, table, symbols, rows, count, id),
+        _ => collect_pred(image, table, symbols, rows, count, id),
+    }
+}
+
+// The `size` statements from the place `first` of the node's row on.
+fn collect_stmts(
+    image: &[u8],
+    table: &[u32],
+    symbols: u32,
+    rows: &mut [u32],
+    count: u32,
+    node: NodeId,
+    first: usize,
+    size: usize,
+) -> u32
+    requires { ⌜ Run (now image) (sought (now table) symbols) 36 (node .0) first size count ⌝ }
+    ensures { λ r. ⌜ Appended («image-spec».nodes (now (image .entry))) (rowsAt (now (image .entry)) (sought (now (table .entry)) symbols) (node .0) size first) count (now (rows .entry)) r (now (rows .exit)) ⌝ }
+{
+    let mut i = 0;
+    let mut after = count;
+    while i < size {
+        let stmt = NodeId(ast::field(image, node, first + i));
+        after = collect_stmt(image, table, symbols, rows, after, stmt);
+        i += 1;
+    }
+    after
+}
+
+fn collect_stmt(
+    image: &[u8],
+    table: &[u32],
+    symbols: u32,
+    rows: &mut [u32],
+    count: u32,
+    stmt: NodeId,
+) -> u32
+    requires { ⌜ Ready (now image) (sought (now table) symbols) (kindOf 36) (stmt .0) count ⌝ }
+    ensures { λ r. ⌜ Appended («image-spec».nodes (now (image .entry))) (rowsIn (now (image .entry)) (sought (now (table .entry)) symbols) (stmt .0)) count (now (rows .entry)) r (now (rows .exit)) ⌝ }
+{
+    let case = ast::field(image, stmt, 0);
+    let id = NodeId(ast::field(image, stmt, 1));
+    match case {
+        0 => {
+            let atom = NodeId(ast::field(image, id, 0));
+            collect_if_atom(image, table, symbols, rows, count, atom)
+        }
+        1 => {
+            let atom = NodeId(ast::field(image, id, 0));
+            collect_then_atom(image, table, symbols, rows, count, atom)
+        }
+        2 => collect_branch(image, table, symbols, rows, count, id),
+        _ => collect_match(image, table, symbols, rows, count, id),
+    }
+}
+
+// The statements of each block.
+fn collect_branch(
+    image: &[u8],
+    table: &[u32],
+    symbols: u32,
+    rows: &mut [u32],
+    count: u32,
+    id: NodeId,
+) -> u32
+    requires { ⌜ Ready (now image) (sought (now table) symbols) (kindOf 39) (id .0) count ⌝ }
+    ensures { λ r. ⌜ Appended («image-spec».nodes (now (image .entry))) (rowsIn (now (image .entry)) (sought (now (table .entry)) symbols) (id .0)) count (now (rows .entry)) r (now (rows .exit)) ⌝ }
+{
+    let blocks = ast::wide(ast::field(image, id, 0));
+    let mut i = 0;
+    let mut j = 1usize;
+    let mut after = count;
+    while i < blocks {
+        let size = ast::wide(ast::field(image, id, j));
+        after = collect_stmts(image, table, symbols, rows, after, id, j + 1, size);
+        j = j + 1 + size;
+        i += 1;
+    }
+    after
+}
+
+// The matched term, then each case.
+fn collect_match(
+    image: &[u8],
+    table: &[u32],
+    symbols: u32,
+    rows: &mut [u32],
+    count: u32,
+    id: NodeId,
+) -> u32
+    requires { ⌜ Ready (now image) (sought (now table) symbols) (kindOf 40) (id .0) count ⌝ }
+    ensures { λ r. ⌜ Appended («image-spec».nodes (now (image .entry))) (rowsIn (now (image .entry)) (sought (now (table .entry)) symbols) (id .0)) count (now (rows .entry)) r (now (rows .exit)) ⌝ }
+{
+    let term = NodeId(ast::field(image, id, 0));
+    let size = ast::wide(ast::field(image, id, 1));
+    let mut after = collect_term(image, table, symbols, rows, count, term);
+    let mut i = 0;
+    while i < size {
+        let case = NodeId(ast::field(image, id, 2 + i));
+        after = collect_case(image, table, symbols, rows, after, case);
+        i += 1;
+    }
+    after
+}
+
+// The pattern, then the statements.
+fn collect_case(
+    image: &[u8],
+    table: &[u32],
+    symbols: u32,
+    rows: &mut [u32],
+    count: u32,
+    id: NodeId,
+) -> u32
+    requires { ⌜ Ready (now image) (sought (now table) symbols) (kindOf 35) (id .0) count ⌝ }
+    ensures { λ r. ⌜ Appended («image-spec».nodes (now (image .entry))) (rowsIn (now (image .entry)) (sought (now (table .entry)) symbols) (id .0)) count (now (rows .entry)) r (now (rows .exit)) ⌝ }
+{
+    let pattern = NodeId(ast::field(image, id, 0));
+    let size = ast::wide(ast::field(image, id, 1));
+    let after = collect_term(image, table, symbols, rows, count, pattern);
+    collect_stmts(image, table, symbols, rows, after, id, 2, size)
+}
