@@ -10,11 +10,11 @@ use native.Mathlib.Nat.{sub-zero, add-zero, le-trans, eq-or-lt-of-le}
 use lib.Dec.{eqb}
 use lib.ListN.{length, getD, length-append}
 use Rattle.ast.specs.Image.{nodes, kindAt, field}
-use Rattle.ast.specs.Kinds.{Class, inner, plain, term, head, headMember, member, match, case, Field, child, optChild, list, lists, cases, noChild, Kind, kindOf}
+use Rattle.ast.specs.Kinds.{Class, inner, plain, term, head, headMember, member, match, case, Field, name, child, optChild, list, lists, cases, noChild, Kind, kindOf}
 use Rattle.ast.specs.Tree.{Trees, ordered, treeAt}
 use Rattle.ast.specs.Is.{Is, kindBy}
 use Rattle.ast.proofs.Row.{Child, Items, FormedBlocks, FormedFields, FormedRow, next, ends, blocksEnd}
-use Rattle.ast.proofs.Shapes.{termKinds, headKinds, one-more, formed-row, row, child-is, case-child}
+use Rattle.ast.proofs.Shapes.{termKinds, headKinds, one-more, formed-row, row, child-is, case-child, case-last}
 use Rattle.table.specs.Table.{Table}
 use Rattle.rows.specs.Rows.{Row, row as rowOf, Appended}
 use Rattle.rows.proofs.Appends.{appended-none, appended-next}
@@ -49,6 +49,22 @@ left-next {d = d} {l = l} {m} h q a long =
 
 pub left-end : {N c d : ℕ} {w k : List Row} {ws us : List ℕ} → Left N w k c ws d us → k ≡ [] → Appended N w c ws d us
 left-end h e = h .then _ _ (appended-nothing e)
+
+-- the kinds of the children of a type expression's cases, of a predicate expression's, of atoms' and of a statement's
+abbrev typeKinds : List ℕ
+typeKinds = 24 ∷ 17 ∷ 25 ∷ []
+
+abbrev predKinds : List ℕ
+predKinds = 27 ∷ 17 ∷ []
+
+abbrev pub ifKinds : List ℕ
+ifKinds = 30 ∷ 32 ∷ 31 ∷ 33 ∷ []
+
+abbrev pub thenKinds : List ℕ
+thenKinds = 30 ∷ 34 ∷ 31 ∷ []
+
+abbrev pub stmtKinds : List ℕ
+stmtKinds = 37 ∷ 38 ∷ 39 ∷ 40 ∷ []
 
 module _ (img : List ℕ) (t : Table) where
   room-as : {l k : List Row} {c : ℕ} → l ≡ k → Room img t l c → Room img t k c
@@ -216,9 +232,9 @@ module _ (img : List ℕ) (t : Table) where
     pub ready : Ready img t (kindOf k) x d
     pub more : rowsAt img t n (count - i) (j + i) ≡ rowsIn img t x ++ rowsAt img t n (count - (i + 1)) (j + (i + 1))
 
-  pub item : {k n j count i x c d N : ℕ} {w : List Row} {ws us : List ℕ} → bare ((kindOf k) .class) ≡ true → Run img t k n j count c → i < count → x ≡ field img n (j + i)
+  pub item : {k n j count i x b c d N : ℕ} {w : List Row} {ws us : List ℕ} → bare ((kindOf k) .class) ≡ true → Run img t k n j count b → i < count → x ≡ field img n (j + i)
       → Left N w (rowsAt img t n (count - i) (j + i)) c ws d us → Item k n j count i x d
-  item {k} {n} {j} {count} {i} {x} {c} {d} b p l q left =
+  item {k} {n} {j} {count} {i} {x} {d = d} u p l q left =
       subst (λ (y : ℕ). Item k n j count i y d) (sym q)
       (record {
         low = p .lower i l;
@@ -230,13 +246,13 @@ module _ (img : List ℕ) (t : Table) where
       is = record { accepted = p .accepted; below = (let m = p .below in let o = p .lower i l in omega arith); kind = ap kindOf (p .kinds i l) }
 
       more : rowsAt img t n (count - i) (j + i) ≡ rowsIn img t (field img n (j + i)) ++ rowsAt img t n (count - (i + 1)) (j + (i + 1))
-      more = items-rows img t n j count i l is b
+      more = items-rows img t n j count i l is u
 
   runOf : {kd : Kind} {k n j count c : ℕ} → Is img kd n → Items img n k count j → j + count ≤ 8192 → Room img t (rowsAt img t n count j) c → Run img t k n j count c
   runOf is h s room =
       record { accepted = is .accepted; below = is .below; lower = λ i l. h i l .below; kinds = λ i l. h i l .kind; short = s; room = room }
 
-  run-start : (n j count : ℕ) → rowsAt img t n count j ≡ rowsAt img t n (count - 0) (j + 0)
+  pub run-start : (n j count : ℕ) → rowsAt img t n count j ≡ rowsAt img t n (count - 0) (j + 0)
   run-start n j count = ap₂ (rowsAt img t n) (sym (sub-zero count)) (sym (add-zero j))
 
   -- a list: the run of its items
@@ -258,3 +274,129 @@ module _ (img : List ℕ) (t : Table) where
 
   pub ident-fits : (n i : ℕ) {b c : ℕ} → found img t (spot n i) ≡ some b → kindAt img b ≡ 13 → Room img t (identRows img t n i) c → c + 1 < 2 ^ 32
   ident-fits n i {b} e k p = (room-as (ident-var img t n i b e k) p) .fits
+
+  -- type and predicate expressions: the receiver of a member, else nothing
+  leaf : {n d c : ℕ} → Sub (kindBy (inner plain) (name ∷ [])) n d c → rowsIn img t n ≡ []
+  leaf s = s .whole ∙ leaf-rows img t (s .ready .is)
+
+  pub type-member : {n d e c : ℕ} → Ready img t (kindOf 23) n c → 1 ≡ field img n 0 → d ≡ field img n 1 → e ≡ field img d 0 → Sub (kindOf 12) n e c
+  unfolding kindOf bare
+  type-member p q r u = let s = plain-sub typeKinds p 1 q r refl refl in under s (receiver (s .ready) u)
+
+  pub type-none : {n c : ℕ} → Ready img t (kindOf 23) n c → (1 ≡ field img n 0 → ⊥) → rowsIn img t n ≡ []
+  unfolding kindOf bare
+  type-none {n} p h =
+      let l : field img n 0 < 3 = case-last img (inner plain) typeKinds (p .is) in
+      ⊎-elim (λ q. leaf (plain-sub typeKinds p 0 q refl refl refl)) (λ m. leaf (plain-sub typeKinds p 2 (omega arith) refl refl refl)) (eq-or-lt-of-le (let z : 0 ≤ field img n 0 = omega arith in z))
+
+  pub pred-member : {n d e c : ℕ} → Ready img t (kindOf 26) n c → 1 ≡ field img n 0 → d ≡ field img n 1 → e ≡ field img d 0 → Sub (kindOf 12) n e c
+  unfolding kindOf bare
+  pred-member p q r u = let s = plain-sub predKinds p 1 q r refl refl in under s (receiver (s .ready) u)
+
+  pub pred-none : {n c : ℕ} → Ready img t (kindOf 26) n c → (1 ≡ field img n 0 → ⊥) → rowsIn img t n ≡ []
+  unfolding kindOf bare
+  pred-none {n} p h =
+      let l : field img n 0 < 2 = case-last img (inner plain) predKinds (p .is) in
+      leaf (plain-sub predKinds p 0 (omega arith) refl refl refl)
+
+  -- a child, then a list: a match case and a match
+  pub record ChildList (k n a size c : ℕ) : Type 0 where
+    pub low : a < n
+    pub first : Ready img t (kindOf 12) a c
+    pub second : {r : ℕ} → r ≡ c + length (rowsIn img t a) → Run img t k n 2 size r
+    pub whole : rowsIn img t n ≡ rowsIn img t a ++ rowsAt img t n size 2
+
+  childList : (cl : Class) {k n a size c : ℕ} → threads cl ≡ true → ((ts : Trees) → ordered cl ts ≡ ts) → Ready img t (kindBy cl (child 12 ∷ list k ∷ [])) n c
+      → a ≡ field img n 0 → size ≡ field img n 1 → ChildList k n a size c
+  unfolding FormedFields ends next kindOf bare
+  childList cl {k} {n} {a} {size} {c} u straight p q r =
+      subst (λ (x : ℕ). ChildList k n x size c) (sym q) (subst (λ (x : ℕ). ChildList k n (field img n 0) x c) (sym r)
+      (record {
+        low = h .below;
+        first = record { is = is; room = room-first _ _ room };
+        second = λ e. runOf (p .is) ((row img (p .is)) .1 .0) ((formed-row img (p .is)) .short) (room-second (rowsIn img t (field img n 0)) (rowsAt img t n (field img n 1) 2) room e);
+        whole = w;
+      }))
+    where
+      h : Child img n 12 (field img n 0)
+      h = (row img (p .is)) .0
+
+      is : Is img (kindOf 12) (field img n 0)
+      is = child-is img (p .is) h
+
+      w : rowsIn img t n ≡ rowsIn img t (field img n 0) ++ rowsAt img t n (field img n 1) 2
+      w = child-list-rows img t cl (p .is) u straight ∙ ap (λ (l : List Row). l ++ rowsAt img t n (field img n 1) 2) (owner img t is refl n)
+
+      room : Room img t (rowsIn img t (field img n 0) ++ rowsAt img t n (field img n 1) 2) c
+      room = room-as w (p .room)
+
+  pub matchCase : {n a size c : ℕ} → Ready img t (kindOf 35) n c → a ≡ field img n 0 → size ≡ field img n 1 → ChildList 36 n a size c
+  unfolding kindOf threads ordered
+  matchCase p q r = childList (inner case) refl (λ ts. refl) p q r
+
+  pub matchOf : {n a size c : ℕ} → Ready img t (kindOf 40) n c → a ≡ field img n 0 → size ≡ field img n 1 → ChildList 35 n a size c
+  unfolding kindOf threads ordered
+  matchOf p q r = childList (inner match) refl (λ ts. refl) p q r
+
+  -- a loop over the blocks of a branch: after i of them it stands at place j
+  pub record BlocksLeft (N n count i j c : ℕ) (ws : List ℕ) (d : ℕ) (us : List ℕ) : Type 0 where
+    pub within : i ≤ count
+    pub formed : FormedBlocks img n 36 (count - i) j
+    pub short : blocksEnd img n (count - i) j ≤ 8192
+    pub left : Left N (rowsIn img t n) (blockRows img t n (count - i) j) c ws d us
+
+  pub blocks-start : {N n count c : ℕ} {ws : List ℕ} → Ready img t (kindOf 39) n c → count ≡ field img n 0 → BlocksLeft N n count 0 1 c ws c ws
+  unfolding FormedFields ends next kindOf
+  blocks-start {N} {n} {count} {c} {ws} p q =
+      let e : field img n 0 ≡ count - 0 = omega arith in
+      record {
+        within = omega arith;
+        formed = subst (λ (x : ℕ). FormedBlocks img n 36 x 1) e ((row img (p .is)) .0);
+        short = subst (λ (x : ℕ). blocksEnd img n x 1 ≤ 8192) e ((formed-row img (p .is)) .short);
+        left = left-start (branch-rows img t (p .is) ∙ ap (λ (x : ℕ). blockRows img t n x 1) e) (p .room .fits);
+      }
+
+  ends-grows : (n c j : ℕ) → j ≤ blocksEnd img n c j
+  unfolding blocksEnd
+  ends-grows n zero j = omega arith
+  ends-grows n (suc c) j = let h = ends-grows n c (j + 1 + field img n j) in omega arith
+
+  pub blocks-place : {N n count i j c d : ℕ} {ws us : List ℕ} → BlocksLeft N n count i j c ws d us → j ≤ 8192
+  blocks-place {n = n} {count} {i} {j} b = le-trans (ends-grows n (count - i) j) (b .short)
+
+  pub record Block (N n count i j s c : ℕ) (ws : List ℕ) (d : ℕ) (us : List ℕ) : Type 0 where
+    pub run : Run img t 36 n (j + 1) s d
+    pub fits : j + 1 + s ≤ 8192
+    pub more : {e : ℕ} {vs : List ℕ} → Appended N (rowsAt img t n s (j + 1)) d us e vs → length vs ≡ length us → BlocksLeft N n count (i + 1) (j + 1 + s) c ws e vs
+
+  pub blockOf : {N n count i j s c b d : ℕ} {ws us : List ℕ} → Ready img t (kindOf 39) n b → BlocksLeft N n count i j c ws d us → i < count → s ≡ field img n j → Block N n count i j s c ws d us
+  unfolding FormedBlocks blocksEnd
+  blockOf {N} {n} {count} {i} {j} {s} {c} {d = d} {ws} {us} p b l q =
+      subst (λ (x : ℕ). Block N n count i j x c ws d us) (sym q)
+      (record {
+        run = runOf (p .is) (hs .0) fits (room-first _ _ (room-as m (record { sorted = p .room .sorted; fits = b .left .fits })));
+        fits = fits;
+        more = λ a long. record { within = omega arith; formed = hs .1; short = sh; left = left-next (b .left) m a long };
+      })
+    where
+      z : ℕ
+      z = field img n j
+
+      rest : ℕ
+      rest = count - (i + 1)
+
+      hs : FormedBlocks img n 36 (suc rest) j
+      hs = subst (λ (x : ℕ). FormedBlocks img n 36 x j) (one-more l) (b .formed)
+
+      sh : blocksEnd img n rest (j + 1 + z) ≤ 8192
+      sh = subst (λ (x : ℕ). blocksEnd img n x j ≤ 8192) (one-more l) (b .short)
+
+      fits : j + 1 + z ≤ 8192
+      fits = le-trans (ends-grows n rest (j + 1 + z)) sh
+
+      m : blockRows img t n (count - i) j ≡ rowsAt img t n z (j + 1) ++ blockRows img t n rest (j + 1 + z)
+      m = ap (λ (x : ℕ). blockRows img t n x j) (one-more l) ∙ block-more img t n rest j
+
+  pub blocks-end : {N n count i j c d : ℕ} {ws us : List ℕ} → BlocksLeft N n count i j c ws d us → count ≤ i → Appended N (rowsIn img t n) c ws d us
+  blocks-end {n = n} {count} {i} {j} b h =
+      left-end (b .left) (ap (λ (x : ℕ). blockRows img t n x j) (let z : count - i ≡ 0 = omega arith in z) ∙ block-none img t n j)

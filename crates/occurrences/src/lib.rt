@@ -136,14 +136,14 @@ fn collect_type_expr(
     symbols: u32,
     rows: &mut [u32],
     count: u32,
-    type_expr: NodeId,
+    typ: NodeId,
 ) -> u32
-    requires { ⌜ Ready (now image) (sought (now table) symbols) (kindOf 23) (type_expr .0) count ⌝ }
-    ensures { λ r. ⌜ Appended («image-spec».nodes (now (image .entry))) (rowsIn (now (image .entry)) (sought (now (table .entry)) symbols) (type_expr .0)) count (now (rows .entry)) r (now (rows .exit)) ⌝ }
+    requires { ⌜ Ready (now image) (sought (now table) symbols) (kindOf 23) (typ .0) count ⌝ }
+    ensures { λ r. ⌜ Appended («image-spec».nodes (now (image .entry))) (rowsIn (now (image .entry)) (sought (now (table .entry)) symbols) (typ .0)) count (now (rows .entry)) r (now (rows .exit)) ⌝ }
 {
-    let case = ast::field(image, type_expr, 0);
+    let case = ast::field(image, typ, 0);
     if case == 1 {
-        let id = NodeId(ast::field(image, type_expr, 1));
+        let id = NodeId(ast::field(image, typ, 1));
         let receiver = NodeId(ast::field(image, id, 0));
         return collect_term(image, table, symbols, rows, count, receiver);
     }
@@ -156,14 +156,14 @@ fn collect_pred_expr(
     symbols: u32,
     rows: &mut [u32],
     count: u32,
-    pred_expr: NodeId,
+    pred: NodeId,
 ) -> u32
-    requires { ⌜ Ready (now image) (sought (now table) symbols) (kindOf 26) (pred_expr .0) count ⌝ }
-    ensures { λ r. ⌜ Appended («image-spec».nodes (now (image .entry))) (rowsIn (now (image .entry)) (sought (now (table .entry)) symbols) (pred_expr .0)) count (now (rows .entry)) r (now (rows .exit)) ⌝ }
+    requires { ⌜ Ready (now image) (sought (now table) symbols) (kindOf 26) (pred .0) count ⌝ }
+    ensures { λ r. ⌜ Appended («image-spec».nodes (now (image .entry))) (rowsIn (now (image .entry)) (sought (now (table .entry)) symbols) (pred .0)) count (now (rows .entry)) r (now (rows .exit)) ⌝ }
 {
-    let case = ast::field(image, pred_expr, 0);
+    let case = ast::field(image, pred, 0);
     if case == 1 {
-        let id = NodeId(ast::field(image, pred_expr, 1));
+        let id = NodeId(ast::field(image, pred, 1));
         let receiver = NodeId(ast::field(image, id, 0));
         return collect_term(image, table, symbols, rows, count, receiver);
     }
