@@ -1,2 +1,3 @@
 pub mod CollectRows
 pub mod CollectSteps
+pub mod CollectRules

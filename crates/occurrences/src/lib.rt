@@ -2,13 +2,14 @@
 ghost use mathlib.Core.Path.{_≡_};
 ghost use mathlib.Core.List.{[], _∷_};
 ghost use Prim.Native.Nat.{_+_, _<_, _≤_, _^_};
+ghost use Rattle.ast.specs.Scan.{claimAll};
 ghost use Rattle.ast.specs.Image as «image-spec»;
 ghost use Rattle.ast.specs.Kinds.{kindOf};
 ghost use Rattle.table.specs.Rows.{Sorted};
 ghost use Rattle.table.specs.Values.{optionOf};
-ghost use Rattle.rows.specs.Rows.{Appended};
+ghost use Rattle.rows.specs.Rows.{rights, Appended};
 ghost use Rattle.occurrences.specs.Occurrences.{found};
-ghost use Rattle.occurrences.specs.Collect.{sought, spot, identRows, rowsIn, rowsAt, Room, Ready, Run};
+ghost use Rattle.occurrences.specs.Collect.{sought, spot, identRows, rowsIn, rowsAt, Room, Ready, Run, joined, listsIn, listsAt, Listing, ListingRun, readRows, under, uncounted, loneOf, Scratch, Searched};
 use ast::NodeId;
 use table::Found;
 use table::ScopeId;
@@ -391,4 +392,10 @@ fn collect_case(
     let size = ast::wide(ast::field(image, id, 1));
     let after = collect_term(image, table, symbols, rows, count, pattern);
     collect_stmts(image, table, symbols, rows, after, id, 2, size)
+}
+
+// What the check of a rule or of declarations gives: no lone occurrence, or the first one with its binding.
+pub enum Checked {
+    Ok,
+    Lone(NodeId, NodeId),
 }
