@@ -1,3 +1,4 @@
 pub mod CollectRows
 pub mod CollectSteps
 pub mod CollectRules
+pub mod CollectLone
