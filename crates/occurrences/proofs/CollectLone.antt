@@ -8,23 +8,29 @@ use native.Mathlib.Omega.{arith}
 use native.Mathlib.Nat.{sub-zero}
 use native.Mathlib.Decide.{decLt}
 use lib.Dec.{eqb, leb, ltb}
-use lib.ListN.{length, getD, set, replicate, length-set, length-replicate, getD-replicate}
+use lib.ListN.{length, length-append, getD, set, replicate, length-set, length-replicate, getD-replicate}
 use lib.Seq.{getD-set-same, getD-set-other, ext-getD}
 use borrow.Author.Tests.{eq-eqb, ne-eqb, eqb-true, eqb-false, le-leb, lt-leb}
-use Rattle.ast.specs.Image.{nodes, kindAt, nameOf}
+use Rattle.ast.specs.Image.{nodes, kindAt, field, nameOf}
+use Rattle.ast.specs.Kinds.{kindOf}
+use Rattle.ast.specs.Items.{items}
 use Rattle.ast.specs.Scan.{bump, claimAll}
+use Rattle.ast.specs.declared.NodeId.{NodeId}
 use Rattle.ast.specs.Tests.{is, times}
+use Rattle.ast.proofs.Accepted.{sized}
 use Rattle.ast.proofs.Count.{is-same, is-other}
 use Rattle.ast.proofs.Runs.{sat, claimed-times}
-use Rattle.ast.proofs.Unfold.{All, nil, cons}
+use Rattle.ast.proofs.Unfold.{All, nil, cons, All-map}
 use Rattle.table.specs.Layout.{nodePlace}
-use Rattle.table.specs.Table.{Table, rowIs, findFrom, climb, lookup}
+use Rattle.table.specs.Table.{Table, rowIs, findFrom, climb, lookup, exitAt}
 use Rattle.table.specs.Rows.{nodeAt}
 use Rattle.rows.specs.Rows.{Row, row, rights, rowsLength, putRows, Appended}
-use Rattle.occurrences.specs.Sight.{Spot}
+use Rattle.occurrences.specs.Sight.{Spot, spotsSeq}
 use Rattle.occurrences.specs.Occurrences.{found, listed, rowsFor, timesBound, loneIn, lone}
-use Rattle.occurrences.specs.Collect.{readRows, under, uncounted, loneOf, Scratch, Searched}
+use Rattle.occurrences.specs.Collect.{rowsAt, joined, listsIn, listsAt, Listing, ListingRun, readRows, under, uncounted, loneOf, Scratch, Searched}
 use Rattle.occurrences.specs.declared.Checked.{Checked}
+use Rattle.occurrences.specs.declared.Checked.the-variants.{Ok, Lone}
+use Rattle.occurrences.proofs.CollectRules.{joined-append, items-lists, items-done, items-all, RuleRun, ruleRun, DeclItem, declItem}
 
 -- rows read back ----------------------------------------------------------------------------------------------------------
 -- a place that no row takes
@@ -160,3 +166,214 @@ module _ (N : ℕ) (ws : List ℕ) (c : ℕ) where
     pub under-end : {i : ℕ} → Under i → c ≤ i → nothing ≡ under us (readRows N ws c 0)
     unfolding under
     under-end {i} u h = sym (u .left ∙ ap (under us) (read-end N ws c i h))
+
+-- bindings are nodes ----------------------------------------------------------------------------------------------------------
+module _ (img : List ℕ) (t : Table) (low : (j : ℕ) → j < t .symbols → nodeAt (nodes img) (t .words) j < nodes img) where
+  find-low : (c j s x m : ℕ) → j + c ≤ t .symbols → findFrom img c (t .words) j s x ≡ some m → m < nodes img
+  unfolding findFrom
+  find-low zero j s x m h e = absurd (let z : _≡_ {A = ℕ} 0 1 = cc in omega arith)
+  find-low (suc c) j s x m h e = go (rowIs img (t .words) j s x) e (find-low c (j + 1) s x m (omega arith))
+    where
+      go : (b : Bool) → _≡_ {A = Option ℕ} (elim b [ true ↦ some (nodeAt (nodes img) (t .words) j) | false ↦ findFrom img c (t .words) (j + 1) s x ]) (some m)
+          → (findFrom img c (t .words) (j + 1) s x ≡ some m → m < nodes img) → m < nodes img
+      go true q f = let z : nodeAt (nodes img) (t .words) j ≡ m = cc in let l = low j (omega arith) in omega arith
+      go false q f = f q
+
+  climb-low : (f s x m : ℕ) → climb img f (t .words) (t .symbols) s x ≡ some m → m < nodes img
+  unfolding climb
+  climb-low zero s x m e = absurd (let z : _≡_ {A = ℕ} 0 1 = cc in omega arith)
+  climb-low (suc f) s x m e = go (findFrom img (t .symbols) (t .words) 0 s x) refl e (λ q. climb-low f (getD (t .words) (3 + 2 * nodes img + s) 0) x m q)
+    where
+      p : ℕ
+      p = getD (t .words) (3 + 2 * nodes img + s) 0
+
+      up : (b : Bool) → _≡_ {A = Option ℕ} (elim b [ true ↦ climb img f (t .words) (t .symbols) p x | false ↦ nothing ]) (some m) → (climb img f (t .words) (t .symbols) p x ≡ some m → m < nodes img) → m < nodes img
+      up true q h = h q
+      up false q h = absurd (let z : _≡_ {A = ℕ} 0 1 = cc in omega arith)
+
+      go : (o : Option ℕ) → findFrom img (t .symbols) (t .words) 0 s x ≡ o
+          → _≡_ {A = Option ℕ} (elim o [ some n ↦ some n | nothing ↦ elim (ltb p s) [ true ↦ climb img f (t .words) (t .symbols) p x | false ↦ nothing ] ]) (some m) → (climb img f (t .words) (t .symbols) p x ≡ some m → m < nodes img) → m < nodes img
+      go (some n) q r h = find-low (t .symbols) 0 s x m (omega arith) (q ∙ r)
+      go nothing q r h = up (ltb p s) r h
+
+  listed-low : (n : ℕ) (o : Option ℕ) (l : List Row) → ((m : ℕ) → o ≡ some m → m < nodes img) → All (λ v. v < nodes img) (rights l) → All (λ v. v < nodes img) (rights (listed img t n o l))
+  unfolding listed rights
+  listed-low n nothing l h a = a
+  listed-low n (some i) l h a = go (eqb (kindAt img i) 13)
+    where
+      go : (b : Bool) → All (λ v. v < nodes img) (rights (elim b as (λ _. List Row) [ true ↦ row n i ∷ l | false ↦ l ]))
+      go true = cons (h i refl) a
+      go false = a
+
+  pub rights-low : (l : List Spot) → All (λ v. v < nodes img) (rights (rowsFor img t l))
+  unfolding rowsFor rights lookup
+  rights-low [] = nil
+  rights-low (s ∷ l) = listed-low (s .node) (found img t s) (rowsFor img t l) (λ m e. climb-low (suc (exitAt img (t .words) (s .node))) (exitAt img (t .words) (s .node)) (nameOf img (s .ident)) m e) (rights-low l)
+
+-- counts and lone rows ----------------------------------------------------------------------------------------------------------
+times-rights : (b : ℕ) (l : List Row) → timesBound b l ≡ times b (rights l)
+unfolding timesBound times rights
+times-rights b [] = refl
+times-rights b (w ∷ l) = go (eqb b (w .right)) refl (times-rights b l)
+  where
+    go : (c : Bool) → eqb b (w .right) ≡ c → timesBound b l ≡ times b (rights l) → _≡_ {A = ℕ} (elim c [ true ↦ suc (timesBound b l) | false ↦ timesBound b l ]) (is b (w .right) + times b (rights l))
+    go true e h = let z : is b (w .right) ≡ 1 = ap (is b) (sym (eqb-true _ _ e)) ∙ is-same b in omega arith
+    go false e h = let z = is-other b (w .right) (eqb-false _ _ e) in omega arith
+
+sat-two : (x : ℕ) → leb 2 (sat x) ≡ leb 2 x
+unfolding sat
+sat-two zero = refl
+sat-two (suc zero) = refl
+sat-two (suc (suc x)) = sym (le-leb 2 (suc (suc x)) (omega arith))
+
+-- the search by counts is the search of the definition
+under-lone : (all l : List Row) → All (λ v. v < 2048) (rights l) → under (claimAll (rights all) (replicate 2048 0)) l ≡ loneIn all l
+unfolding under loneIn rights
+under-lone all [] a = refl
+under-lone all (w ∷ l) (cons h a) =
+    ap₂ (λ (b : Bool) (o : Option Row). elim b as (λ _. Option Row) [ true ↦ o | false ↦ some w ])
+    (ap (leb 2) (claimed-times (w .right) (rights all) h ∙ ap sat (sym (times-rights (w .right) all))) ∙ sat-two (timesBound (w .right) all))
+    (under-lone all l a)
+
+same-or : (a b : ℕ) → Dec (a ≡ b)
+same-or a b = pick (decLt a b) (decLt b a)
+  where
+    pick : Dec (a < b) → Dec (b < a) → Dec (a ≡ b)
+    pick (yes l) q = no (λ e. omega arith)
+    pick (no l) (yes k) = no (λ e. omega arith)
+    pick (no l) (no k) = yes (omega arith)
+
+-- a count that is 0, or whose binding is still to come, ends as 0
+uncounted-at : (v : ℕ) (bs us : List ℕ) → v < length us → (times v bs ≡ 0 → getD us v 0 ≡ 0) → getD (uncounted bs us) v 0 ≡ 0
+unfolding uncounted times
+uncounted-at v [] us l h = h refl
+uncounted-at v (b ∷ bs) us l h = go (same-or v b) (uncounted-at v bs (set us b 0) (rw length-set l))
+  where
+    go : Dec (v ≡ b) → ((times v bs ≡ 0 → getD (set us b 0) v 0 ≡ 0) → getD (uncounted bs (set us b 0)) v 0 ≡ 0) → getD (uncounted bs (set us b 0)) v 0 ≡ 0
+    go (yes q) f = f (λ z. rw q (getD-set-same us b 0 0 (rw q at l)))
+    go (no q) f = f (λ z. getD-set-other us b v 0 0 q ∙ h (let o = is-other v b q in omega arith))
+
+claims-length : (bs us : List ℕ) → length (claimAll bs us) ≡ length us
+unfolding claimAll
+claims-length [] us = refl
+claims-length (b ∷ bs) us = claims-length bs (set us b (bump (getD us b 0))) ∙ length-set us b (bump (getD us b 0))
+
+uncounted-length : (bs us : List ℕ) → length (uncounted bs us) ≡ length us
+unfolding uncounted
+uncounted-length [] us = refl
+uncounted-length (b ∷ bs) us = uncounted-length bs (set us b 0) ∙ length-set us b 0
+
+-- counted and uncounted, nothing is counted
+back-to-zeros : (bs : List ℕ) → uncounted bs (claimAll bs (replicate 2048 0)) ≡ replicate 2048 0
+unfolding sat
+back-to-zeros bs =
+    ext-getD 0 _ _ (uncounted-length bs _ ∙ claims-length bs _)
+    (λ v l. let h : v < 2048 = subst (λ (x : ℕ). v < x) (uncounted-length bs _ ∙ claims-length bs _ ∙ length-replicate {A = ℕ} 2048 0) l in
+    uncounted-at v bs (claimAll bs (replicate 2048 0)) (subst (λ (x : ℕ). v < x) (uncounted-length bs _) l) (λ z. claimed-times v bs h ∙ ap sat z) ∙ sym (getD-replicate 2048 v 0 0 h))
+
+lone-single : (l : List Row) → lone (l ∷ []) ≡ loneIn l l
+unfolding lone
+lone-single l = go (loneIn l l)
+  where
+    go : (o : Option Row) → _≡_ {A = Option Row} (elim o [ nothing ↦ lone [] | some w ↦ some w ]) o
+    go nothing = refl
+    go (some w) = refl
+
+-- the checks --------------------------------------------------------------------------------------------------------------------
+lone-skip : (a b : List (List Row)) → lone a ≡ nothing → lone (a ++ b) ≡ lone b
+unfolding lone
+lone-skip [] b e = refl
+lone-skip (l ∷ a) b e = go (loneIn l l) e (lone-skip a b)
+  where
+    go : (o : Option Row) → _≡_ {A = Option Row} (elim o [ nothing ↦ lone a | some w ↦ some w ]) nothing → (lone a ≡ nothing → lone (a ++ b) ≡ lone b)
+        → _≡_ {A = Option Row} (elim o [ nothing ↦ lone (a ++ b) | some w ↦ some w ]) (lone b)
+    go nothing q f = f q
+    go (some w) q f = absurd (let z : _≡_ {A = ℕ} 0 1 = cc in omega arith)
+
+lone-hit : (a b : List (List Row)) (w : Row) → lone a ≡ some w → lone (a ++ b) ≡ some w
+unfolding lone
+lone-hit [] b w e = absurd (let z : _≡_ {A = ℕ} 0 1 = cc in omega arith)
+lone-hit (l ∷ a) b w e = go (loneIn l l) e (lone-hit a b w)
+  where
+    go : (o : Option Row) → _≡_ {A = Option Row} (elim o [ nothing ↦ lone a | some v ↦ some v ]) (some w) → (lone a ≡ some w → lone (a ++ b) ≡ some w)
+        → _≡_ {A = Option Row} (elim o [ nothing ↦ lone (a ++ b) | some v ↦ some v ]) (some w)
+    go nothing q f = f q
+    go (some v) q f = q
+
+pub lone-none : nothing ≡ lone []
+unfolding lone
+lone-none = refl
+
+module _ (img : List ℕ) (t : Table) where
+  -- a rule: its rows collected, counted, searched, uncounted
+  pub searched : {rule n r : ℕ} {ws vs cs us zs : List ℕ} {x : Checked} → Listing img t (kindOf 6) rule 0 → Scratch img t ws cs → n ≡ nodes img
+      → Appended (nodes img) (joined (listsIn img t rule)) 0 ws r vs → us ≡ claimAll (rights (readRows n vs r 0)) cs → loneOf x ≡ under us (readRows n vs r 0)
+      → zs ≡ uncounted (rights (readRows n vs r 0)) us → Searched (listsIn img t rule) cs x zs
+  unfolding rowsAt
+  searched {rule} {n} {r} {ws} {vs} {cs} {us} {zs} {x} p s q a counts found cleared =
+      record {
+        lone-is = found ∙ ap₂ under by read ∙ under-lone l l few ∙ sym (lone-single l) ∙ sym (ap lone (u .single));
+        clean = cleared ∙ ap₂ (λ (k : List Row) (ys : List ℕ). uncounted (rights k) ys) read by ∙ back-to-zeros (rights l) ∙ sym (s .zeros);
+      }
+    where
+      u : RuleRun img t rule (field img rule 1) 0
+      u = ruleRun img t p refl
+
+      l : List Row
+      l = rowsAt img t rule (field img rule 1) 2
+
+      read : readRows n vs r 0 ≡ l
+      read =
+          ap (λ (m : ℕ). readRows m vs r 0) q
+          ∙ read-appended (subst (λ (k : List Row). Appended (nodes img) k 0 ws r vs) (u .whole) a)
+          (let f = subst (λ (k : List Row). 0 + length k ≤ nodes img) (u .whole) (p .few) in omega arith) (s .long)
+
+      by : us ≡ claimAll (rights l) (replicate 2048 0)
+      by = counts ∙ ap₂ (λ (k : List Row) (ys : List ℕ). claimAll (rights k) ys) read (s .zeros)
+
+      few : All (λ v. v < 2048) (rights l)
+      few = let z = (sized img (p .is .accepted)) .fewNodes in All-map (λ c h. omega arith) (rights-low img t (s .symbols) (spotsSeq rule (items img rule (field img rule 1) 2)))
+
+  -- a loop over declarations that found none yet
+  pub record ChecksLeft (n j count i : ℕ) (ws vs cs us : List ℕ) : Type 0 where
+    pub within : i ≤ count
+    pub few : 0 + length (joined (listsAt img t n (count - i) (j + i))) ≤ nodes img
+    pub same : lone (listsAt img t n count j) ≡ lone (listsAt img t n (count - i) (j + i))
+    pub long : length vs ≡ length ws
+    pub clean : us ≡ cs
+
+  pub checks-start : {n j count : ℕ} {ws cs : List ℕ} → ListingRun img t n j count 0 → ChecksLeft n j count 0 ws ws cs cs
+  checks-start {n} {j} {count} p =
+      let e = items-all img t n j count in
+      record { within = omega arith; few = subst (λ (l : List (List Row)). 0 + length (joined l) ≤ nodes img) e (p .few); same = ap lone e; long = refl; clean = refl }
+
+  pub checks-item : {n j count i x : ℕ} {ws vs cs us : List ℕ} → ListingRun img t n j count 0 → ChecksLeft n j count i ws vs cs us → i < count → x ≡ field img n (j + i) → DeclItem img t n j count i x 0
+  checks-item p k l q = declItem img t p l q (k .few)
+
+  pub checks-scratch : {n j count i : ℕ} {ws vs cs us : List ℕ} → Scratch img t ws cs → ChecksLeft n j count i ws vs cs us → Scratch img t vs us
+  checks-scratch s k = record { symbols = s .symbols; long = (let a = s .long in let b = k .long in omega arith); zeros = k .clean ∙ s .zeros }
+
+  pub checks-next : {n j count i x : ℕ} {ws vs zs cs us os : List ℕ} {r : Checked} → ChecksLeft n j count i ws vs cs us → i < count → DeclItem img t n j count i x 0 → Searched (listsIn img t x) us r os → r ≡ Ok → length zs ≡ length vs
+      → ChecksLeft n j count (i + 1) ws zs cs os
+  checks-next {n} {j} {count} {i} {x} {r = r} k l d f e long =
+      record {
+        within = omega arith;
+        few = (let g = k .few in let a = ap (λ (m : List (List Row)). length (joined m)) (d .more) ∙ ap length (joined-append (listsIn img t x) rest) ∙ length-append (joined (listsIn img t x)) (joined rest) in omega arith);
+        same = k .same ∙ ap lone (d .more) ∙ lone-skip (listsIn img t x) rest (sym (f .lone-is) ∙ ap loneOf e);
+        long = long ∙ k .long;
+        clean = f .clean ∙ k .clean;
+      }
+    where
+      rest : List (List Row)
+      rest = listsAt img t n (count - (i + 1)) (j + (i + 1))
+
+  pub checks-found : {n j count i x : ℕ} {ws vs cs us os : List ℕ} {r : Checked} {a b : NodeId} → ChecksLeft n j count i ws vs cs us → DeclItem img t n j count i x 0 → Searched (listsIn img t x) us r os → r ≡ Lone a b
+      → Searched (listsAt img t n count j) cs (Lone a b) os
+  checks-found {n} {j} {count} {i} {x} {a = a} {b} k d f e =
+      record {
+        lone-is = sym (k .same ∙ ap lone (d .more) ∙ lone-hit (listsIn img t x) (listsAt img t n (count - (i + 1)) (j + (i + 1))) (row (a .0) (b .0)) (sym (f .lone-is) ∙ ap loneOf e));
+        clean = f .clean ∙ k .clean;
+      }
+
+  pub checks-end : {n j count i : ℕ} {ws vs cs us : List ℕ} → ChecksLeft n j count i ws vs cs us → count ≤ i → Searched (listsAt img t n count j) cs Ok us
+  checks-end {n} {j} {count} {i} k h = record { lone-is = lone-none ∙ sym (k .same ∙ ap lone (items-done img t n j count i h)); clean = k .clean }
