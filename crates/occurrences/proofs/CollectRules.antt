@@ -22,11 +22,12 @@ use Rattle.ast.proofs.Accepted.{sized}
 use Rattle.ast.proofs.Count.{nodesOf, nodesAll}
 use Rattle.table.specs.Table.{Table, lookup}
 use Rattle.table.specs.Rows.{Sorted}
-use Rattle.rows.specs.Rows.{Row, row as rowOf}
+use Rattle.rows.specs.Rows.{Row, row as rowOf, Appended}
 use Rattle.occurrences.specs.Sight.{Spot, spots, spotsSeq, spotsBack, spotsFirst, ruleSpots, orElse, Rule, saysAll, rules, rulesAll, rulesOf, moduleRules}
 use Rattle.occurrences.specs.Occurrences.{found, listed, rowsFor, ruleRows, allRows, occurrenceRows, rowsByRule}
 use Rattle.occurrences.specs.Collect.{sought, rowsIn, rowsAt, joined, listsIn, listsAt, Room, Run, Listing, ListingRun}
 use Rattle.occurrences.proofs.CollectRows.{bare, rows-append, owner}
+use Rattle.occurrences.proofs.CollectSteps.{Left, left-start, left-next, left-end, left-count}
 
 pub joined-append : (a b : List (List Row)) → joined (a ++ b) ≡ joined a ++ joined b
 unfolding joined
@@ -346,3 +347,23 @@ module _ (img : List ℕ) (t : Table) where
         };
         more = m;
       })
+
+  -- the loop over a list of declarations
+  pub decls-start : {n j count c : ℕ} {ws : List ℕ} → ListingRun img t n j count c
+      → Left (nodes img) (joined (listsAt img t n count j)) (joined (listsAt img t n (count - 0) (j + 0))) c ws c ws
+  decls-start {n} {j} {count} p = left-start (ap joined (items-all n j count)) (let f = p .few in let z = (sized img (p .accepted)) .fewNodes in omega arith)
+
+  pub decls-item : {n j count i x c d : ℕ} {ws us : List ℕ} → ListingRun img t n j count c → i < count → x ≡ field img n (j + i)
+      → Left (nodes img) (joined (listsAt img t n count j)) (joined (listsAt img t n (count - i) (j + i))) c ws d us → DeclItem n j count i x d
+  decls-item p l q h = declItem p l q (let e = left-count h in let f = p .few in omega arith)
+
+  pub decls-next : {n j count i x c d e : ℕ} {ws us vs : List ℕ} → Left (nodes img) (joined (listsAt img t n count j)) (joined (listsAt img t n (count - i) (j + i))) c ws d us
+      → DeclItem n j count i x d → Appended (nodes img) (joined (listsIn img t x)) d us e vs → length vs ≡ length us
+      → Left (nodes img) (joined (listsAt img t n count j)) (joined (listsAt img t n (count - (i + 1)) (j + (i + 1)))) c ws e vs
+  decls-next {n} {j} {count} {i} {x} h k a long =
+      left-next h (ap joined (k .more) ∙ joined-append (listsIn img t x) (listsAt img t n (count - (i + 1)) (j + (i + 1)))) a long
+
+  pub decls-end : (n j : ℕ) {count i c d : ℕ} {ws us : List ℕ} → Left (nodes img) (joined (listsAt img t n count j)) (joined (listsAt img t n (count - i) (j + i))) c ws d us → count ≤ i
+      → Appended (nodes img) (joined (listsAt img t n count j)) c ws d us
+  unfolding joined
+  decls-end n j {count} {i} h l = left-end h (ap joined (items-done n j count i l))

@@ -16,7 +16,7 @@ use Rattle.ast.specs.Is.{Is, kindBy}
 use Rattle.ast.proofs.Row.{Child, Items, FormedBlocks, FormedFields, FormedRow, next, ends, blocksEnd}
 use Rattle.ast.proofs.Shapes.{termKinds, headKinds, one-more, formed-row, row, child-is, case-child, case-last}
 use Rattle.table.specs.Table.{Table}
-use Rattle.rows.specs.Rows.{Row, row as rowOf, Appended}
+use Rattle.rows.specs.Rows.{Row, row as rowOf, putRows, Appended}
 use Rattle.rows.proofs.Appends.{appended-none, appended-next}
 use Rattle.occurrences.specs.Sight.{spots, spotsFirst}
 use Rattle.occurrences.specs.Occurrences.{found, rowsFor}
@@ -49,6 +49,10 @@ left-next {d = d} {l = l} {m} h q a long =
 
 pub left-end : {N c d : ℕ} {w k : List Row} {ws us : List ℕ} → Left N w k c ws d us → k ≡ [] → Appended N w c ws d us
 left-end h e = h .then _ _ (appended-nothing e)
+
+-- what stands and what is left is the whole
+pub left-count : {N c d : ℕ} {w k : List Row} {ws us : List ℕ} → Left N w k c ws d us → d + length k ≡ c + length w
+left-count {N} {d = d} {k = k} {us = us} h = (h .then (d + length k) (putRows N d k us) (record { count = refl; words = refl })) .count
 
 -- the kinds of the children of a type expression's cases, of a predicate expression's, of atoms' and of a statement's
 abbrev typeKinds : List ℕ

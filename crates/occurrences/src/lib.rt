@@ -2,7 +2,8 @@
 ghost use mathlib.Core.Path.{_≡_};
 ghost use mathlib.Core.List.{[], _∷_};
 ghost use Prim.Native.Nat.{_+_, _<_, _≤_, _^_};
-ghost use Rattle.ast.specs.Scan.{claimAll};
+ghost use lib.ListN.{getD, set};
+ghost use Rattle.ast.specs.Scan.{bump, claimAll};
 ghost use Rattle.ast.specs.Image as «image-spec»;
 ghost use Rattle.ast.specs.Kinds.{kindOf};
 ghost use Rattle.table.specs.Rows.{Sorted};
@@ -394,8 +395,191 @@ fn collect_case(
     collect_stmts(image, table, symbols, rows, after, id, 2, size)
 }
 
+fn collect_rule(
+    image: &[u8],
+    table: &[u32],
+    symbols: u32,
+    rows: &mut [u32],
+    count: u32,
+    rule: NodeId,
+) -> u32
+    requires { ⌜ Listing (now image) (sought (now table) symbols) (kindOf 6) (rule .0) count ⌝ }
+    ensures { λ r. ⌜ Appended («image-spec».nodes (now (image .entry))) (joined (listsIn (now (image .entry)) (sought (now (table .entry)) symbols) (rule .0))) count (now (rows .entry)) r (now (rows .exit)) ⌝ }
+{
+    let size = ast::wide(ast::field(image, rule, 1));
+    collect_stmts(image, table, symbols, rows, count, rule, 2, size)
+}
+
+fn collect_decl(
+    image: &[u8],
+    table: &[u32],
+    symbols: u32,
+    rows: &mut [u32],
+    count: u32,
+    decl: NodeId,
+) -> u32
+    requires { ⌜ Listing (now image) (sought (now table) symbols) (kindOf 1) (decl .0) count ⌝ }
+    ensures { λ r. ⌜ Appended («image-spec».nodes (now (image .entry))) (joined (listsIn (now (image .entry)) (sought (now (table .entry)) symbols) (decl .0))) count (now (rows .entry)) r (now (rows .exit)) ⌝ }
+{
+    let case = ast::field(image, decl, 0);
+    let id = NodeId(ast::field(image, decl, 1));
+    match case {
+        4 => collect_rule(image, table, symbols, rows, count, id),
+        6 => {
+            let size = ast::wide(ast::field(image, id, 1));
+            collect_decls(image, table, symbols, rows, count, id, 2, size)
+        }
+        _ => count,
+    }
+}
+
+// The `size` declarations from the place `first` of the node's row on.
+fn collect_decls(
+    image: &[u8],
+    table: &[u32],
+    symbols: u32,
+    rows: &mut [u32],
+    count: u32,
+    node: NodeId,
+    first: usize,
+    size: usize,
+) -> u32
+    requires { ⌜ ListingRun (now image) (sought (now table) symbols) (node .0) first size count ⌝ }
+    ensures { λ r. ⌜ Appended («image-spec».nodes (now (image .entry))) (joined (listsAt (now (image .entry)) (sought (now (table .entry)) symbols) (node .0) size first)) count (now (rows .entry)) r (now (rows .exit)) ⌝ }
+{
+    let mut i = 0;
+    let mut after = count;
+    while i < size {
+        let decl = NodeId(ast::field(image, node, first + i));
+        after = collect_decl(image, table, symbols, rows, after, decl);
+        i += 1;
+    }
+    after
+}
+
 // What the check of a rule or of declarations gives: no lone occurrence, or the first one with its binding.
 pub enum Checked {
     Ok,
     Lone(NodeId, NodeId),
+}
+
+// One more for the binding: 0, 1, or 2 for several.
+fn count_binding(counts: &mut [u32], binding: usize)
+    ensures { λ _. ⌜ now (counts .exit) ≡ set (now (counts .entry)) binding (bump (getD (now (counts .entry)) binding 0)) ⌝ }
+{
+    if table::get(counts, binding) == 0 {
+        table::put(counts, binding, 1);
+    } else {
+        table::put(counts, binding, 2);
+    }
+}
+
+// One more for the binding of each row.
+fn count_bindings(rows: &[u32], n: u32, count: u32, counts: &mut [u32])
+    ensures { λ _. ⌜ now (counts .exit) ≡ claimAll (rights (readRows n (now (rows .entry)) count 0)) (now (counts .entry)) ⌝ }
+{
+    let mut i = 0u32;
+    while i < count {
+        let binding = table::get(rows, 1 + ast::wide(n) + ast::wide(i));
+        count_binding(counts, ast::wide(binding));
+        i += 1;
+    }
+}
+
+// The first row whose binding is counted under two times.
+fn first_lone(rows: &[u32], n: u32, count: u32, counts: &[u32]) -> Checked
+    ensures { λ r. ⌜ loneOf r ≡ under (now (counts .entry)) (readRows n (now (rows .entry)) count 0) ⌝ }
+{
+    let mut i = 0u32;
+    while i < count {
+        let binding = table::get(rows, 1 + ast::wide(n) + ast::wide(i));
+        if table::get(counts, ast::wide(binding)) < 2 {
+            let node = table::get(rows, 1 + ast::wide(i));
+            return Checked::Lone(NodeId(node), NodeId(binding));
+        }
+        i += 1;
+    }
+    Checked::Ok
+}
+
+// The counts of the rows' bindings set back to 0.
+fn uncount(rows: &[u32], n: u32, count: u32, counts: &mut [u32])
+    ensures { λ _. ⌜ now (counts .exit) ≡ uncounted (rights (readRows n (now (rows .entry)) count 0)) (now (counts .entry)) ⌝ }
+{
+    let mut i = 0u32;
+    while i < count {
+        let binding = table::get(rows, 1 + ast::wide(n) + ast::wide(i));
+        table::put(counts, ast::wide(binding), 0);
+        i += 1;
+    }
+}
+
+// Counts are per binding and per rule: the rule's rows are collected, counted, and the first lone one is found.
+fn check_rule(
+    image: &[u8],
+    table: &[u32],
+    symbols: u32,
+    rows: &mut [u32],
+    counts: &mut [u32],
+    rule: NodeId,
+) -> Checked
+    requires { ⌜ (Listing (now image) (sought (now table) symbols) (kindOf 6) (rule .0) 0) × (Scratch (now image) (sought (now table) symbols) (now rows) (now counts)) ⌝ }
+    ensures { λ r. ⌜ Searched (listsIn (now (image .entry)) (sought (now (table .entry)) symbols) (rule .0)) (now (counts .entry)) r (now (counts .exit)) ⌝ }
+{
+    let n = ast::node_count(image);
+    let count = collect_rule(image, table, symbols, rows, 0, rule);
+    count_bindings(rows, n, count, counts);
+    let found = first_lone(rows, n, count, counts);
+    uncount(rows, n, count, counts);
+    found
+}
+
+fn check_decl(
+    image: &[u8],
+    table: &[u32],
+    symbols: u32,
+    rows: &mut [u32],
+    counts: &mut [u32],
+    decl: NodeId,
+) -> Checked
+    requires { ⌜ (Listing (now image) (sought (now table) symbols) (kindOf 1) (decl .0) 0) × (Scratch (now image) (sought (now table) symbols) (now rows) (now counts)) ⌝ }
+    ensures { λ r. ⌜ Searched (listsIn (now (image .entry)) (sought (now (table .entry)) symbols) (decl .0)) (now (counts .entry)) r (now (counts .exit)) ⌝ }
+{
+    let case = ast::field(image, decl, 0);
+    let id = NodeId(ast::field(image, decl, 1));
+    match case {
+        4 => check_rule(image, table, symbols, rows, counts, id),
+        6 => {
+            let size = ast::wide(ast::field(image, id, 1));
+            check_decls(image, table, symbols, rows, counts, id, 2, size)
+        }
+        _ => Checked::Ok,
+    }
+}
+
+fn check_decls(
+    image: &[u8],
+    table: &[u32],
+    symbols: u32,
+    rows: &mut [u32],
+    counts: &mut [u32],
+    node: NodeId,
+    first: usize,
+    size: usize,
+) -> Checked
+    requires { ⌜ (ListingRun (now image) (sought (now table) symbols) (node .0) first size 0) × (Scratch (now image) (sought (now table) symbols) (now rows) (now counts)) ⌝ }
+    ensures { λ r. ⌜ Searched (listsAt (now (image .entry)) (sought (now (table .entry)) symbols) (node .0) size first) (now (counts .entry)) r (now (counts .exit)) ⌝ }
+{
+    let mut i = 0;
+    while i < size {
+        let decl = NodeId(ast::field(image, node, first + i));
+        match check_decl(image, table, symbols, rows, counts, decl) {
+            Checked::Ok => {}
+            Checked::Lone(node, binding) => {
+                return Checked::Lone(node, binding);
+            }
+        }
+        i += 1;
+    }
+    Checked::Ok
 }
