@@ -300,9 +300,15 @@ lone-hit (l ∷ a) b w e = go (loneIn l l) e (lone-hit a b w)
     go nothing q f = f q
     go (some v) q f = q
 
-pub lone-none : nothing ≡ lone []
+lone-none : nothing ≡ lone []
 unfolding lone
 lone-none = refl
+
+pub searched-as : {a b : List (List Row)} {cs us : List ℕ} {r : Checked} → a ≡ b → Searched b cs r us → Searched a cs r us
+searched-as e f = record { lone-is = f .lone-is ∙ sym (ap lone e); clean = f .clean }
+
+pub searched-nothing : {a : List (List Row)} {cs : List ℕ} → a ≡ [] → Searched a cs Ok cs
+searched-nothing e = record { lone-is = lone-none ∙ sym (ap lone e); clean = refl }
 
 module _ (img : List ℕ) (t : Table) where
   -- a rule: its rows collected, counted, searched, uncounted
