@@ -1,0 +1,117 @@
+-- What the walk keeps of its table: the rows stand by rising scope, all below the count of scopes.
+use mathlib.Core.Path.{_≡_, refl, sym, ap, subst, _∙_}
+use mathlib.Core.Logic.{⊎-elim}
+use mathlib.Core.List.{List}
+use Prim.Native.Nat.{ℕ, zero, suc, _+_, _*_, _-_, _<_, _≤_}
+use native.Mathlib.Omega.{arith}
+use native.Mathlib.Nat.{eq-or-lt-of-le}
+use lib.ListN.{length, getD, set, drop, length-set}
+use lib.Seq.{getD-set-same, getD-set-other, drop-set-lt}
+use Rattle.ast.specs.Image.{nodes}
+use Rattle.table.specs.Layout.{tableLength}
+use Rattle.table.specs.Rows.{scopeOf, Sorted}
+use Rattle.table.specs.Table.{Table, markWords, mark, newScope, newSymbol}
+
+module _ (img : List ℕ) where
+  -- the rows stand by rising scope, each of a scope that is there
+  pub record Kept (t : Table) : Type 0 where
+    pub rising : Sorted (nodes img) (t .symbols) (t .words)
+    pub under : (j : ℕ) → j < t .symbols → scopeOf (nodes img) (t .words) j < t .scopes
+
+  -- a store before the rows keeps them
+  stored : (ws : List ℕ) (i v j : ℕ) → i < 3 + 3 * nodes img → scopeOf (nodes img) (set ws i v) j ≡ scopeOf (nodes img) ws j
+  stored ws i v j h = getD-set-other ws i (3 + 3 * nodes img + j) v 0 (λ q. omega arith)
+
+  pub mark-rows : (n a b : ℕ) (t : Table) → n < nodes img → (j : ℕ) → scopeOf (nodes img) ((mark img n a b t) .words) j ≡ scopeOf (nodes img) (t .words) j
+  unfolding mark
+  mark-rows n a b t h j = stored (set (t .words) (3 + n) a) (3 + nodes img + n) b j (omega arith) ∙ stored (t .words) (3 + n) a j (omega arith)
+
+  pub mark-length : (n a b : ℕ) (t : Table) → length ((mark img n a b t) .words) ≡ length (t .words)
+  unfolding mark
+  mark-length n a b t = length-set (set (t .words) (3 + n) a) (3 + nodes img + n) b ∙ length-set (t .words) (3 + n) a
+
+  pub scope-length : (p : ℕ) (t : Table) → length ((newScope img p t) .words) ≡ length (t .words)
+  unfolding newScope
+  scope-length p t = length-set (t .words) (3 + 2 * nodes img + t .scopes) p
+
+  pub scope-rows : (p : ℕ) (t : Table) → t .scopes < nodes img → (j : ℕ) → scopeOf (nodes img) ((newScope img p t) .words) j ≡ scopeOf (nodes img) (t .words) j
+  unfolding newScope
+  scope-rows p t h j = stored (t .words) (3 + 2 * nodes img + t .scopes) p j (omega arith)
+
+  pub symbol-rows : (s n : ℕ) (t : Table) (j : ℕ) → j < t .symbols → scopeOf (nodes img) ((newSymbol img s n t) .words) j ≡ scopeOf (nodes img) (t .words) j
+  unfolding newSymbol
+  symbol-rows s n t j h =
+      getD-set-other (set (t .words) (3 + 3 * nodes img + t .symbols) s) (3 + 4 * nodes img + t .symbols) (3 + 3 * nodes img + j) n 0 (λ q. omega arith)
+      ∙ getD-set-other (t .words) (3 + 3 * nodes img + t .symbols) (3 + 3 * nodes img + j) s 0 (λ q. omega arith)
+
+  -- the words past the table
+  abbrev pub past : Table → List ℕ
+  past t = drop (tableLength (nodes img)) (t .words)
+
+  pub mark-past : (n a b : ℕ) (t : Table) → n < nodes img → past (mark img n a b t) ≡ past t
+  unfolding mark
+  mark-past n a b t h =
+      drop-set-lt (tableLength (nodes img)) (set (t .words) (3 + n) a) (3 + nodes img + n) b (omega arith)
+      ∙ drop-set-lt (tableLength (nodes img)) (t .words) (3 + n) a (omega arith)
+
+  pub scope-past : (p : ℕ) (t : Table) → t .scopes < nodes img → past (newScope img p t) ≡ past t
+  unfolding newScope
+  scope-past p t h = drop-set-lt (tableLength (nodes img)) (t .words) (3 + 2 * nodes img + t .scopes) p (omega arith)
+
+  pub symbol-past : (s n : ℕ) (t : Table) → t .symbols < nodes img → past (newSymbol img s n t) ≡ past t
+  unfolding newSymbol
+  symbol-past s n t h =
+      drop-set-lt (tableLength (nodes img)) (set (t .words) (3 + 3 * nodes img + t .symbols) s) (3 + 4 * nodes img + t .symbols) n (omega arith)
+      ∙ drop-set-lt (tableLength (nodes img)) (t .words) (3 + 3 * nodes img + t .symbols) s (omega arith)
+
+  -- the same rows, and as many
+  kept-same : (t u : Table) → u .symbols ≡ t .symbols → t .scopes ≤ u .scopes → length (u .words) ≡ length (t .words)
+      → ((j : ℕ) → scopeOf (nodes img) (u .words) j ≡ scopeOf (nodes img) (t .words) j) → Kept t → Kept u
+  kept-same t u y k l r s =
+      record {
+        rising = record { within = (let w = s .rising .within in omega arith); long = (let z = s .rising .long in omega arith); rises = λ i j a b. let p = r i in let q = r j in let z = s .rising .rises i j a (omega arith) in omega arith };
+        under = λ j b. let q = r j in let z = s .under j (omega arith) in omega arith;
+      }
+
+  pub mark-kept : (n a b : ℕ) (t : Table) → n < nodes img → Kept t → Kept (mark img n a b t)
+  unfolding mark
+  mark-kept n a b t h s =
+      kept-same t (mark img n a b t) refl (omega arith) (mark-length n a b t) (mark-rows n a b t h) s
+
+  pub scope-kept : (p : ℕ) (t : Table) → t .scopes < nodes img → Kept t → Kept (newScope img p t)
+  unfolding newScope
+  scope-kept p t h s = kept-same t (newScope img p t) refl (omega arith) (scope-length p t) (scope-rows p t h) s
+
+  pub new-row : (s n : ℕ) (t : Table) → t .symbols < nodes img → 3 + 5 * nodes img ≤ length (t .words) → scopeOf (nodes img) ((newSymbol img s n t) .words) (t .symbols) ≡ s
+  unfolding newSymbol
+  new-row s n t h l =
+      getD-set-other (set (t .words) (3 + 3 * nodes img + t .symbols) s) (3 + 4 * nodes img + t .symbols) (3 + 3 * nodes img + t .symbols) n 0 (λ q. omega arith)
+      ∙ getD-set-same (t .words) (3 + 3 * nodes img + t .symbols) s 0 (omega arith)
+
+  pub symbol-length : (s n : ℕ) (t : Table) → length ((newSymbol img s n t) .words) ≡ length (t .words)
+  unfolding newSymbol
+  symbol-length s n t = length-set (set (t .words) (3 + 3 * nodes img + t .symbols) s) (3 + 4 * nodes img + t .symbols) n ∙ length-set (t .words) (3 + 3 * nodes img + t .symbols) s
+
+  -- a symbol of the newest scope
+  pub symbol-kept : (s n : ℕ) (t : Table) → t .symbols < nodes img → suc s ≡ t .scopes → Kept t → Kept (newSymbol img s n t)
+  unfolding newSymbol
+  symbol-kept s n t h e d =
+      record {
+        rising = record { within = omega arith; long = (let z = symbol-length s n t in let y = d .rising .long in omega arith); rises = λ i j a b. ⊎-elim (λ q. last i j a q) (λ l. older i j a l) (eq-or-lt-of-le (let z : j ≤ t .symbols = omega arith in z)) };
+        under = λ j b. ⊎-elim (λ q. let z = ap (scopeOf (nodes img) u) q in let w = new in omega arith) (λ l. let z = symbol-rows s n t j l in let y = d .under j l in omega arith) (eq-or-lt-of-le (let z : j ≤ t .symbols = omega arith in z));
+      }
+    where
+      u : List ℕ
+      u = (newSymbol img s n t) .words
+
+      new : scopeOf (nodes img) u (t .symbols) ≡ s
+      new = new-row s n t h (d .rising .long)
+
+      older : (i j : ℕ) → i ≤ j → j < t .symbols → scopeOf (nodes img) u i ≤ scopeOf (nodes img) u j
+      older i j a l = let p = symbol-rows s n t i (omega arith) in let q = symbol-rows s n t j l in let z = d .rising .rises i j a l in omega arith
+
+      last : (i j : ℕ) → i ≤ j → j ≡ t .symbols → scopeOf (nodes img) u i ≤ scopeOf (nodes img) u j
+      last i j a q =
+          let z = ap (scopeOf (nodes img) u) q in
+          let w = new in
+          ⊎-elim (λ p. let y = ap (scopeOf (nodes img) u) p in omega arith) (λ l. let y = symbol-rows s n t i (omega arith) in let x = d .under i (omega arith) in omega arith) (eq-or-lt-of-le a)

@@ -1,0 +1,157 @@
+-- What a walk over a statement is.
+use mathlib.Core.Path.{_≡_, refl, sym, ap, subst, _∙_}
+use mathlib.Core.List.{List, [], _∷_}
+use Prim.Native.Nat.{ℕ, zero, suc, _+_, _-_, _<_, _≤_}
+use native.Mathlib.Omega.{arith}
+use native.Mathlib.Nat.{sub-zero, le-refl, le-trans}
+use lib.ListN.{length}
+use Rattle.ast.specs.Image.{field}
+use Rattle.ast.specs.Is.{Is, kindBy}
+use Rattle.ast.specs.Items.{items, blocks}
+use Rattle.ast.specs.Kinds.{Class, child, list, kindOf}
+use Rattle.ast.specs.Tree.{Tree, Trees}
+use Rattle.table.specs.State.{Exit, marked, back}
+use Rattle.ast.proofs.Row.{append-none, next, ends, blocksEnd, nodeOf, Child, Items, FormedBlocks, FormedFields}
+use Rattle.ast.proofs.Shapes.{one-more, formed-row, row, tree-of, child-is}
+use Rattle.ast.proofs.Small.{blocks-small}
+use Rattle.ordered.specs.Walk.{occurs, walk, walkSeq}
+use Rattle.ordered.specs.Walkers.{over, rest, Ready, Run}
+use Rattle.ordered.proofs.Grows.{Grows, stays, further, back-grows, seq-grows}
+use Rattle.ordered.proofs.Steps.{part-room}
+use Rattle.ordered.proofs.Lists.{rest-start, rest-grows, runOf}
+
+module _ (img : List ℕ) where
+  -- a row of a child and a list ends soon enough
+  tail-short : {cl : Class} {k l n : ℕ} → Is img (kindBy cl (child k ∷ list l ∷ [])) n → 2 + field img n 1 ≤ 8192
+  unfolding ends next
+  tail-short is = (formed-row img is) .short
+
+  -- a match case: its pattern, then its statements ------------------------------------------------------------------
+  case-whole : {n : ℕ} (e : Exit) → Is img (kindOf 35) n → over img n e ≡ marked img n (e .scope) (back img (e .scope) (walkSeq img occurs (items img n (field img n 1) 2) (over img (field img n 0) e)))
+  unfolding walk nodeOf kindOf
+  case-whole {n} e is =
+      ap (λ (u : Tree). walk img occurs u e) (tree-of img is)
+      ∙ ap (λ (us : Trees). marked img n (e .scope) (back img (e .scope) (walkSeq img occurs us (over img (field img n 0) e)))) (append-none (items img n (field img n 1) 2))
+
+  pub record MatchCase (n c count : ℕ) (e : Exit) : Type 0 where
+    pub low : c < n
+    pub first : Ready img (kindOf 12) c e
+    pub second : Run img 36 n 2 count (over img c e)
+    pub whole : over img n e ≡ marked img n (e .scope) (back img (e .scope) (rest img occurs n 2 count 0 (over img c e)))
+
+  pub matchCase : {n c count : ℕ} {e : Exit} → Ready img (kindOf 35) n e → c ≡ field img n 0 → count ≡ field img n 1 → MatchCase n c count e
+  unfolding FormedFields next kindOf
+  matchCase {n} {c} {count} {e} p q r =
+      let h : Child img n 12 (field img n 0) = (row img (p .is)) .0 in
+      let hs : Items img n 36 (field img n 1) 2 = (row img (p .is)) .1 .0 in
+      let w = case-whole e (p .is) ∙ ap (λ (f : Exit). marked img n (e .scope) (back img (e .scope) f)) (rest-start img occurs n 2 (field img n 1) (over img (field img n 0) e)) in
+      subst (λ (x : ℕ). MatchCase n x count e) (sym q) (subst (λ (x : ℕ). MatchCase n (field img n 0) x e) (sym r)
+      (record {
+        low = h .below;
+        first = record { is = child-is img (p .is) h; room = part-room img p w (back-grows img (e .scope) (rest-grows img occurs n 2 (field img n 1) 0 _)) };
+        second = runOf img (p .is) hs (tail-short (p .is)) (part-room img p w (back-grows img (e .scope) (stays _)));
+        whole = w;
+      }))
+
+  -- a match: its term, then its cases, each of which drops what it adds ------------------------------------------------
+  pub record MatchOf (n c : ℕ) (e : Exit) : Type 0 where
+    pub low : c < n
+    pub first : Ready img (kindOf 12) c e
+    pub second : Run img 35 n 2 (field img n 1) (over img c e)
+    pub whole : over img n e ≡ marked img n (e .scope) (rest img occurs n 2 (field img n 1) 0 (over img c e))
+
+  match-whole : {n : ℕ} (e : Exit) → Is img (kindOf 40) n → over img n e ≡ marked img n (e .scope) (walkSeq img occurs (items img n (field img n 1) 2) (over img (field img n 0) e))
+  unfolding walk nodeOf kindOf
+  match-whole {n} e is =
+      ap (λ (u : Tree). walk img occurs u e) (tree-of img is)
+      ∙ ap (λ (us : Trees). marked img n (e .scope) (walkSeq img occurs us (over img (field img n 0) e))) (append-none (items img n (field img n 1) 2))
+
+  pub matchOf : {n c : ℕ} {e : Exit} → Ready img (kindOf 40) n e → c ≡ field img n 0 → MatchOf n c e
+  unfolding FormedFields next kindOf
+  matchOf {n} {c} {e} p q =
+      let h : Child img n 12 (field img n 0) = (row img (p .is)) .0 in
+      let hs : Items img n 35 (field img n 1) 2 = (row img (p .is)) .1 .0 in
+      let w = match-whole e (p .is) ∙ ap (marked img n (e .scope)) (rest-start img occurs n 2 (field img n 1) (over img (field img n 0) e)) in
+      subst (λ (x : ℕ). MatchOf n x e) (sym q)
+      (record {
+        low = h .below;
+        first = record { is = child-is img (p .is) h; room = part-room img p w (rest-grows img occurs n 2 (field img n 1) 0 _) };
+        second = runOf img (p .is) hs (tail-short (p .is)) (part-room img p w (stays _));
+        whole = w;
+      })
+
+  -- a branch: each block from the scope before it --------------------------------------------------------------------
+  pub branch-whole : {n : ℕ} (e : Exit) → Is img (kindOf 39) n → over img n e ≡ marked img n (e .scope) (walkSeq img occurs (blocks img n (field img n 0) 1) e)
+  unfolding walk nodeOf kindOf
+  branch-whole {n} e is =
+      ap (λ (u : Tree). walk img occurs u e) (tree-of img is)
+      ∙ ap (λ (us : Trees). marked img n (e .scope) (walkSeq img occurs us e)) (append-none (blocks img n (field img n 0) 1))
+
+  ends-grows : (n c j : ℕ) → j ≤ blocksEnd img n c j
+  unfolding blocksEnd
+  ends-grows n zero j = le-refl j
+  ends-grows n (suc c) j = let h = ends-grows n c (j + 1 + field img n j) in omega arith
+
+  blocks-grows : (n c j : ℕ) (e : Exit) → Grows img e (walkSeq img occurs (blocks img n c j) e)
+  blocks-grows n c j e = seq-grows img occurs _ (blocks-small img n c j) e
+
+  blocks-step : (n c j : ℕ) (e : Exit) → walkSeq img occurs (blocks img n (suc c) j) e ≡ walkSeq img occurs (blocks img n c (j + 1 + field img n j)) (back img (e .scope) (rest img occurs n (j + 1) (field img n j) 0 e))
+  unfolding walk blocks
+  blocks-step n c j e = ap (λ (f : Exit). walkSeq img occurs (blocks img n c (j + 1 + field img n j)) (back img (e .scope) f)) (rest-start img occurs n (j + 1) (field img n j) e)
+
+  pub blocks-end : (n c j : ℕ) (e : Exit) → c ≡ 0 → walkSeq img occurs (blocks img n c j) e ≡ e
+  unfolding walk blocks
+  blocks-end n c j e h = ap (λ (x : ℕ). walkSeq img occurs (blocks img n x j) e) h
+
+  -- a loop over blocks: after i of them it stands at place j and at f
+  pub record BlocksLeft (n i j : ℕ) (e f : Exit) : Type 0 where
+    pub within : i ≤ field img n 0
+    pub formed : FormedBlocks img n 36 (field img n 0 - i) j
+    pub short : blocksEnd img n (field img n 0 - i) j ≤ 8192
+    pub long : length (f .table .words) ≡ length (e .table .words)
+    pub left : walkSeq img occurs (blocks img n (field img n 0) 1) e ≡ walkSeq img occurs (blocks img n (field img n 0 - i) j) f
+
+  pub branch-start : {n : ℕ} {e : Exit} → Is img (kindOf 39) n → BlocksLeft n 0 1 e e
+  unfolding FormedFields ends next kindOf
+  branch-start {n} {e} is =
+      record {
+        within = omega arith;
+        formed = subst (λ (c : ℕ). FormedBlocks img n 36 c 1) (sym (sub-zero (field img n 0))) ((row img is) .0);
+        short = subst (λ (c : ℕ). blocksEnd img n c 1 ≤ 8192) (sym (sub-zero (field img n 0))) ((formed-row img is) .short);
+        long = refl;
+        left = ap (λ (c : ℕ). walkSeq img occurs (blocks img n c 1) e) (sym (sub-zero (field img n 0)));
+      }
+
+  pub branch-place : {n i j : ℕ} {e f : Exit} → BlocksLeft n i j e f → j ≤ 8192
+  branch-place {n} {i} {j} p = le-trans (ends-grows n (field img n 0 - i) j) (p .short)
+
+  -- one block more, of size s
+  pub record BlockItem (n i j s : ℕ) (e f : Exit) : Type 0 where
+    pub run : Run img 36 n (j + 1) s f
+    pub fits : j + 1 + s ≤ 8192
+    pub more : (g : Exit) → g ≡ back img (f .scope) (rest img occurs n (j + 1) s 0 f) → length (g .table .words) ≡ length (e .table .words) → BlocksLeft n (i + 1) (j + 1 + s) e g
+
+  pub blockItem : {n i j s : ℕ} {e f : Exit} → Ready img (kindOf 39) n e → BlocksLeft n i j e f → i < field img n 0 → s ≡ field img n j → BlockItem n i j s e f
+  unfolding FormedBlocks blocksEnd
+  blockItem {n} {i} {j} {s} {e} {f} p b l q =
+      subst (λ (x : ℕ). BlockItem n i j x e f) (sym q)
+      (record {
+        run = runOf img (p .is) (hs .0) (le-trans (ends-grows n c (j + 1 + z)) sh) (part-room img p (branch-whole e (p .is) ∙ ap (marked img n (e .scope)) m) (further (back-grows img (f .scope) (stays _)) (blocks-grows n c (j + 1 + z) _)));
+        fits = le-trans (ends-grows n c (j + 1 + z)) sh;
+        more = λ g w long. record { within = omega arith; formed = hs .1; short = sh; long = long; left = m ∙ ap (walkSeq img occurs (blocks img n c (j + 1 + z))) (sym w) };
+      })
+    where
+      z : ℕ
+      z = field img n j
+
+      c : ℕ
+      c = field img n 0 - (i + 1)
+
+      hs : FormedBlocks img n 36 (suc c) j
+      hs = subst (λ (x : ℕ). FormedBlocks img n 36 x j) (one-more l) (b .formed)
+
+      sh : blocksEnd img n c (j + 1 + z) ≤ 8192
+      sh = subst (λ (x : ℕ). blocksEnd img n x j ≤ 8192) (one-more l) (b .short)
+
+      m : walkSeq img occurs (blocks img n (field img n 0) 1) e ≡ walkSeq img occurs (blocks img n c (j + 1 + z)) (back img (f .scope) (rest img occurs n (j + 1) z 0 f))
+      m = b .left ∙ ap (λ (x : ℕ). walkSeq img occurs (blocks img n x j) f) (one-more l) ∙ blocks-step n c j f

@@ -1,0 +1,48 @@
+use mathlib.Core.Path.{_≡_, refl, sym, ap, subst, _∙_}
+use native.Mathlib.Omega.{arith}
+use Rattle.table.specs.State.{Exit, introduce, childScope, ownSymbol}
+use Rattle.table.specs.Table.{isValue, newScope, newSymbol}
+use Rattle.table.specs.Values.{exitOf, optionOf}
+use Rattle.ordered.specs.Walkers.{Room}
+use Rattle.ordered.proofs.Steps.{ident-rising, ident-known, ident-new}
+use borrow.Author.Needs.{needs}
+use Rattle.ordered.proofs.bind_ident.Statement.{statement}
+use Rattle.ordered.proofs.bind_ident.Tie as tie
+
+name-of-requires : tie.Need-name-of-requires
+name-of-requires c κs = search needs
+
+seek-requires : tie.Need-seek-requires
+seek-requires c κs = ident-rising _ _ _ _ (c .before .before .before .before .before .pre)
+
+is-value-requires : tie.Need-is-value-requires
+is-value-requires c κs = search needs
+
+same-length : tie.Need-same-length
+same-length c = search needs
+
+returns : tie.Need-returns
+returns c = sym (ident-known _ _ _ _ _ (c .before .before .before .before .before .name-of .ensures) (c .before .before .seek .ensures) (sym (c .before .is-value .ensures) ∙ c .if1 .taken))
+
+insert-var-symbol-requires : tie.Need-insert-var-symbol-requires
+unfolding introduce childScope ownSymbol newScope newSymbol
+insert-var-symbol-requires c κs = let r = subst (Room (c .before .before .before .before .before .before .before .before .before .args .image .now)) (ident-new _ _ (exitOf (c .before .before .before .before .before .before .before .before .before .args .at) (c .before .before .before .before .before .before .before .before .before .args .table .now)) _ _ (c .before .before .before .before .before .before .name-of .ensures) (c .before .before .before .seek .ensures) (sym (c .before .before .is-value .ensures) ∙ c .before .if1 .left)) (c .before .before .before .before .before .before .before .before .before .pre) in omega arith
+
+same-length-2 : tie.Need-same-length-2
+same-length-2 c = search needs
+
+returns-2 : tie.Need-returns-2
+returns-2 c = c .before .before .insert-var-symbol .ensures ∙ sym (ident-new _ _ (exitOf (c .before .before .before .before .before .before .before .before .before .before .before .before .args .at) (c .before .before .before .before .before .before .before .before .before .before .before .before .args .table .now)) _ _ (c .before .before .before .before .before .before .before .before .before .name-of .ensures) (c .before .before .before .before .before .before .seek .ensures) (sym (c .before .before .before .before .before .is-value .ensures) ∙ c .before .before .before .before .if1 .left))
+
+pub bind-ident-spec : {M : Type 1} → statement M
+bind-ident-spec =
+    tie.close
+    (tie.spec
+    name-of-requires
+    seek-requires
+    is-value-requires
+    same-length
+    returns
+    insert-var-symbol-requires
+    same-length-2
+    returns-2)

@@ -1,0 +1,50 @@
+use mathlib.Core.Path.{_≡_, refl, sym, ap, subst, _∙_}
+use native.Mathlib.Omega.{arith}
+use mathlib.Core.List.{[], _∷_}
+use Prim.Native.Nat.{suc, _-_}
+use Rattle.ast.specs.Kinds.{kindOf}
+use Rattle.ast.specs.Tree.{treeAt}
+use Rattle.table.specs.State.{Exit, marked}
+use Rattle.ordered.specs.Walk.{occurs, defines, walk}
+use Rattle.ordered.specs.Walkers.{Ready, over, Variable}
+use Rattle.ordered.proofs.Atoms.{plain-wrapped, plain-last, leaf-step, type-leaf, var-ident, var-other, ifVarOf, definedOf}
+use Rattle.ordered.proofs.Steps.{one, two, plain-whole, term-whole-as}
+use borrow.Author.Needs.{needs}
+use Rattle.ordered.proofs.walk_pred_atom.Statement.{statement}
+use Rattle.ordered.proofs.walk_pred_atom.Tie as tie
+
+field-requires : tie.Need-field-requires
+field-requires c κs = search needs
+
+field-requires-2 : tie.Need-field-requires-2
+field-requires-2 c κs = search needs
+
+walk-pred-expr-requires : tie.Need-walk-pred-expr-requires
+unfolding kindOf
+walk-pred-expr-requires c κs = (two _ (c .before .before .before .before .before .pre) (c .before .before .field .ensures) (c .before .field2 .ensures)) .first
+
+walk-term-list-requires : tie.Need-walk-term-list-requires
+unfolding kindOf
+walk-term-list-requires c κs = subst (Ready _ _ _) (sym (c .before .before .before .walk-pred-expr .ensures)) ((two _ (c .before .before .before .before .before .before .before .before .before .pre) (c .before .before .before .before .before .before .field .ensures) (c .before .before .before .before .before .field2 .ensures)) .second)
+
+leave-requires : tie.Need-leave-requires
+leave-requires c κs = search needs
+
+same-length : tie.Need-same-length
+same-length c = search needs
+
+returns : tie.Need-returns
+unfolding kindOf
+returns c = c .before .before .leave .ensures ∙ ap (marked _ _ _) (c .before .before .before .before .before .before .walk-term-list .ensures ∙ ap (over _ _) (c .before .before .before .before .before .before .before .before .before .before .walk-pred-expr .ensures)) ∙ sym ((two _ (c .before .before .before .before .before .before .before .before .before .before .before .before .before .before .before .before .pre) (c .before .before .before .before .before .before .before .before .before .before .before .before .before .field .ensures) (c .before .before .before .before .before .before .before .before .before .before .before .before .field2 .ensures)) .whole)
+
+pub walk-pred-atom-spec : {M : Type 1} → statement M
+walk-pred-atom-spec =
+    tie.close
+    (tie.spec
+    field-requires
+    field-requires-2
+    walk-pred-expr-requires
+    walk-term-list-requires
+    leave-requires
+    same-length
+    returns)

@@ -1,0 +1,42 @@
+use mathlib.Core.Path.{_≡_, sym, ap, subst, _∙_}
+use borrow.Author.Needs.{needs}
+use Rattle.ast.specs.Tree.{treeAt}
+use Rattle.table.specs.State.{Exit, marked}
+use Rattle.ordered.specs.Walk.{declares, walk}
+use Rattle.ordered.specs.Walkers.{Variable}
+use Rattle.ordered.proofs.Atoms.{ifVarOf}
+use Rattle.ordered.proofs.walk_var_atom.Statement.{statement}
+use Rattle.ordered.proofs.walk_var_atom.Tie as tie
+
+field-requires : tie.Need-field-requires
+field-requires c κs = search needs
+
+field-requires-2 : tie.Need-field-requires-2
+field-requires-2 c κs = search needs
+
+walk-type-expr-requires : tie.Need-walk-type-expr-requires
+walk-type-expr-requires c κs = (ifVarOf _ (c .before .before .before .before .before .pre) (c .before .before .field .ensures) (c .before .field2 .ensures)) .first
+
+walk-var-term-requires : tie.Need-walk-var-term-requires
+walk-var-term-requires c κs = subst (λ (f : Exit). Variable (c .before .before .before .before .before .before .before .before .before .args .image .now) (f .scope) (c .before .before .before .before .before .before .field .result) f) (sym (c .before .before .before .walk-type-expr .ensures)) ((ifVarOf _ (c .before .before .before .before .before .before .before .before .before .pre) (c .before .before .before .before .before .before .field .ensures) (c .before .before .before .before .before .field2 .ensures)) .second)
+
+leave-requires : tie.Need-leave-requires
+leave-requires c κs = search needs
+
+same-length : tie.Need-same-length
+same-length c = search needs
+
+returns : tie.Need-returns
+returns c = c .before .before .leave .ensures ∙ ap (marked _ _ _) (c .before .before .before .before .before .before .walk-var-term .ensures ∙ ap (walk _ declares _) (c .before .before .before .before .before .before .before .before .before .before .walk-type-expr .ensures)) ∙ sym ((ifVarOf _ (c .before .before .before .before .before .before .before .before .before .before .before .before .before .before .before .before .pre) (c .before .before .before .before .before .before .before .before .before .before .before .before .before .field .ensures) (c .before .before .before .before .before .before .before .before .before .before .before .before .field2 .ensures)) .whole)
+
+pub walk-var-atom-spec : {M : Type 1} → statement M
+walk-var-atom-spec =
+    tie.close
+    (tie.spec
+    field-requires
+    field-requires-2
+    walk-type-expr-requires
+    walk-var-term-requires
+    leave-requires
+    same-length
+    returns)
