@@ -1,5 +1,4 @@
--- The rows of the rules of declarations: what names mean outside does not matter, what each kind of declaration adds, and
--- that there are at most as many rows as nodes.
+-- The rows of the rules of declarations: what names mean outside does not matter, and what each kind of declaration adds.
 use mathlib.Core.Path.{_≡_, refl, sym, ap, ap₂, subst, _∙_}
 use mathlib.Core.Bool.{Bool, true, false}
 use mathlib.Core.Logic.{⊎-elim}
@@ -18,14 +17,14 @@ use Rattle.ast.specs.Is.{Is, kindBy}
 use Rattle.ast.specs.Tests.{verdict}
 use Rattle.ast.proofs.Row.{append, append-none, Child, Items, FormedFields, allKids, next, ends, nodeOf}
 use Rattle.ast.proofs.Shapes.{tree-of, formed-row, row, child-is, items-more, case-kids, case-one, case-child, case-last}
-use Rattle.ast.proofs.Accepted.{sized}
-use Rattle.ast.proofs.Count.{nodesOf, nodesAll}
+use Rattle.ast.proofs.Accepted.{sized, formed, last-below}
+use Rattle.ast.proofs.Formed.{Formed}
 use Rattle.table.specs.Table.{Table, lookup}
 use Rattle.table.specs.Rows.{Sorted}
 use Rattle.rows.specs.Rows.{Row, row as rowOf, Appended}
 use Rattle.occurrences.specs.Sight.{Spot, spots, spotsSeq, spotsBack, spotsFirst, ruleSpots, orElse, Rule, saysAll, rules, rulesAll, rulesOf, moduleRules}
 use Rattle.occurrences.specs.Occurrences.{found, listed, rowsFor, ruleRows, allRows, occurrenceRows, rowsByRule}
-use Rattle.occurrences.specs.Collect.{sought, rowsIn, rowsAt, joined, listsIn, listsAt, Room, Run, Listing, ListingRun}
+use Rattle.occurrences.specs.Collect.{sought, rowsIn, rowsAt, joined, listsIn, listsAt, Room, Run, Listing, ListingRun, Whole}
 use Rattle.occurrences.proofs.CollectRows.{bare, rows-append, owner}
 use Rattle.occurrences.proofs.CollectSteps.{Left, left-start, left-next, left-end, left-count}
 
@@ -62,98 +61,6 @@ module _ (img : List ℕ) (t : Table) where
     free-all m k none = refl
     free-all m k (u ◂ us) =
         lists-append (rules img m u) (rulesAll img m us) ∙ ap₂ _++_ (free m k u) (free-all m k us) ∙ sym (lists-append (rules img k u) (rulesAll img k us))
-
-  -- a row for a spot at most, a spot for a node at most
-  listed-few : (n : ℕ) (o : Option ℕ) (l : List Row) → length (listed img t n o l) ≤ suc (length l)
-  unfolding listed
-  listed-few n nothing l = omega arith
-  listed-few n (some i) l = go (eqb (kindAt img i) 13)
-    where
-      go : (b : Bool) → length {A = Row} (elim b [ true ↦ rowOf n i ∷ l | false ↦ l ]) ≤ suc (length l)
-      go true = omega arith
-      go false = omega arith
-
-  rows-few : (l : List Spot) → length (rowsFor img t l) ≤ length l
-  unfolding rowsFor
-  rows-few [] = omega arith
-  rows-few (s ∷ l) = let h = listed-few (s .node) (found img t s) (rowsFor img t l) in let k = rows-few l in omega arith
-
-mutual
-  unfolding spots nodesOf
-
-  spots-few : (o : ℕ) (u : Tree) → length (spots o u) ≤ length (nodesOf u)
-  spots-few o (block ts) = seq-few o ts
-  spots-few o (node n k (outer c) sh ts) = omega arith
-  spots-few o (node n k (inner plain) sh ts) = let h = seq-few n ts in omega arith
-  spots-few o (node n k (inner term) sh ts) = let h = seq-few n ts in omega arith
-  spots-few o (node n k (inner ident) sh ts) = omega arith
-  spots-few o (node n k (inner head) sh ts) = let h = seq-few n ts in omega arith
-  spots-few o (node n k (inner headMember) sh ts) = let h = first-few n ts in omega arith
-  spots-few o (node n k (inner member) sh ts) = let h = first-few n ts in omega arith
-  spots-few o (node n k (inner branch) sh ts) = let h = seq-few n ts in omega arith
-  spots-few o (node n k (inner match) sh ts) = let h = seq-few n ts in omega arith
-  spots-few o (node n k (inner case) sh ts) = let h = seq-few n ts in omega arith
-  spots-few o (node n k (inner ifVar) sh ts) = let h = seq-few n ts in omega arith
-  spots-few o (node n k (inner definedThen) sh ts) = let h = back-few n ts in omega arith
-  spots-few o (node n k (inner arg) sh ts) = omega arith
-
-  seq-few : (o : ℕ) (us : Trees) → length (spotsSeq o us) ≤ length (nodesAll us)
-  seq-few o none = omega arith
-  seq-few o (u ◂ us) =
-      let h = spots-few o u in
-      let k = seq-few o us in
-      let a = length-append (spots o u) (spotsSeq o us) in
-      let b = length-append (nodesOf u) (nodesAll us) in
-      omega arith
-
-  back-few : (o : ℕ) (us : Trees) → length (spotsBack o us) ≤ length (nodesAll us)
-  back-few o none = omega arith
-  back-few o (u ◂ us) =
-      let h = spots-few o u in
-      let k = seq-few o us in
-      let a = length-append (spotsSeq o us) (spots o u) in
-      let b = length-append (nodesOf u) (nodesAll us) in
-      omega arith
-
-  first-few : (o : ℕ) (us : Trees) → length (spotsFirst o us) ≤ length (nodesAll us)
-  first-few o none = omega arith
-  first-few o (u ◂ us) = let h = spots-few o u in let b = length-append (nodesOf u) (nodesAll us) in omega arith
-
-module _ (img : List ℕ) (t : Table) where
-  abbrev rowsOf : List Rule → ℕ
-  rowsOf rs = length (joined (rowsByRule img t rs))
-
-  both-few : (a b : List Rule) → rowsOf (a ++ b) ≡ rowsOf a + rowsOf b
-  both-few a b =
-      ap (λ (l : List (List Row)). length (joined l)) (lists-append img t a b)
-      ∙ ap length (joined-append (rowsByRule img t a) (rowsByRule img t b))
-      ∙ length-append (joined (rowsByRule img t a)) (joined (rowsByRule img t b))
-
-  mutual
-    unfolding rules rowsByRule ruleRows joined nodesOf
-
-    rules-few : (m : ℕ → Option ℕ) (u : Tree) → rowsOf (rules img m u) ≤ length (nodesOf u)
-    rules-few m (block ts) = omega arith
-    rules-few m (node n x (inner i) sh ts) = omega arith
-    rules-few m (node n x (outer root) sh ts) = omega arith
-    rules-few m (node n x (outer decl) sh ts) = let h = all-few m ts in omega arith
-    rules-few m (node n x (outer signature) sh ts) = omega arith
-    rules-few m (node n x (outer rule) sh ts) =
-        let h = rows-few img t (spotsSeq 0 ts) in
-        let k = seq-few 0 ts in
-        let a = length-append (rowsFor img t (spotsSeq 0 ts)) [] in
-        omega arith
-    rules-few m (node n x (outer enum) sh ts) = let h = all-few m ts in omega arith
-    rules-few m (node n x (outer model) sh ts) = let h = all-few (λ x. orElse (saysAll img ts x) (m x)) ts in omega arith
-
-    pub all-few : (m : ℕ → Option ℕ) (us : Trees) → rowsOf (rulesAll img m us) ≤ length (nodesAll us)
-    all-few m none = omega arith
-    all-few m (u ◂ us) =
-        let h = rules-few m u in
-        let k = all-few m us in
-        let a = both-few (rules img m u) (rulesAll img m us) in
-        let b = length-append (nodesOf u) (nodesAll us) in
-        omega arith
 
 -- the declarations ---------------------------------------------------------------------------------------------------------
 abbrev declKinds : List ℕ
@@ -367,3 +274,53 @@ module _ (img : List ℕ) (t : Table) where
       → Appended (nodes img) (joined (listsAt img t n count j)) c ws d us
   unfolding joined
   decls-end n j {count} {i} h l = left-end h (ap joined (items-done n j count i l))
+
+  -- the module --------------------------------------------------------------------------------------------------------------
+  root : verdict img ≡ 0 → Is img (kindOf 0) (last img)
+  root e = record { accepted = e; below = last-below img e; kind = ap kindOf ((formed img e) .root) }
+
+  module-lists : verdict img ≡ 0 → rowsByRule img t (moduleRules img) ≡ listsAt img t (last img) (field img (last img) 0) 1
+  unfolding moduleRules rulesOf listsAt nodeOf kindOf allKids ordered
+  module-lists e =
+      ap (λ (u : Tree). rowsByRule img t (rulesOf img u)) (tree-of img (root e))
+      ∙ free-all img t _ unmeant (append (items img (last img) (field img (last img) 0) 1) none)
+      ∙ ap (λ (us : Trees). rowsByRule img t (rulesAll img unmeant us)) (append-none (items img (last img) (field img (last img) 0) 1))
+
+  pub record ModuleRun (n size : ℕ) : Type 0 where
+    pub run : ListingRun img t n 1 size 0
+    pub by-rule : rowsByRule img t (moduleRules img) ≡ listsAt img t n size 1
+    pub whole : occurrenceRows img t ≡ joined (listsAt img t n size 1)
+
+  pub moduleRun : {n size : ℕ} → Whole img t → n ≡ last img → size ≡ field img n 0 → ModuleRun n size
+  unfolding kindOf FormedFields ends next occurrenceRows
+  moduleRun {n} {size} p q r =
+      subst (λ (x : ℕ). ModuleRun n x) (sym r) (subst (λ (x : ℕ). ModuleRun x (field img x 0)) (sym q)
+      (record { run = runOf is ((row img is) .0) ((formed-row img is) .short) (p .sorted) (subst (λ (l : List Row). 0 + length l ≤ nodes img) w (let f = p .few in omega arith)); by-rule = b; whole = w }))
+    where
+      is : Is img (kindOf 0) (last img)
+      is = root (p .accepted)
+
+      b : rowsByRule img t (moduleRules img) ≡ listsAt img t (last img) (field img (last img) 0) 1
+      b = module-lists (p .accepted)
+
+      w : occurrenceRows img t ≡ joined (listsAt img t (last img) (field img (last img) 0) 1)
+      w = all-joined img t (moduleRules img) ∙ ap joined b
+
+-- how many scopes there are does not matter -------------------------------------------------------------------------------------
+module _ (img : List ℕ) (t : Table) where
+  abbrev u : Table
+  u = sought (t .words) (t .symbols)
+
+  same-rows : (l : List Spot) → rowsFor img t l ≡ rowsFor img u l
+  unfolding rowsFor lookup listed
+  same-rows [] = refl
+  same-rows (s ∷ l) = ap (listed img t (s .node) (found img t s)) (same-rows l)
+
+  pub same-lists : (rs : List Rule) → rowsByRule img t rs ≡ rowsByRule img u rs
+  unfolding rowsByRule ruleRows
+  same-lists [] = refl
+  same-lists (r ∷ rs) = ap₂ (λ (l : List Row) (ls : List (List Row)). l ∷ ls) (same-rows (ruleSpots (r .statements))) (same-lists rs)
+
+  pub same-all : occurrenceRows img t ≡ occurrenceRows img u
+  unfolding occurrenceRows
+  same-all = all-joined img t (moduleRules img) ∙ ap joined (same-lists (moduleRules img)) ∙ sym (all-joined img u (moduleRules img))

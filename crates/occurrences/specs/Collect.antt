@@ -17,7 +17,7 @@ use Rattle.table.specs.Table.{Table}
 use Rattle.table.specs.Rows.{nodeAt, Sorted}
 use Rattle.rows.specs.Rows.{Row, row, rowsLength}
 use Rattle.occurrences.specs.Sight.{Spot, spots, spotsSeq, rules, rulesAll}
-use Rattle.occurrences.specs.Occurrences.{rowsFor, lone, rowsByRule}
+use Rattle.occurrences.specs.Occurrences.{rowsFor, occurrenceRows, lone, rowsByRule}
 use Rattle.occurrences.specs.declared.Checked.{Checked}
 use Rattle.occurrences.specs.declared.Checked.the-variants.{Ok, Lone}
 
@@ -87,6 +87,12 @@ pub record ListingRun (img : List ℕ) (t : Table) (n j count c : ℕ) : Type 0 
   pub short : j + count ≤ 8192
   pub sorted : Sorted (nodes img) (t .symbols) (t .words)
   pub few : c + length (joined (listsAt img t n count j)) ≤ nodes img
+
+-- the same of the whole module
+pub record Whole (img : List ℕ) (t : Table) : Type 0 where
+  pub accepted : verdict img ≡ 0
+  pub sorted : Sorted (nodes img) (t .symbols) (t .words)
+  pub few : length (occurrenceRows img t) ≤ nodes img
 
 -- the c rows from the i-th on, as the words have them
 unfoldable pub readRows : (N : ℕ) → List ℕ → (c i : ℕ) → List Row
