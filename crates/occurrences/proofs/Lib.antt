@@ -17,7 +17,8 @@ pub mod Resolving
 pub mod RowLaws
 pub mod Written
 pub mod Leaving
-pub mod Lone
+pub mod LoneTerm
+pub mod Single
 pub mod Demand
 pub mod CollectRows
 pub mod CollectSteps

@@ -2,7 +2,7 @@
 use mathlib.Core.Path.{_≡_, refl, sym, subst}
 use mathlib.Core.Logic.{_⊎_, inl, inr, _≢_}
 use mathlib.Core.List.{List, [], _∷_, _++_}
-use Prim.Native.Nat.{ℕ, zero, suc, _+_, _≤_, _<_}
+use Prim.Native.Nat.{ℕ, zero, suc, _≤_, _<_}
 use native.Mathlib.Omega.{arith}
 use native.Mathlib.Decide.{ℕ-discrete}
 use lib.ListN.{length}
@@ -40,13 +40,6 @@ pub distinct-apart : (ns ms : List ℕ) → Distinct (ns ++ ms) → (n : ℕ) �
 distinct-apart [] ms d n i j = i
 distinct-apart (m ∷ ns) ms d n (inl e) j = d .0 (in-right m ns ms (subst (λ z. In z ms) e j))
 distinct-apart (m ∷ ns) ms d n (inr i) j = distinct-apart ns ms (d .1) n i j
-
-pub distinct-join : (ns ms : List ℕ) → Distinct ns → Distinct ms → ((n : ℕ) → In n ns → In n ms → ⊥) → Distinct (ns ++ ms)
-distinct-join [] ms d e f = e
-distinct-join (n ∷ ns) ms d e f = (
-  (λ i. elim (in-split n ns ms i) [ inl j ↦ d .0 j | inr j ↦ f n (inl refl) j ]),
-  distinct-join ns ms (d .1) e (λ m i j. f m (inr i) j),
-)
 
 -- distinct numbers below k are at most k
 taken : {n k : ℕ} → Dec (n ≡ k) → List ℕ → List ℕ → List ℕ
