@@ -4,10 +4,10 @@ use mathlib.Core.Bool.{Bool, true, false, _&&_}
 use mathlib.Core.List.{List, [], _∷_, _++_, append-nil}
 use Prim.Native.Nat.{ℕ, zero, suc, _+_, _-_, _*_, _/_, _%_, _<_, _≤_}
 use native.Mathlib.Omega.{arith}
-use lib.Dec.{T, ltb, leb, eqb, leb→le}
-use lib.ListN.{length, getD, take, drop, length-take, length-drop}
+use lib.Dec.{T, leb, leb→le}
+use lib.ListN.{length, getD, drop, length-take, length-drop}
 use lib.Seq.{getD-take, getD-drop}
-use borrow.Author.Tests.{lt-ltb, le-ltb, eq-eqb, ne-eqb}
+use borrow.Author.Tests.{lt-ltb, le-ltb, ne-eqb}
 use Rattle.ast.specs.Kinds.{Field, name, optName, child, optChild, list, lists, cases, Kind, kinds, kindOf}
 use Rattle.ast.specs.Parts.{Cased, caseKinds, caseList, partOf, partsOf, rowParts}
 

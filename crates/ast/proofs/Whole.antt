@@ -1,30 +1,25 @@
 -- The tests of a node, of the nodes, and of the whole tree, as the code goes through them.
 use mathlib.Core.Path.{_≡_, refl, sym, ap, _∙_, subst}
-use mathlib.Core.Bool.{Bool, true, false}
-use mathlib.Core.List.{List, [], _∷_, _++_}
+use mathlib.Core.List.{List, _++_}
 use Prim.Native.Nat.{ℕ, zero, suc, _+_, _-_, _*_, _<_, _≤_}
 use native.Mathlib.Omega.{arith}
 use native.Mathlib.Numerals.{add-one}
 use lib.Dec.{eqb, leb, ltb}
-use lib.ListN.{length, getD, replicate}
+use lib.ListN.{length, getD}
 use borrow.Author.Tests.{lt-ltb, le-ltb, le-leb, lt-leb, eq-eqb, ne-eqb}
-use Rattle.ast.specs.Image.{word, nodes, kindAt, startAt, opAt, operands, names, bytes, last}
+use Rattle.ast.specs.Image.{nodes, kindAt, startAt, operands, names, bytes, last}
 use Rattle.ast.specs.Kinds.{kindOf}
 use Rattle.ast.specs.Parts.{partOf, partsOf, rowParts}
 use Rattle.ast.specs.Rows.{numbers, kids, kidsTo, fieldsAt, rowEnd}
-use Rattle.ast.specs.Scan.{Head, Within, Went, Step, FieldsTested, NodeTested, claimAll}
+use Rattle.ast.specs.Scan.{Head, Within, Step, FieldsTested, NodeTested, claimAll}
 use Rattle.ast.specs.Tests.{_▸_, need, run, times, first, isVar, testVar, testSizes, testNames, testNode, testParents, testTree, endBefore, verdict}
-use Rattle.ast.proofs.Accepted.{skip, stop, sizes-ok}
+use Rattle.ast.proofs.Accepted.{skip, stop, stop-at, sizes-ok}
 use Rattle.ast.proofs.Fields.{in-row, out-row, fields-none, fields-halt, fields-follow}
 use Rattle.ast.proofs.Parts.{parts-row}
-use Rattle.ast.proofs.Runs.{RunLeft, run-begin, run-next, run-stop, run-end, once, not-once}
+use Rattle.ast.proofs.Runs.{RunLeft, run-begin, run-next, run-stop, run-end}
 use Rattle.ast.proofs.Scans.{need-in, need-out, claim-append, skips, stops, refused}
 use Rattle.ast.specs.declared.Scan.{Scan}
 use Rattle.ast.specs.declared.Sizes.{Sizes}
-
-stop-at : (a b k : ℕ) → a ≡ k → (k ≡ 0 → ⊥) → a ▸ b ≡ k
-stop-at a b zero e z = absurd (z refl)
-stop-at a b (suc k) e z = stop a b k e
 
 module _ (img : List ℕ) where
   module _ (n : ℕ) {us vs : List ℕ} (r : Scan) (kind start : ℕ) (k : kind ≡ kindAt img n) where

@@ -1,4 +1,4 @@
-// The image tests: the first refusal of 1 to 12, or 0 for an accepted image.
+// The image: its words, the rows by node, the tests 1 to 12, and Name.
 ghost use mathlib.Core.Path.{_≡_};
 ghost use mathlib.Core.List.{List, [], _∷_, _++_};
 ghost use Prim.Native.Nat.{ℕ, suc, _+_, _*_, _-_, _<_, _≤_, _^_};
@@ -66,8 +66,10 @@ pub fn sizes_of(image: &[u8]) -> Sizes
     }
 }
 
+// A node by its number.
 pub struct NodeId(pub u32);
 
+// The kind of a node.
 pub fn kind_at(image: &[u8], node: NodeId) -> u32
     ensures { λ r. ⌜ r ≡ «image-spec».kindAt (now (image .entry)) (node .0) ⌝ }
 {
@@ -88,18 +90,21 @@ fn op_at(image: &[u8], s: Sizes, place: u32) -> u32
     word(image, 16 + 8 * wide(s.nodes) + 4 * wide(place))
 }
 
+// N.
 pub fn node_count(image: &[u8]) -> u32
     ensures { λ r. ⌜ r ≡ «image-spec».nodes (now (image .entry)) ⌝ }
 {
     word(image, 0)
 }
 
+// The place where a node's row starts.
 pub fn row_start(image: &[u8], node: NodeId) -> u32
     ensures { λ r. ⌜ r ≡ «image-spec».startAt (now (image .entry)) (node .0) ⌝ }
 {
     word(image, 16 + 4 * wide(node_count(image)) + 4 * wide(node.0))
 }
 
+// The operand word at a place.
 pub fn operand(image: &[u8], place: usize) -> u32
     requires { ⌜ place < 2 ^ 40 ⌝ }
     ensures { λ r. ⌜ r ≡ «image-spec».opAt (now (image .entry)) place ⌝ }
@@ -132,6 +137,7 @@ fn less_one(x: u32) -> u32
     if x == 0 { 0 } else { x - 1 }
 }
 
+// The name number of a node that has a name; of an optional one, the word less 1.
 pub fn name_of(image: &[u8], node: NodeId) -> u32
     ensures { λ r. ⌜ r ≡ «image-spec».nameOf (now (image .entry)) (node .0) ⌝ }
 {
@@ -992,13 +998,13 @@ pub fn verdict(image: &[u8]) -> u32
     test_tree(image, s, step.at, &claims)
 }
 
-// Where the bytes of a name stand in the image.
+// A part of the image: its start and its length.
 pub struct NamePlace {
     pub start: usize,
     pub len: usize,
 }
 
-// The place of a name's bytes; 0 and 0 where Name is empty.
+// Where the bytes of a name stand in the image; 0 and 0 where Name is empty.
 pub fn name_place(image: &[u8], number: u32) -> NamePlace
     ensures { λ r. ⌜ r ≡ namePlace (now (image .entry)) number ⌝ }
 {
@@ -1026,7 +1032,7 @@ pub fn name(image: &[u8], number: u32) -> &[u8]
     &image[start..end]
 }
 
-// What the image tests say.
+// The answer of the image test.
 pub enum Tested {
     Accepted,
     Refused(u32),

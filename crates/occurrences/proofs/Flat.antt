@@ -395,6 +395,6 @@ module _ (name : ℕ → ℕ) (var const : Option ℕ → Bool) (outer : ℕ →
         introduced o i v =
             let h : From ps (suc (o .at)) (o .around) (name (o .ident)) = bind-from ps s (suc (o .at)) (o .around) (name (o .ident)) v in
             let e : binding o ≡ binding (h .0) =
-                at-naming o (h .0) i (h .1) (h .3) (h .4) (let m = h .5 .0 in (omega arith, h .5 .1))
-                (λ d k f e′ l u. let m = u .0 in h .6 d k f e′ l (omega arith, u .1)) in
+            at-naming o (h .0) i (h .1) (h .3) (h .4) (let m = h .5 .0 in (omega arith, h .5 .1))
+            (λ d k f e′ l u. let m = u .0 in h .6 d k f e′ l (omega arith, u .1)) in
             (h .0, h .1, h .3, h .2, sym e ∙ h .2)

@@ -191,7 +191,7 @@ module _ (img : List ℕ) where
       let q = stays u in
       let f : Entered (e .scope) ns D (e .table) (e′ .table) = entering v (omega arith) (λ n j. sm n (in-left n ns ms j)) so i in
       let g : Entered (e .scope) ms E (e′ .table) (e″ .table) =
-          subst (λ s. Entered s ms E (e′ .table) (e″ .table)) p₀ (entering u b (λ n j. sm n (in-right n ns ms j)) (f .sane) (omega arith)) in
+      subst (λ s. Entered s ms E (e′ .table) (e″ .table)) p₀ (entering u b (λ n j. sm n (in-right n ns ms j)) (f .sane) (omega arith)) in
       record {
         sane = g .sane;
         others = λ r x h. g .others r x h ∙ f .others r x h;

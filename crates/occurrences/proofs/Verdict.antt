@@ -211,7 +211,7 @@ module _ (img : List ℕ) (f : Formed img) (n : ℕ) (n<N : n < nodes img)
   ident-tree c l e = (
     ordered (classAt img c) (grow (treeAt img) (kids img c)),
     treeAt-is img f c (omega arith)
-    ∙ ap (λ (d : Class). node c (kindAt img c) d (shape img c) (ordered (classAt img c) (grow (treeAt img) (kids img c)))) (ap (λ k. (kindOf k) .class) e),
+        ∙ ap (λ (d : Class). node c (kindAt img c) d (shape img c) (ordered (classAt img c) (grow (treeAt img) (kids img c)))) (ap (λ k. (kindOf k) .class) e),
   )
 
   bodies-of : (fs : List Field) (p : ℕ) → T (fieldsAll bodyKind fs) → FormedFields img n fs p → Bodies img (grow (treeAt img) (fieldsKids img fs p))

@@ -2,7 +2,6 @@ use Rattle.ast.specs.Image.{word}
 use mathlib.Core.Path.{ap, _∙_}
 use native.Mathlib.Omega.{arith}
 use Rattle.ast.specs.Image as image
-use Rattle.ast.specs.Tests as tests
 use Rattle.ast.proofs.name_end.Statement.{statement}
 use Rattle.ast.proofs.name_end.Tie as tie
 

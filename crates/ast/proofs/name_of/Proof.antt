@@ -1,6 +1,5 @@
 use Prim.Native.Nat.{_-_}
 use borrow.Author.Needs.{needs}
-use native.Mathlib.Omega.{arith}
 use mathlib.Core.Path.{sym, ap, _∙_}
 use Rattle.ast.proofs.Words.{name-rule, name-arg, name-plain}
 use Rattle.ast.proofs.name_of.Statement.{statement}

@@ -2,7 +2,6 @@ use mathlib.Core.Path.{_≡_, sym, ap, _∙_}
 use native.Mathlib.Omega.{arith}
 use Prim.Native.Nat.{suc, _-_}
 use Rattle.ast.specs.Image as image
-use Rattle.ast.specs.Tests as tests
 use borrow.Author.Needs.{needs}
 use Rattle.ast.proofs.name_start.Statement.{statement}
 use Rattle.ast.proofs.name_start.Tie as tie

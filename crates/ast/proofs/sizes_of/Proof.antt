@@ -1,6 +1,5 @@
 use Rattle.ast.specs.Image.{nodes}
 use Rattle.ast.specs.Image as image
-use Rattle.ast.specs.Tests as tests
 use Rattle.ast.proofs.sizes_of.Statement.{statement}
 use Rattle.ast.proofs.sizes_of.Tie as tie
 

@@ -3,7 +3,6 @@ use mathlib.Core.Path.{_≡_, sym, _∙_}
 use native.Mathlib.Omega.{arith}
 use Prim.Native.Nat.{_-_}
 use Rattle.ast.specs.Image as images
-use Rattle.ast.specs.Tests as tests
 use Rattle.ast.proofs.Runs.{RunLeft, run-begin, run-next, run-stop, run-end, once, not-once}
 use Rattle.ast.proofs.Whole.{parent, parents-are}
 use Rattle.ast.proofs.test_parents.Statement.{statement}

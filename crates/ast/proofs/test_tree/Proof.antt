@@ -4,7 +4,6 @@ use Prim.Native.Nat.{_-_}
 use Rattle.ast.specs.Image.{kindAt}
 use Rattle.ast.proofs.Whole.{tree-open, tree-top, tree-parents, tree-vars}
 use Rattle.ast.specs.Image as image
-use Rattle.ast.specs.Tests as tests
 use borrow.Author.Needs.{needs}
 use Rattle.ast.proofs.test_tree.Statement.{statement}
 use Rattle.ast.proofs.test_tree.Tie as tie
