@@ -1,3 +1,4 @@
 pub mod Puts
 pub mod RowLines
 pub mod Long
+pub mod Whole
