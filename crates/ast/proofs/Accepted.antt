@@ -12,7 +12,8 @@ use lib.ListN.{length, getD}
 use Rattle.ast.specs.Image.{nodes, opAt, operands, names, bytes, nameStart, nameEnd, nameBytes, last}
 use Rattle.ast.specs.Kinds.{Field, name, optName, child, optChild, list, lists, cases, noChild}
 use Rattle.ast.specs.Rows.{after, afterBlocks, afterFields, rowEnd}
-use Rattle.ast.specs.Tests.{_▸_, need, run, same, inRow, isChild, childWord, testBlocks, testField, testFields, testNode, testTree, testSizes, testNames, verdict}
+use Rattle.ast.specs.Tests.{_▸_, need, run, same, inRow, isChild, childWord, testBlocks, testField, testFields, testNode, testTree, testSizes, testEnds, testTwice, testNames, verdict}
+use Rattle.ast.specs.Names.{Rises}
 use Rattle.ast.proofs.Formed.{Child, Items, FormedBlocks, FormedField, FormedFields, FormedNode, Formed}
 
 pub both : (a b : ℕ) → a ▸ b ≡ 0 → (a ≡ 0) × (b ≡ 0)
@@ -211,24 +212,17 @@ module _ (img : List ℕ) where
       × (16 + 8 * nodes img + 4 * p + 4 ≤ length img) × (16 + 8 * nodes img + 4 * operands img + 4 * i + 4 ≤ length img)
   words-in s n p i h k l = omega arith
 
-  pub record Named : Type 0 where
-    pub rises : (i : ℕ) → i < names img → nameStart img i < nameEnd img i
-    pub ends : nameStart img (names img) ≡ bytes img
-    pub differ : (i j : ℕ) → i < names img → j < i → nameBytes img j ≢ nameBytes img i
-
-  pub named : verdict img ≡ 0 → Named
-  unfolding testNames
-  named e =
-      let a = both _ _ (passed e .named) in
-      let b = both _ _ (a .1) in
+  pub rises-of : testEnds img ≡ 0 → Rises img
+  unfolding testEnds
+  rises-of e =
+      let a = both _ _ e in
       record {
         rises = λ i h. ltb→lt _ _ (needed 3 _ (rw zero-add at (ran _ _ 0 (a .0) i h)));
-        ends = eqb→eq _ _ (needed 3 _ (b .0));
-        differ = λ i j h k q. T-not (same (nameBytes img j) (nameBytes img i)) (needed 4 _ (rw zero-add at (ran _ i 0 (rw zero-add at (ran _ _ 0 (b .1) i h)) j k))) (same-eq q);
+        ends = eqb→eq _ _ (needed 3 _ (a .1));
       }
 
   -- so every name ends within the name bytes
-  pub name-in : Named → (i : ℕ) → i < names img → nameEnd img i ≤ bytes img
+  pub name-in : Rises img → (i : ℕ) → i < names img → nameEnd img i ≤ bytes img
   unfolding nameStart
   name-in h i l = rw (h .ends) at (go (names img) l (omega arith))
     where
@@ -239,6 +233,19 @@ module _ (img : List ℕ) where
           step : Dec (i < m) → (i < m → nameEnd img i ≤ nameStart img m) → nameEnd img i ≤ nameStart img (suc m)
           step (yes d) ih = let a = ih d in let b = h .rises m (omega arith) in omega arith
           step (no d) ih = let q : i ≡ m = omega arith in rw q (omega arith)
+
+  pub record Named : Type 0 where
+    pub rising-all : Rises img
+    pub differ : (i j : ℕ) → i < names img → j < i → nameBytes img j ≢ nameBytes img i
+
+  pub named : verdict img ≡ 0 → Named
+  unfolding testNames testTwice
+  named e =
+      let a = both _ _ (passed e .named) in
+      record {
+        rising-all = rises-of (a .0);
+        differ = λ i j h k q. T-not (same (nameBytes img j) (nameBytes img i)) (needed 4 _ (rw zero-add at (ran _ i 0 (rw zero-add at (ran _ _ 0 (a .1) i h)) j k))) (same-eq q);
+      }
 
   pub formed : verdict img ≡ 0 → Formed img
   unfolding testTree

@@ -11,7 +11,7 @@ use borrow.Author.Tests.{lt-ltb, le-ltb, le-leb, lt-leb, eq-eqb, ne-eqb}
 use Rattle.ast.specs.Image.{nodes, kindAt, opAt, operands, names}
 use Rattle.ast.specs.Kinds.{Field, name, optName, child, optChild, list, lists, cases, noChild}
 use Rattle.ast.specs.Rows.{Kid, one, many, ones, numbers, opsFrom, afterBlocks, blockKids, after, afterFields, fieldKids, fieldsKids}
-use Rattle.ast.specs.Scan.{bump, claimAll, Step, Tested, TestedAll}
+use Rattle.ast.specs.Scan.{bump, claimAll, Step, FieldTested, FieldsTested}
 use Rattle.ast.specs.Tests.{_▸_, need, run, inRow, isChild, childWord, testBlocks, testField, testFields}
 use Rattle.ast.proofs.Scans.{need-in, need-out, passes, refuses, restep, skips, stops, halts, follows, ▸-zero, ▸-assoc}
 use Rattle.ast.proofs.Unfold.{numbers-ones, numbers-append}
@@ -61,7 +61,7 @@ module _ (img : List ℕ) where
 
     module _ {us vs : List ℕ} (r : Scan) where
       -- a row that ends before the field
-      pub field-out : (g : Field) (p : ℕ) → operands img ≤ p → r .code ≡ 7 → Tested img n g p us r vs
+      pub field-out : (g : Field) (p : ℕ) → operands img ≤ p → r .code ≡ 7 → FieldTested img n g p us r vs
       unfolding testField childWord
       field-out name p h c = stops _ _ _ 6 _ (out-row p h) c
       field-out optName p h c = stops _ _ _ 6 _ (out-row p h) c
@@ -72,36 +72,36 @@ module _ (img : List ℕ) where
       field-out (cases ks) p h c = stops _ _ _ 6 _ (out-row p h) c
 
       module _ (p w : ℕ) (h : p < operands img) (e : w ≡ opAt img p) where
-        pub name-bad : names img ≤ w → r .code ≡ 8 → Tested img n name p us r vs
+        pub name-bad : names img ≤ w → r .code ≡ 8 → FieldTested img n name p us r vs
         unfolding testField
         name-bad l c = skips _ _ _ _ (in-row p h) (refuses _ _ 7 r (rw e at (need-out 8 _ (le-ltb w (names img) l))) c)
 
-        pub optName-bad : names img < w → r .code ≡ 8 → Tested img n optName p us r vs
+        pub optName-bad : names img < w → r .code ≡ 8 → FieldTested img n optName p us r vs
         unfolding testField
         optName-bad l c = skips _ _ _ _ (in-row p h) (refuses _ _ 7 r (rw e at (need-out 8 _ (lt-leb w (names img) l))) c)
 
-        pub child-word : (k : ℕ) → Step (isChild img n k w) (p + 1) (w ∷ []) us r vs → Tested img n (child k) p us r vs
+        pub child-word : (k : ℕ) → Step (isChild img n k w) (p + 1) (w ∷ []) us r vs → FieldTested img n (child k) p us r vs
         unfolding testField childWord after fieldKids numbers
         child-word k t = skips _ _ _ _ (in-row p h) (rw e at t)
 
-        pub list-in : (k : ℕ) → Step (run (childWord img n k) w (p + 1)) (p + 1 + w) (opsFrom img w (p + 1)) us r vs → Tested img n (list k) p us r vs
+        pub list-in : (k : ℕ) → Step (run (childWord img n k) w (p + 1)) (p + 1 + w) (opsFrom img w (p + 1)) us r vs → FieldTested img n (list k) p us r vs
         unfolding testField after fieldKids numbers
         list-in k t = skips _ _ _ _ (in-row p h) (rw numbers-ones (rw e at t))
 
-        pub lists-in : (k : ℕ) → Step (testBlocks img n k w (p + 1)) (afterBlocks img w (p + 1)) (numbers (blockKids img w (p + 1))) us r vs → Tested img n (lists k) p us r vs
+        pub lists-in : (k : ℕ) → Step (testBlocks img n k w (p + 1)) (afterBlocks img w (p + 1)) (numbers (blockKids img w (p + 1))) us r vs → FieldTested img n (lists k) p us r vs
         unfolding testField after fieldKids
         lists-in k t = skips _ _ _ _ (in-row p h) (rw e at t)
 
-        pub optChild-in : (k c : ℕ) → w ≡ suc c → Step (isChild img n k c) (p + 1) (c ∷ []) us r vs → Tested img n (optChild k) p us r vs
+        pub optChild-in : (k c : ℕ) → w ≡ suc c → Step (isChild img n k c) (p + 1) (c ∷ []) us r vs → FieldTested img n (optChild k) p us r vs
         unfolding testField after fieldKids numbers
         optChild-in k c q t = let f : opAt img p ≡ suc c = sym e ∙ q in rw (f, testField, fieldKids) (skips _ _ _ _ (in-row p h) t)
 
-        pub case-bad : (ks : List ℕ) → length ks ≤ w → r .code ≡ 8 → Tested img n (cases ks) p us r vs
+        pub case-bad : (ks : List ℕ) → length ks ≤ w → r .code ≡ 8 → FieldTested img n (cases ks) p us r vs
         unfolding testField
         case-bad ks l c = skips _ _ _ _ (in-row p h) (stops _ _ _ 7 _ (rw e at (need-out 8 _ (le-ltb w (length ks) l))) c)
 
         pub case-in : (ks : List ℕ) (k : ℕ) → w < length ks → k ≡ getD ks w noChild → (k ≡ noChild → ⊥)
-            → Tested img n (child k) (p + 1) us r vs → Tested img n (cases ks) p us r vs
+            → FieldTested img n (child k) (p + 1) us r vs → FieldTested img n (cases ks) p us r vs
         unfolding testField after fieldKids numbers
         case-in ks k l q z t =
             let f : getD ks (opAt img p) noChild ≡ k = rw e at (sym q) in
@@ -109,19 +109,19 @@ module _ (img : List ℕ) where
             (skips _ _ _ _ (in-row p h) (skips _ _ _ _ (rw e at (need-in 8 _ (lt-ltb w (length ks) l))) (restep _ _ _ _ _ (ap (λ x. childWord img n x (p + 1)) (sym f)) (omega arith) t)))
 
     module _ {us : List ℕ} (r : Scan) (p w : ℕ) (h : p < operands img) (e : w ≡ opAt img p) (c : r .code ≡ 0) (a : r .at ≡ p + 1) (b : r .at ≤ 8192) where
-      pub name-in : w < names img → Tested img n name p us r us
+      pub name-in : w < names img → FieldTested img n name p us r us
       unfolding testField after fieldKids numbers
       name-in l = skips _ _ _ _ (in-row p h) (passes _ _ r (rw e at (need-in 8 _ (lt-ltb w (names img) l))) c a b)
 
-      pub optName-in : w ≤ names img → Tested img n optName p us r us
+      pub optName-in : w ≤ names img → FieldTested img n optName p us r us
       unfolding testField after fieldKids numbers
       optName-in l = skips _ _ _ _ (in-row p h) (passes _ _ r (rw e at (need-in 8 _ (le-leb w (names img) l))) c a b)
 
-      pub optChild-none : (k : ℕ) → w ≡ 0 → Tested img n (optChild k) p us r us
+      pub optChild-none : (k : ℕ) → w ≡ 0 → FieldTested img n (optChild k) p us r us
       unfolding testField after fieldKids numbers
       optChild-none k q = let f : opAt img p ≡ 0 = sym e ∙ q in rw (f, testField, fieldKids) (skips _ _ _ _ (in-row p h) (passes _ _ r refl c a b))
 
-      pub case-none : (ks : List ℕ) → w < length ks → getD ks w noChild ≡ noChild → Tested img n (cases ks) p us r us
+      pub case-none : (ks : List ℕ) → w < length ks → getD ks w noChild ≡ noChild → FieldTested img n (cases ks) p us r us
       unfolding testField after fieldKids numbers
       case-none ks l q =
           let f : getD ks (opAt img p) noChild ≡ noChild = rw e at q in
@@ -135,7 +135,7 @@ module _ (img : List ℕ) where
             → Step (run (childWord img n k) count p) (p + count) (opsFrom img count p) us r ws
 
       pub items-next : (left at : ℕ) {vs ws : List ℕ} (r : Scan) → ItemsLeft left at vs → (left ≡ 0 → ⊥)
-          → Tested img n (child k) at vs r ws → r .code ≡ 0 → ItemsLeft (left - 1) (at + 1) ws
+          → FieldTested img n (child k) at vs r ws → r .code ≡ 0 → ItemsLeft (left - 1) (at + 1) ws
       unfolding run opsFrom testField after fieldKids numbers
       items-next zero at r i z t c = absurd (z refl)
       items-next (suc l) at r i z t c =
@@ -147,7 +147,7 @@ module _ (img : List ℕ) where
           }
 
       pub items-stop : (left at : ℕ) {vs ws : List ℕ} (r : Scan) → ItemsLeft left at vs → (left ≡ 0 → ⊥)
-          → Tested img n (child k) at vs r ws → (r .code ≡ 0 → ⊥) → Step (run (childWord img n k) count p) (p + count) (opsFrom img count p) us r ws
+          → FieldTested img n (child k) at vs r ws → (r .code ≡ 0 → ⊥) → Step (run (childWord img n k) count p) (p + count) (opsFrom img count p) us r ws
       unfolding run opsFrom testField after fieldKids numbers
       items-stop zero at r i z t c = absurd (z refl)
       items-stop (suc l) at r i z t c = i .whole r _ (halts _ _ _ _ _ _ t c)
@@ -165,7 +165,7 @@ module _ (img : List ℕ) where
             → Step (testBlocks img n k count p) (afterBlocks img count p) (numbers (blockKids img count p)) us r ws
 
       pub blocks-next : (left at : ℕ) {vs ws : List ℕ} (r : Scan) → BlocksLeft left at vs → (left ≡ 0 → ⊥)
-          → Tested img n (list k) at vs r ws → r .code ≡ 0 → BlocksLeft (left - 1) (r .at) ws
+          → FieldTested img n (list k) at vs r ws → r .code ≡ 0 → BlocksLeft (left - 1) (r .at) ws
       unfolding testBlocks afterBlocks blockKids testField after fieldKids numbers
       blocks-next zero at r i z t c = absurd (z refl)
       blocks-next (suc l) at r i z t c =
@@ -177,7 +177,7 @@ module _ (img : List ℕ) where
           }
 
       pub blocks-stop : (left at : ℕ) {vs ws : List ℕ} (r : Scan) → BlocksLeft left at vs → (left ≡ 0 → ⊥)
-          → Tested img n (list k) at vs r ws → (r .code ≡ 0 → ⊥) → Step (testBlocks img n k count p) (afterBlocks img count p) (numbers (blockKids img count p)) us r ws
+          → FieldTested img n (list k) at vs r ws → (r .code ≡ 0 → ⊥) → Step (testBlocks img n k count p) (afterBlocks img count p) (numbers (blockKids img count p)) us r ws
       unfolding testBlocks afterBlocks blockKids testField after fieldKids numbers
       blocks-stop zero at r i z t c = absurd (z refl)
       blocks-stop (suc l) at r i z t c = i .whole r _ (restep _ _ _ _ _ (▸-assoc _ _ _) refl (halts _ _ _ _ _ _ t c))
@@ -190,16 +190,16 @@ module _ (img : List ℕ) where
 
     -- fields, one after another
     module _ {us vs : List ℕ} (r : Scan) (p : ℕ) where
-      pub fields-none : vs ≡ us → r .code ≡ 0 → r .at ≡ p → p ≤ 8192 → TestedAll img n [] p us r vs
+      pub fields-none : vs ≡ us → r .code ≡ 0 → r .at ≡ p → p ≤ 8192 → FieldsTested img n [] p us r vs
       unfolding testFields afterFields fieldsKids numbers claimAll
       fields-none e c a b = record { code = c; went = λ z. record { place = a; claimed = e; low = omega arith } }
 
-      pub fields-one : (g : Field) → Tested img n g p us r vs → TestedAll img n (g ∷ []) p us r vs
+      pub fields-one : (g : Field) → FieldTested img n g p us r vs → FieldsTested img n (g ∷ []) p us r vs
       unfolding testFields afterFields fieldsKids
       fields-one g t = restep _ _ _ _ _ (sym (▸-zero _)) refl (rw append-nil t)
 
-      pub fields-halt : (gs hs : List Field) → TestedAll img n gs p us r vs → (r .code ≡ 0 → ⊥) → TestedAll img n (gs ++ hs) p us r vs
+      pub fields-halt : (gs hs : List Field) → FieldsTested img n gs p us r vs → (r .code ≡ 0 → ⊥) → FieldsTested img n (gs ++ hs) p us r vs
       fields-halt gs hs t c = rw tests-append (halts _ _ _ _ _ _ t c)
 
-      pub fields-follow : (gs hs : List Field) {ws : List ℕ} {q : Scan} → TestedAll img n gs p us r vs → r .code ≡ 0 → TestedAll img n hs (r .at) vs q ws → TestedAll img n (gs ++ hs) p us q ws
+      pub fields-follow : (gs hs : List Field) {ws : List ℕ} {q : Scan} → FieldsTested img n gs p us r vs → r .code ≡ 0 → FieldsTested img n hs (r .at) vs q ws → FieldsTested img n (gs ++ hs) p us q ws
       fields-follow gs hs t c u = rw (tests-append, after-append, kids-append) (follows _ _ _ _ _ _ t c (rw (t .went c .place) at u))

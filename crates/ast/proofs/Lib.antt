@@ -13,5 +13,6 @@ pub mod Parts
 pub mod Runs
 pub mod Whole
 pub mod Names
-pub mod Answers
+pub mod NameParts
+pub mod ImageAnswers
 pub mod TestCases

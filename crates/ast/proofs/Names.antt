@@ -12,14 +12,14 @@ use lib.Seq.{slice, slice-cons, slice-empty, length-slice, take-nil, getD-set-sa
 use native.Mathlib.Nat.{add-zero, zero-add, sub-zero}
 use native.Mathlib.Decide.{decLt}
 use borrow.Author.Tests.{lt-ltb, le-ltb, le-leb, lt-leb, eq-eqb, ne-eqb, eqb-true}
-use Rattle.ast.specs.Image.{word, nodes, operands, names, bytes, nameStart, nameEnd, nameBytes}
+use Rattle.ast.specs.Image.{names, bytes, bytesPlace, nameStart, nameEnd, nameBytes}
 use Rattle.ast.specs.Scan.{Head, Within}
-use Rattle.ast.specs.Tests.{_▸_, need, run, same, testNames}
-use Rattle.ast.proofs.Accepted.{skip, stop, both, needed, ran}
+use Rattle.ast.specs.Tests.{_▸_, need, run, same, rising, unequal, testEnds, testTwice, testNames}
+use Rattle.ast.proofs.Accepted.{skip, stop, name-in}
 use Rattle.ast.proofs.Runs.{RunLeft, run-begin, run-next, run-stop, run-end}
 use Rattle.ast.proofs.Scans.{need-in, need-out, ▸-assoc}
 use Rattle.ast.specs.declared.Sizes.{Sizes}
-use Rattle.ast.specs.Names.{Met, NameAt, Reach, Rises, Spanned, base, ends, hash, here, meeting, rising, there, twice}
+use Rattle.ast.specs.Names.{Met, NameAt, Reach, Rises, Spanned, hash, here, there}
 
 -- runs ----------------------------------------------------------------------------------------------------------------
 run-all : (f : ℕ → ℕ) (c i : ℕ) → ((j : ℕ) → j < c → f (i + j) ≡ 0) → run f c i ≡ 0
@@ -59,8 +59,8 @@ module _ (img : List ℕ) where
         let a = l .start-is in
         record { left = run-next _ _ i (l .left) h (need-in 4 _ (lt-ltb (nameStart img i) (nameEnd img i) (omega arith))); start-is = rw add-one e; few = omega arith }
 
-    pub ends-stop : i < names img → end ≡ nameEnd img i → end ≤ start → ends img ≡ 4
-    unfolding ends
+    pub ends-stop : i < names img → end ≡ nameEnd img i → end ≤ start → testEnds img ≡ 4
+    unfolding testEnds
     ends-stop h e q =
         let a = l .start-is in
         stop _ _ 3 (run-stop _ _ i 4 (l .left) h (need-out 4 _ (le-ltb (nameStart img i) (nameEnd img i) (omega arith))) (λ z. omega arith))
@@ -69,43 +69,22 @@ module _ (img : List ℕ) where
     at-end : start ≡ nameStart img (names img)
     at-end = let f = l .few in let q : i ≡ names img = omega arith in rw q at (l .start-is)
 
-    pub ends-bad : (start ≡ bytes img → ⊥) → ends img ≡ 4
-    unfolding ends
+    pub ends-bad : (start ≡ bytes img → ⊥) → testEnds img ≡ 4
+    unfolding testEnds
     ends-bad q = skip _ _ (run-end _ _ i (l .left) h) ∙ need-out 4 _ (ne-eqb _ _ (rw at-end at q))
 
-    pub ends-good : start ≡ bytes img → ends img ≡ 0
-    unfolding ends
+    pub ends-good : start ≡ bytes img → testEnds img ≡ 0
+    unfolding testEnds
     ends-good q = skip _ _ (run-end _ _ i (l .left) h) ∙ need-in 4 _ (eq-eqb _ _ (rw at-end at q))
 
-  pub rises-of : ends img ≡ 0 → Rises img
-  unfolding ends
-  rises-of e =
-      let a = both _ _ e in
-      record {
-        rises = λ i h. ltb→lt _ _ (needed 3 _ (rw zero-add at (ran _ _ 0 (a .0) i h)));
-        ends-at = eqb→eq _ _ (needed 3 _ (a .1));
-      }
-
-  pub name-in : Rises img → (i : ℕ) → i < names img → nameEnd img i ≤ bytes img
-  unfolding nameStart
-  name-in h i l = rw (h .ends-at) at (go (names img) l (omega arith))
-    where
-      go : (m : ℕ) → i < m → m ≤ names img → nameEnd img i ≤ nameStart img m
-      go zero k r = absurd (omega arith)
-      go (suc m) k r = step (decLt i m) (λ d. go m d (omega arith))
-        where
-          step : Dec (i < m) → (i < m → nameEnd img i ≤ nameStart img m) → nameEnd img i ≤ nameStart img (suc m)
-          step (yes d) ih = let a = ih d in let b = h .rises m (omega arith) in omega arith
-          step (no d) ih = let q : i ≡ m = omega arith in rw q (omega arith)
-
-  pub names-split : (k : ℕ) → ends img ≡ k → (k ≡ 0 → ⊥) → testNames img ≡ k
-  unfolding testNames ends twice
+  pub names-split : (k : ℕ) → testEnds img ≡ k → (k ≡ 0 → ⊥) → testNames img ≡ k
+  unfolding testNames
   names-split zero e z = absurd (z refl)
-  names-split (suc k) e z = sym (▸-assoc _ _ (twice img)) ∙ stop _ _ k e
+  names-split (suc k) e z = stop _ _ k e
 
-  pub names-twice : ends img ≡ 0 → testNames img ≡ twice img
-  unfolding testNames ends twice
-  names-twice e = sym (▸-assoc _ _ (twice img)) ∙ skip _ _ e
+  pub names-twice : testEnds img ≡ 0 → testNames img ≡ testTwice img
+  unfolding testNames
+  names-twice e = skip _ _ e
 
 -- parts of the image --------------------------------------------------------------------------------------------------
 take-part : (a n : ℕ) (l : List ℕ) → drop a (take (a + n) l) ≡ take n (drop a l)
@@ -114,15 +93,14 @@ take-part (suc a) n [] = ap (drop (suc a)) (take-nil (suc a + n)) ∙ sym (take-
 take-part (suc a) n (x ∷ l) = let q : suc a + n ≡ suc (a + n) = omega arith in rw q (take-part a n l)
 
 module _ (img : List ℕ) (r : Rises img) where
-  pub name-slice : (i : ℕ) → i < names img → nameBytes img i ≡ slice (base img + nameStart img i) (base img + nameEnd img i) img
-  unfolding nameBytes base
+  pub name-slice : (i : ℕ) → i < names img → nameBytes img i ≡ slice (bytesPlace img + nameStart img i) (bytesPlace img + nameEnd img i) img
+  unfolding nameBytes
   name-slice i h =
       let a = r .rises i h in
-      let q : base img + nameEnd img i ≡ base img + nameStart img i + (nameEnd img i - nameStart img i) = omega arith in
-      rw q (sym (take-part (base img + nameStart img i) _ img))
+      let q : bytesPlace img + nameEnd img i ≡ bytesPlace img + nameStart img i + (nameEnd img i - nameStart img i) = omega arith in
+      rw q (sym (take-part (bytesPlace img + nameStart img i) _ img))
 
-  pub name-long : (s : Sizes) → Within img s → (i : ℕ) → i < names img → base img + nameEnd img i ≤ length img
-  unfolding base
+  pub name-long : (s : Sizes) → Within img s → (i : ℕ) → i < names img → bytesPlace img + nameEnd img i ≤ length img
   name-long s w i h = let a = name-in img r i h in let e = w .exact in let q = w .head in omega arith
 
 -- the bytes agree
@@ -158,7 +136,7 @@ module _ (img : List ℕ) (a b to : ℕ) where
       let g : i ≡ a + (to - b) = omega arith in
       l .left ∙ rw (e, g) (rw (slice-empty to img, slice-empty (a + (to - b)) img))
 
-same-length : (xs ys : List ℕ) → (length xs ≡ length ys → ⊥) → same xs ys ≡ false
+pub same-length : (xs ys : List ℕ) → (length xs ≡ length ys → ⊥) → same xs ys ≡ false
 unfolding same
 same-length [] [] h = absurd (h refl)
 same-length [] (y ∷ ys) h = refl
@@ -193,7 +171,6 @@ name-fits img s i from to n =
 
 pub spans : (img : List ℕ) (s : Sizes) (i start : ℕ) → Spanned img s i start → (u v w x y e : ℕ) → u ≡ s .nodes → v ≡ s .operands → w ≡ s .names
     → x ≡ start → y ≡ e → e ≡ nameEnd img i → NameAt img s i (16 + 8 * u + 4 * v + 4 * w + x) (16 + 8 * u + 4 * v + 4 * w + y)
-unfolding base
 spans img s i start p u v w x y e a b c d f g =
     let h = p .within .head in
     let z = p .start-is in
@@ -289,7 +266,7 @@ module _ (img : List ℕ) where
   bucketOf m = hash 0 (nameBytes img m)
 
   pub record Buckets (i start : ℕ) (heads next : List ℕ) : Type 0 where
-    pub left : RunLeft (λ i. run (meeting img i) i 0) (names img) i
+    pub left : RunLeft (λ i. run (unequal img i) i 0) (names img) i
     pub start-is : start ≡ nameStart img i
     pub few : i ≤ names img
     pub heads-long : length heads ≡ 1024
@@ -317,14 +294,14 @@ module _ (img : List ℕ) where
       zeros (suc n) zero = omega arith
       zeros (suc n) (suc h) = zeros n h
 
-  pub twice-are : twice img ≡ run (λ i. run (meeting img i) i 0) (names img) 0
-  unfolding twice
+  pub twice-are : testTwice img ≡ run (λ i. run (unequal img i) i 0) (names img) 0
+  unfolding testTwice
   twice-are = refl
 
   module _ (i start end h first : ℕ) (heads next : List ℕ) (b : Buckets i start heads next) (l : i < names img) (few-names : names img ≤ 1024)
       (e : end ≡ nameEnd img i) (k : h ≡ bucketOf i) (small : h < 1024) (f : first ≡ getD heads h 0) where
-    none-meets : Met img i first next false → run (meeting img i) i 0 ≡ 0
-    none-meets m = run-all (meeting img i) i 0 (λ j q. let p : 0 + j ≡ j = omega arith in rw p (need-in 5 _ (ap not (apart j q))))
+    none-meets : Met img i first next false → run (unequal img i) i 0 ≡ 0
+    none-meets m = run-all (unequal img i) i 0 (λ j q. let p : 0 + j ≡ j = omega arith in rw p (need-in 5 _ (ap not (apart j q))))
       where
         apart : (j : ℕ) → j < i → same (nameBytes img j) (nameBytes img i) ≡ false
         apart j q = go (same (nameBytes img j) (nameBytes img i)) refl
@@ -391,8 +368,8 @@ module _ (img : List ℕ) where
         fall j q (yes p) = let c = b .falls j p in let d = getD-set-other next i j first 0 (λ z. omega arith) in omega arith
         fall j q (no p) = let z : j ≡ i = omega arith in let c = b .low h in rw z (let d = next-at in omega arith)
 
-    pub buckets-stop : Met img i first next true → twice img ≡ 5
+    pub buckets-stop : Met img i first next true → testTwice img ≡ 5
     buckets-stop m = twice-are ∙ run-stop _ _ i 5 (b .left) l (m .found refl) (λ z. omega arith)
 
-  pub buckets-end : (i start : ℕ) (heads next : List ℕ) → Buckets i start heads next → names img ≤ i → twice img ≡ 0
+  pub buckets-end : (i start : ℕ) (heads next : List ℕ) → Buckets i start heads next → names img ≤ i → testTwice img ≡ 0
   buckets-end i start heads next b h = twice-are ∙ run-end _ _ i (b .left) h

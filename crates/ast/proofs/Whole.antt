@@ -12,7 +12,7 @@ use Rattle.ast.specs.Image.{word, nodes, kindAt, startAt, opAt, operands
 use Rattle.ast.specs.Kinds.{kindOf}
 use Rattle.ast.specs.Parts.{partOf, rowParts}
 use Rattle.ast.specs.Rows.{numbers, kids, kidsTo, fieldsAt, rowEnd}
-use Rattle.ast.specs.Scan.{Head, Within, Went, Step, TestedAll, NodeTested, claimAll}
+use Rattle.ast.specs.Scan.{Head, Within, Went, Step, FieldsTested, NodeTested, claimAll}
 use Rattle.ast.specs.Tests.{_▸_, need, run, times, first, isVar, testVar, testSizes, testNames, testNode, testParents, testTree, endBefore, verdict}
 use Rattle.ast.proofs.Accepted.{skip, stop, sizes-ok}
 use Rattle.ast.proofs.Fields.{in-row, out-row, fields-halt, fields-follow}
@@ -48,7 +48,7 @@ module _ (img : List ℕ) where
             skips _ _ _ _ (need-in 6 _ (le-leb _ _ (rw k at h))) (skips _ _ _ _ (need-in 7 _ (eq-eqb _ _ (rw e at q)))
             (skips _ _ _ _ (in-row img _ (rw e at j)) (stops _ _ _ 6 _ (out-row img _ (rw e at l)) c)))
 
-        pub node-in : start + 1 < operands img → TestedAll img n ((kindOf kind) .fields) (start + 2) us r vs → NodeTested img n us r vs
+        pub node-in : start + 1 < operands img → FieldsTested img n ((kindOf kind) .fields) (start + 2) us r vs → NodeTested img n us r vs
         unfolding testNode rowEnd kids fieldsAt
         node-in l t =
             let i : start < operands img = omega arith in
@@ -56,15 +56,15 @@ module _ (img : List ℕ) where
             (skips _ _ _ _ (in-row img _ (rw e at i)) (skips _ _ _ _ (in-row img _ (rw e at l)) (rw (k, e) at t))))
 
   -- a row by its parts
-  module _ (n k : ℕ) {us vs : List ℕ} (r : Scan) (p a : ℕ) (h : k ≤ 40) (e : a ≡ getD rowParts (3 * k) 0) (t : TestedAll img n (partOf a) p us r vs) where
-    pub row-halt : (r .code ≡ 0 → ⊥) → TestedAll img n ((kindOf k) .fields) p us r vs
+  module _ (n k : ℕ) {us vs : List ℕ} (r : Scan) (p a : ℕ) (h : k ≤ 40) (e : a ≡ getD rowParts (3 * k) 0) (t : FieldsTested img n (partOf a) p us r vs) where
+    pub row-halt : (r .code ≡ 0 → ⊥) → FieldsTested img n ((kindOf k) .fields) p us r vs
     row-halt c = rw (sym (row-parts k h)) (rw (sym e) (fields-halt img n r p _ _ t c))
 
-    module _ (b : ℕ) {ws : List ℕ} (q : Scan) (c : r .code ≡ 0) (f : b ≡ getD rowParts (3 * k + 1) 0) (u : TestedAll img n (partOf b) (r .at) vs q ws) where
-      pub row-halt-2 : (q .code ≡ 0 → ⊥) → TestedAll img n ((kindOf k) .fields) p us q ws
+    module _ (b : ℕ) {ws : List ℕ} (q : Scan) (c : r .code ≡ 0) (f : b ≡ getD rowParts (3 * k + 1) 0) (u : FieldsTested img n (partOf b) (r .at) vs q ws) where
+      pub row-halt-2 : (q .code ≡ 0 → ⊥) → FieldsTested img n ((kindOf k) .fields) p us q ws
       row-halt-2 d = rw (sym (row-parts k h)) (rw (sym e, sym f) (fields-follow img n r p _ _ t c (fields-halt img n q _ _ _ u d)))
 
-      pub row-in : (d : ℕ) {xs : List ℕ} (z : Scan) → q .code ≡ 0 → d ≡ getD rowParts (3 * k + 2) 0 → TestedAll img n (partOf d) (q .at) ws z xs → TestedAll img n ((kindOf k) .fields) p us z xs
+      pub row-in : (d : ℕ) {xs : List ℕ} (z : Scan) → q .code ≡ 0 → d ≡ getD rowParts (3 * k + 2) 0 → FieldsTested img n (partOf d) (q .at) ws z xs → FieldsTested img n ((kindOf k) .fields) p us z xs
       row-in d z y g v = rw (sym (row-parts k h)) (rw (sym e, sym f, sym g) (fields-follow img n r p _ _ t c (fields-follow img n q _ _ _ u y v)))
 
   -- the nodes before n have passed

@@ -6,7 +6,7 @@ pub data Answer : Type 0 where
   refused : (number : ℕ) → Answer
   -- the finding "twice": a name number, the first node and the second
   twice : (name first second : ℕ) → Answer
-  -- a result. Resolve: K and Y; Lookup: symbol number and node; Errors and Occurrences: 0 and the count; Once: 0 and 0 for "ok"
+  -- a result. The image test: 0 and 0; Resolve: K and Y; Lookup: symbol number and node; Errors and Occurrences: 0 and the count; Once: 0 and 0 for "ok"
   result : (a b : ℕ) → Answer
   -- the other answer. Lookup: none, 0 and 0; Once: the lone occurrence and its binding
   other : (a b : ℕ) → Answer

@@ -55,5 +55,9 @@ module _ (img : List ℕ) where
   nameStart zero = 0
   nameStart (suc i) = nameEnd i
 
+  -- where the name bytes begin
+  abbrev pub bytesPlace : ℕ
+  bytesPlace = 16 + 8 * nodes img + 4 * operands + 4 * names
+
   unfoldable pub nameBytes : ℕ → List ℕ
-  nameBytes i = take (nameEnd i - nameStart i) (drop (16 + 8 * nodes img + 4 * operands + 4 * names + nameStart i) img)
+  nameBytes i = take (nameEnd i - nameStart i) (drop (bytesPlace + nameStart i) img)

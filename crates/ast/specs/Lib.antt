@@ -8,5 +8,6 @@ pub mod Tests
 pub mod Scan
 pub mod Parts
 pub mod Names
+pub mod Name
 pub mod Answer
-pub mod Answers
+pub mod ImageAnswer

@@ -56,11 +56,11 @@ pub record Step (test next : ℕ) (cs us : List ℕ) (r : Scan) (vs : List ℕ) 
   pub went : r .code ≡ 0 → Went next cs us (r .at) vs
 
 module _ (img : List ℕ) (n : ℕ) where
-  abbrev pub Tested : Field → ℕ → List ℕ → Scan → List ℕ → Type 0
-  Tested g p us r vs = Step (testField img n g p) (after img g p) (numbers (fieldKids img g p)) us r vs
+  abbrev pub FieldTested : Field → ℕ → List ℕ → Scan → List ℕ → Type 0
+  FieldTested g p us r vs = Step (testField img n g p) (after img g p) (numbers (fieldKids img g p)) us r vs
 
-  abbrev pub TestedAll : List Field → ℕ → List ℕ → Scan → List ℕ → Type 0
-  TestedAll gs p us r vs = Step (testFields img n gs p) (afterFields img gs p) (numbers (fieldsKids img gs p)) us r vs
+  abbrev pub FieldsTested : List Field → ℕ → List ℕ → Scan → List ℕ → Type 0
+  FieldsTested gs p us r vs = Step (testFields img n gs p) (afterFields img gs p) (numbers (fieldsKids img gs p)) us r vs
 
   abbrev pub NodeTested : List ℕ → Scan → List ℕ → Type 0
   NodeTested us r vs = Step (testNode img n) (rowEnd img n) (numbers (kids img n)) us r vs

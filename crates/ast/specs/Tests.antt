@@ -45,11 +45,25 @@ module _ (img : List ℕ) where
       ▸ need 2 (leb (operands img) 8192) ▸ need 2 (leb (names img) 1024) ▸ need 2 (leb (bytes img) 8192)
       ▸ need 3 (eqb (length img) (16 + 8 * nodes img + 4 * (operands img) + 4 * (names img) + (bytes img)))
 
-  -- 4, 5
+  -- 4: the name i ends above the end of the one before, the first above 0
+  abbrev pub rising : ℕ → ℕ
+  rising i = need 4 (ltb (nameStart img i) (nameEnd img i))
+
+  -- 4: name ends rise strictly from above 0, and the last is B (S = 0 wants B = 0)
+  unfoldable pub testEnds : ℕ
+  testEnds = run rising (names img) 0 ▸ need 4 (eqb (nameStart img (names img)) (bytes img))
+
+  -- 5: the names j and i have unequal bytes
+  abbrev pub unequal : ℕ → ℕ → ℕ
+  unequal i j = need 5 (not (same (nameBytes img j) (nameBytes img i)))
+
+  -- 5: no two names have equal bytes
+  unfoldable pub testTwice : ℕ
+  testTwice = run (λ i. run (unequal i) i 0) (names img) 0
+
+  -- 4 before 5
   unfoldable pub testNames : ℕ
-  testNames = run (λ i. need 4 (ltb (nameStart img i) (nameEnd img i))) (names img) 0
-      ▸ need 4 (eqb (nameStart img (names img)) (bytes img))
-      ▸ run (λ i. run (λ j. need 5 (not (same (nameBytes img j) (nameBytes img i)))) i 0) (names img) 0
+  testNames = testEnds ▸ testTwice
 
   -- a word of a row
   unfoldable pub inRow : ℕ → ℕ

@@ -7,10 +7,11 @@ ghost use Rattle.ast.specs.Image as «image-spec»;
 ghost use Rattle.ast.specs.Rows.{opsFrom, afterBlocks, blockKids, numbers, kids, kidsTo};
 ghost use Rattle.ast.specs.Tests as «tests-spec»;
 ghost use Rattle.ast.specs.Kinds.{name, optName, child, optChild, list, lists, cases, kindOf};
-ghost use Rattle.ast.specs.Scan.{Head, Within, Place, Step, Tested, TestedAll, NodeTested, bump, claimAll};
+ghost use Rattle.ast.specs.Scan.{Head, Within, Place, Step, FieldTested, FieldsTested, NodeTested, bump, claimAll};
 ghost use lib.Seq.{slice};
-ghost use Rattle.ast.specs.Names.{ends, twice, hash, Spanned, NameAt, Chain, Met};
-ghost use Rattle.ast.specs.Answers.{answerOf};
+ghost use Rattle.ast.specs.Names.{hash, Spanned, NameAt, Chain, Met};
+ghost use Rattle.ast.specs.Name.{nameCall, namePlace};
+ghost use Rattle.ast.specs.ImageAnswer.{answerOf, testCall};
 ghost use Rattle.ast.specs.Parts.{partOf, rowParts, caseKinds, caseList, Cased};
 
 pub fn wide(x: u32) -> usize
@@ -221,7 +222,7 @@ fn check_child(
     claims: &mut [u8; 2048],
 ) -> Scan
     requires { ⌜ Place (now image) s (node .0) p ⌝ }
-    ensures { λ r. ⌜ Tested (now (image .entry)) (node .0) (child k) p (now (claims .entry)) r (now (claims .exit)) ⌝ }
+    ensures { λ r. ⌜ FieldTested (now (image .entry)) (node .0) (child k) p (now (claims .entry)) r (now (claims .exit)) ⌝ }
 {
     if s.operands <= p {
         return Scan { code: 7, at: p };
@@ -259,7 +260,7 @@ fn check_items(
 // A count and its items.
 fn check_list(image: &[u8], s: Sizes, node: NodeId, k: u32, p: u32, claims: &mut [u8; 2048]) -> Scan
     requires { ⌜ Place (now image) s (node .0) p ⌝ }
-    ensures { λ r. ⌜ Tested (now (image .entry)) (node .0) (list k) p (now (claims .entry)) r (now (claims .exit)) ⌝ }
+    ensures { λ r. ⌜ FieldTested (now (image .entry)) (node .0) (list k) p (now (claims .entry)) r (now (claims .exit)) ⌝ }
 {
     if s.operands <= p {
         return Scan { code: 7, at: p };
@@ -303,7 +304,7 @@ fn check_lists(
     claims: &mut [u8; 2048],
 ) -> Scan
     requires { ⌜ Place (now image) s (node .0) p ⌝ }
-    ensures { λ r. ⌜ Tested (now (image .entry)) (node .0) (lists k) p (now (claims .entry)) r (now (claims .exit)) ⌝ }
+    ensures { λ r. ⌜ FieldTested (now (image .entry)) (node .0) (lists k) p (now (claims .entry)) r (now (claims .exit)) ⌝ }
 {
     if s.operands <= p {
         return Scan { code: 7, at: p };
@@ -321,7 +322,7 @@ fn check_opt_child(
     claims: &mut [u8; 2048],
 ) -> Scan
     requires { ⌜ Place (now image) s (node .0) p ⌝ }
-    ensures { λ r. ⌜ Tested (now (image .entry)) (node .0) (optChild k) p (now (claims .entry)) r (now (claims .exit)) ⌝ }
+    ensures { λ r. ⌜ FieldTested (now (image .entry)) (node .0) (optChild k) p (now (claims .entry)) r (now (claims .exit)) ⌝ }
 {
     if s.operands <= p {
         return Scan { code: 7, at: p };
@@ -337,7 +338,7 @@ fn check_opt_child(
 
 fn check_name(image: &[u8], s: Sizes, p: u32) -> Scan
     requires { ⌜ Place (now image) s 0 p ⌝ }
-    ensures { λ r. ⌜ ((n : ℕ) (us : List ℕ) → Tested (now (image .entry)) n name p us r us) ⌝ }
+    ensures { λ r. ⌜ ((n : ℕ) (us : List ℕ) → FieldTested (now (image .entry)) n name p us r us) ⌝ }
 {
     if s.operands <= p {
         return Scan { code: 7, at: p };
@@ -351,7 +352,7 @@ fn check_name(image: &[u8], s: Sizes, p: u32) -> Scan
 
 fn check_opt_name(image: &[u8], s: Sizes, p: u32) -> Scan
     requires { ⌜ Place (now image) s 0 p ⌝ }
-    ensures { λ r. ⌜ ((n : ℕ) (us : List ℕ) → Tested (now (image .entry)) n optName p us r us) ⌝ }
+    ensures { λ r. ⌜ ((n : ℕ) (us : List ℕ) → FieldTested (now (image .entry)) n optName p us r us) ⌝ }
 {
     if s.operands <= p {
         return Scan { code: 7, at: p };
@@ -419,7 +420,7 @@ fn check_case(
     claims: &mut [u8; 2048],
 ) -> Scan
     requires { ⌜ Place (now image) s (node .0) p × (from + count ≤ 34) ⌝ }
-    ensures { λ r. ⌜ Tested (now (image .entry)) (node .0) (cases (caseList from count)) p (now (claims .entry)) r (now (claims .exit)) ⌝ }
+    ensures { λ r. ⌜ FieldTested (now (image .entry)) (node .0) (cases (caseList from count)) p (now (claims .entry)) r (now (claims .exit)) ⌝ }
 {
     if s.operands <= p {
         return Scan { code: 7, at: p };
@@ -580,7 +581,7 @@ fn check_part(
     claims: &mut [u8; 2048],
 ) -> Scan
     requires { ⌜ Place (now image) s (node .0) p × Cased part ⌝ }
-    ensures { λ r. ⌜ TestedAll (now (image .entry)) (node .0) (partOf part) p (now (claims .entry)) r (now (claims .exit)) ⌝ }
+    ensures { λ r. ⌜ FieldsTested (now (image .entry)) (node .0) (partOf part) p (now (claims .entry)) r (now (claims .exit)) ⌝ }
 {
     if part == 0 {
         return Scan { code: 0, at: p };
@@ -623,7 +624,7 @@ fn check_row(
     claims: &mut [u8; 2048],
 ) -> Scan
     requires { ⌜ Place (now image) s (node .0) p × (kind ≤ 40) ⌝ }
-    ensures { λ r. ⌜ TestedAll (now (image .entry)) (node .0) ((kindOf kind) .fields) p (now (claims .entry)) r (now (claims .exit)) ⌝ }
+    ensures { λ r. ⌜ FieldsTested (now (image .entry)) (node .0) ((kindOf kind) .fields) p (now (claims .entry)) r (now (claims .exit)) ⌝ }
 {
     let first = part_at(3 * kind);
     let a = check_part(image, s, node, first, p, claims);
@@ -784,7 +785,7 @@ fn name_end(image: &[u8], s: Sizes, i: u32) -> u32
 // Refusal 4: the ends of the names rise, from above 0 to B.
 fn test_ends(image: &[u8], s: Sizes) -> u32
     requires { ⌜ Head (now image) s ⌝ }
-    ensures { λ r. ⌜ r ≡ ends (now (image .entry)) ⌝ }
+    ensures { λ r. ⌜ r ≡ «tests-spec».testEnds (now (image .entry)) ⌝ }
 {
     let mut i = 0u32;
     let mut start = 0u32;
@@ -850,7 +851,7 @@ pub struct Span {
     pub end: u32,
 }
 
-fn span_of(image: &[u8], s: Sizes, i: u32, start: u32) -> Span
+pub fn span_of(image: &[u8], s: Sizes, i: u32, start: u32) -> Span
     requires { ⌜ Spanned (now image) s i start ⌝ }
     ensures { λ r. ⌜ NameAt (now (image .entry)) s i (r .from) (r .to) × (r .end ≡ «image-spec».nameEnd (now (image .entry)) i) ⌝ }
 {
@@ -900,8 +901,8 @@ fn meets(
 
 // Refusal 5: two names with equal bytes. Only names of one bucket are compared.
 fn test_twice(image: &[u8], s: Sizes) -> u32
-    requires { ⌜ Within (now image) s × (ends (now image) ≡ 0) ⌝ }
-    ensures { λ r. ⌜ r ≡ twice (now (image .entry)) ⌝ }
+    requires { ⌜ Within (now image) s × («tests-spec».testEnds (now image) ≡ 0) ⌝ }
+    ensures { λ r. ⌜ r ≡ «tests-spec».testTwice (now (image .entry)) ⌝ }
 {
     let mut heads = [0u32; 1024];
     let mut next = [0u32; 1024];
@@ -956,17 +957,52 @@ pub fn verdict(image: &[u8]) -> u32
     test_tree(image, s, step.at, &claims)
 }
 
-pub enum Answer {
+// Where the bytes of a name stand in the image.
+pub struct NamePlace {
+    pub start: usize,
+    pub len: usize,
+}
+
+// The place of a name's bytes; 0 and 0 where Name is empty.
+pub fn name_place(image: &[u8], number: u32) -> NamePlace
+    ensures { λ r. ⌜ r ≡ namePlace (now (image .entry)) number ⌝ }
+{
+    if verdict(image) != 0 {
+        return NamePlace { start: 0, len: 0 };
+    }
+    let s = sizes_of(image);
+    if s.names <= number {
+        return NamePlace { start: 0, len: 0 };
+    }
+    let p = span_of(image, s, number, name_start(image, s, number));
+    NamePlace {
+        start: p.from,
+        len: p.to - p.from,
+    }
+}
+
+// Name: the name's own bytes, a part of the image; empty for a number not below S, or where the image is refused.
+pub fn name(image: &[u8], number: u32) -> &[u8]
+    ensures { λ r. ⌜ now r ≡ nameCall (now (image .entry)) number ⌝ }
+{
+    let p = name_place(image, number);
+    let start = p.start;
+    let end = start + p.len;
+    &image[start..end]
+}
+
+// What the image tests say.
+pub enum Tested {
     Accepted,
     Refused(u32),
 }
 
-pub fn test_image(image: &[u8]) -> Answer
-    ensures { λ r. ⌜ r ≡ answerOf («tests-spec».verdict (now (image .entry))) ⌝ }
+pub fn test_image(image: &[u8]) -> Tested
+    ensures { λ r. ⌜ answerOf r ≡ testCall (now (image .entry)) ⌝ }
 {
     let code = verdict(image);
     if code == 0 {
-        return Answer::Accepted;
+        return Tested::Accepted;
     }
-    Answer::Refused(code)
+    Tested::Refused(code)
 }

@@ -15,14 +15,16 @@ use Rattle.table.specs.Table.{Table, lookup, isKind, isValue, mark, newScope, n
 use Rattle.ast.proofs.Small.{Small, Smalls}
 use Rattle.ordered.specs.Walk.{Role, occurs, declares, names, defines, walkIdent, headRole, walkArg, walk, walkSeq, walkFirst}
 use Rattle.ordered.specs.Walkers.{Few}
-use Rattle.ordered.proofs.Kept.{Kept, mark-kept, scope-kept, symbol-kept, mark-length, scope-length, symbol-length, mark-rows, scope-rows, symbol-rows}
+use Rattle.ordered.proofs.Kept.{Kept, past, mark-past, scope-past, symbol-past, mark-kept, scope-kept, symbol-kept, mark-length, scope-length, symbol-length, mark-rows, scope-rows, symbol-rows}
 
--- from e to f, whose counts are within the arrays: the rows of e stay, and what is kept of a table is kept
+-- from e to f, whose counts are within the arrays: the rows of e stay, so do the words past the table, and what is kept of a
+-- table is kept
 pub record Grows (img : List ℕ) (e f : Exit) : Type 0 where
   pub scopes : e .table .scopes ≤ f .table .scopes
   pub symbols : e .table .symbols ≤ f .table .symbols
   pub long : length (f .table .words) ≡ length (e .table .words)
   pub rows : Few img (f .table) → (j : ℕ) → j < e .table .symbols → scopeOf (nodes img) (f .table .words) j ≡ scopeOf (nodes img) (e .table .words) j
+  pub passed : Few img (f .table) → past img (f .table) ≡ past img (e .table)
   pub kept : Few img (f .table) → Kept img (e .table) → Kept img (f .table)
 
 pub few-below : {img : List ℕ} {e f : Exit} → Grows img e f → Few img (f .table) → Few img (e .table)
@@ -34,7 +36,7 @@ sorted-below h q s =
     record { within = (let y = h .symbols in let z = s .within in omega arith); long = (let y = h .long in let z = s .long in omega arith); rises = λ i j a b. let y = h .symbols in let u = h .rows q i (omega arith) in let v = h .rows q j b in let z = s .rises i j a (omega arith) in omega arith }
 
 pub stays : {img : List ℕ} (e : Exit) → Grows img e e
-stays e = record { scopes = omega arith; symbols = omega arith; long = refl; rows = λ q j l. refl; kept = λ q s. s }
+stays e = record { scopes = omega arith; symbols = omega arith; long = refl; rows = λ q j l. refl; passed = λ q. refl; kept = λ q s. s }
 
 pub further : {img : List ℕ} {e f g : Exit} → Grows img e f → Grows img f g → Grows img e g
 further h k =
@@ -43,6 +45,7 @@ further h k =
       symbols = (let a = h .symbols in let b = k .symbols in omega arith);
       long = k .long ∙ h .long;
       rows = λ q j l. k .rows q j (let a = h .symbols in omega arith) ∙ h .rows (few-below k q) j l;
+      passed = λ q. k .passed q ∙ h .passed (few-below k q);
       kept = λ q s. k .kept q (h .kept (few-below k q) s);
     }
 
@@ -55,13 +58,14 @@ module _ (img : List ℕ) where
         symbols = omega arith;
         long = symbol-length img (e .table .scopes) n (newScope img (e .scope) (e .table)) ∙ scope-length img (e .scope) (e .table);
         rows = λ q j l. symbol-rows img (e .table .scopes) n (newScope img (e .scope) (e .table)) j l ∙ scope-rows img (e .scope) (e .table) (let a = q .scopes in omega arith) j;
+        passed = λ q. symbol-past img (e .table .scopes) n (newScope img (e .scope) (e .table)) (let a = q .symbols in omega arith) ∙ scope-past img (e .scope) (e .table) (let a = q .scopes in omega arith);
         kept = λ q s. symbol-kept img (e .table .scopes) n (newScope img (e .scope) (e .table)) (let a = q .symbols in omega arith) (let z : suc (e .table .scopes) ≡ e .table .scopes + 1 = omega arith in z) (scope-kept img (e .scope) (e .table) (let a = q .scopes in omega arith) s);
       }
 
   marks : {n : ℕ} → n < nodes img → (a b s : ℕ) (e : Exit) → Grows img e (record { scope = s; table = mark img n a b (e .table) })
   unfolding mark
   marks {n} h a b s e =
-      record { scopes = omega arith; symbols = omega arith; long = mark-length img n a b (e .table); rows = λ q j l. mark-rows img n a b (e .table) h j; kept = λ q d. mark-kept img n a b (e .table) h d }
+      record { scopes = omega arith; symbols = omega arith; long = mark-length img n a b (e .table); rows = λ q j l. mark-rows img n a b (e .table) h j; passed = λ q. mark-past img n a b (e .table) h; kept = λ q d. mark-kept img n a b (e .table) h d }
 
   pick-grows : (b : Bool) (n : ℕ) (e : Exit) → Grows img e (elim b [ true ↦ e | false ↦ introduce img n e ])
   pick-grows true n e = stays e
@@ -83,7 +87,7 @@ module _ (img : List ℕ) where
   unmarked-grows l {e} {f} h = further h (marks l allOnes allOnes (f .scope) f)
 
   pub back-grows : (cur : ℕ) {e f : Exit} → Grows img e f → Grows img e (back img cur f)
-  back-grows cur h = record { scopes = h .scopes; symbols = h .symbols; long = h .long; rows = h .rows; kept = h .kept }
+  back-grows cur h = record { scopes = h .scopes; symbols = h .symbols; long = h .long; rows = h .rows; passed = h .passed; kept = h .kept }
 
   pub arg-grows : (n : ℕ) (sh : List ℕ) {e f : Exit} → Grows img e f → Grows img e (walkArg img n sh f)
   unfolding walkArg

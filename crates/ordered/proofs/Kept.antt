@@ -5,9 +5,10 @@ use mathlib.Core.List.{List}
 use Prim.Native.Nat.{ℕ, zero, suc, _+_, _*_, _-_, _<_, _≤_}
 use native.Mathlib.Omega.{arith}
 use native.Mathlib.Nat.{eq-or-lt-of-le}
-use lib.ListN.{length, getD, set, length-set}
-use lib.Seq.{getD-set-same, getD-set-other}
+use lib.ListN.{length, getD, set, drop, length-set}
+use lib.Seq.{getD-set-same, getD-set-other, drop-set-lt}
 use Rattle.ast.specs.Image.{nodes}
+use Rattle.table.specs.Layout.{tableLength}
 use Rattle.table.specs.Rows.{scopeOf, Sorted}
 use Rattle.table.specs.Table.{Table, markWords, mark, newScope, newSymbol}
 
@@ -42,6 +43,26 @@ module _ (img : List ℕ) where
   symbol-rows s n t j h =
       getD-set-other (set (t .words) (3 + 3 * nodes img + t .symbols) s) (3 + 4 * nodes img + t .symbols) (3 + 3 * nodes img + j) n 0 (λ q. omega arith)
       ∙ getD-set-other (t .words) (3 + 3 * nodes img + t .symbols) (3 + 3 * nodes img + j) s 0 (λ q. omega arith)
+
+  -- the words past the table
+  abbrev pub past : Table → List ℕ
+  past t = drop (tableLength (nodes img)) (t .words)
+
+  pub mark-past : (n a b : ℕ) (t : Table) → n < nodes img → past (mark img n a b t) ≡ past t
+  unfolding mark
+  mark-past n a b t h =
+      drop-set-lt (tableLength (nodes img)) (set (t .words) (3 + n) a) (3 + nodes img + n) b (omega arith)
+      ∙ drop-set-lt (tableLength (nodes img)) (t .words) (3 + n) a (omega arith)
+
+  pub scope-past : (p : ℕ) (t : Table) → t .scopes < nodes img → past (newScope img p t) ≡ past t
+  unfolding newScope
+  scope-past p t h = drop-set-lt (tableLength (nodes img)) (t .words) (3 + 2 * nodes img + t .scopes) p (omega arith)
+
+  pub symbol-past : (s n : ℕ) (t : Table) → t .symbols < nodes img → past (newSymbol img s n t) ≡ past t
+  unfolding newSymbol
+  symbol-past s n t h =
+      drop-set-lt (tableLength (nodes img)) (set (t .words) (3 + 3 * nodes img + t .symbols) s) (3 + 4 * nodes img + t .symbols) n (omega arith)
+      ∙ drop-set-lt (tableLength (nodes img)) (t .words) (3 + 3 * nodes img + t .symbols) s (omega arith)
 
   -- the same rows, and as many
   kept-same : (t u : Table) → u .symbols ≡ t .symbols → t .scopes ≤ u .scopes → length (u .words) ≡ length (t .words)

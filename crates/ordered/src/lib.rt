@@ -334,8 +334,8 @@ pub fn walk_defined_atom(image: &[u8], table: &mut [u32], at: Walked, id: NodeId
     if var == 0 {
         return table::leave(image, table, id, at, after_term);
     }
-    let before = at.scope;
-    let exit = walk_then_defined_var(image, table, after_term, before, NodeId(var - 1));
+    let before_term = at.scope;
+    let exit = walk_then_defined_var(image, table, after_term, before_term, NodeId(var - 1));
     table::leave(image, table, id, at, exit)
 }
 
@@ -412,12 +412,12 @@ pub fn walk_stmt_block(
     requires { ⌜ Run (now image) 36 (node .0) first count (exitOf at (now table)) ⌝ }
     ensures { λ r. ⌜ exitOf r (now (table .exit)) ≡ rest (now (image .entry)) occurs (node .0) first count 0 (exitOf at (now (table .entry))) ⌝ }
 {
-    let mut i = 0;
+    let mut done = 0;
     let mut w = at;
-    while i < count {
-        let stmt = NodeId(ast::field(image, node, first + i));
+    while done < count {
+        let stmt = NodeId(ast::field(image, node, first + done));
         w = walk_stmt(image, table, w, stmt);
-        i += 1;
+        done += 1;
     }
     w
 }
@@ -463,8 +463,8 @@ pub fn walk_blocks(image: &[u8], table: &mut [u32], at: Walked, id: NodeId) -> W
     let mut w = at;
     while i < count {
         let size = ast::wide(ast::field(image, id, j));
-        let scope = w.scope;
         let v = walk_stmt_block(image, table, w, id, j + 1, size);
+        let scope = w.scope;
         w = Walked {
             scope,
             scopes: v.scopes,
@@ -511,9 +511,9 @@ pub fn walk_match_case(image: &[u8], table: &mut [u32], at: Walked, id: NodeId) 
     let count = ast::wide(ast::field(image, id, 1));
     let after_pattern = walk_term(image, table, at, pattern);
     let v = walk_stmt_block(image, table, after_pattern, id, 2, count);
-    let scope = at.scope;
+    let enclosing = at.scope;
     let w = Walked {
-        scope,
+        scope: enclosing,
         scopes: v.scopes,
         symbols: v.symbols,
     };

@@ -3,3 +3,4 @@ pub mod Resolve
 pub mod Twice
 pub mod Lookup
 pub mod Rows
+pub mod Answers

@@ -1,2 +1,4 @@
 pub mod Finds
 pub mod Rising
+pub mod Sounds
+pub mod Frames

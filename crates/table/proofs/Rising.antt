@@ -91,7 +91,7 @@ either-none (some n) = refl
 
 module _ (img ws : List ℕ) where
   -- row j, if it is of the scope and the name
-  hit : Bool → ℕ → Option ℕ
+  unfoldable pub hit : Bool → ℕ → Option ℕ
   hit b j = elim b [ true ↦ some (getD ws (3 + 4 * nodes img + j) 0) | false ↦ none ]
 
   find-first : (b : Bool) (j : ℕ) (o u : Option ℕ) → either (elim b [ true ↦ some (getD ws (3 + 4 * nodes img + j) 0) | false ↦ o ]) u ≡ elim b [ true ↦ some (getD ws (3 + 4 * nodes img + j) 0) | false ↦ either o u ]
@@ -100,7 +100,7 @@ module _ (img ws : List ℕ) where
   find-first false j o u = refl
 
   -- the last of the rows counts where no other does
-  find-snoc : (c j s x : ℕ) → findFrom img (suc c) ws j s x ≡ either (findFrom img c ws j s x) (hit (rowIs img ws (j + c) s x) (j + c))
+  pub find-snoc : (c j s x : ℕ) → findFrom img (suc c) ws j s x ≡ either (findFrom img c ws j s x) (hit (rowIs img ws (j + c) s x) (j + c))
   unfolding findFrom hit either
   find-snoc zero j s x = ap (λ (i : ℕ). hit (rowIs img ws i s x) i) (sym (add-zero j))
   find-snoc (suc c) j s x =

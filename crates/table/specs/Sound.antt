@@ -8,14 +8,7 @@ use Rattle.ast.specs.Image.{nodes, kindAt, field}
 use Rattle.ast.specs.Tests.{_▸_, need, run}
 use Rattle.table.specs.Layout.{allOnes, nodesPlace, scopesPlace, symbolsPlace, parentPlace, scopePlace, nodePlace}
 
-module _ (img ws : List ℕ) where
-  -- K and Y, as the words have them
-  abbrev pub scopesIn : ℕ
-  scopesIn = getD ws scopesPlace 0
-
-  abbrev pub symbolsIn : ℕ
-  symbolsIn = getD ws symbolsPlace 0
-
+module _ (img : List ℕ) where
   -- an optional name that is present, for a rule or an argument
   unfoldable pub hasName : ℕ → Bool
   hasName n = not (eqb (field img n 0) 0)
@@ -33,6 +26,14 @@ module _ (img ws : List ℕ) where
         ]
       ])
 
+module _ (img ws : List ℕ) where
+  -- K and Y, as the words have them
+  abbrev pub scopesIn : ℕ
+  scopesIn = getD ws scopesPlace 0
+
+  abbrev pub symbolsIn : ℕ
+  symbolsIn = getD ws symbolsPlace 0
+
   -- each scope but the first has a parent below it
   unfoldable pub parentBelow : ℕ → ℕ
   parentBelow s = need 16 (ltb (getD ws (parentPlace (nodes img) s) 0) s)
@@ -40,7 +41,7 @@ module _ (img ws : List ℕ) where
   -- a symbol row: a scope below K and a named node
   unfoldable pub rowSound : ℕ → ℕ
   unfolding isSymbol
-  rowSound j = need 16 (ltb (getD ws (scopePlace (nodes img) j) 0) scopesIn) ▸ need 16 (isSymbol (getD ws (nodePlace (nodes img) j) 0))
+  rowSound j = need 16 (ltb (getD ws (scopePlace (nodes img) j) 0) scopesIn) ▸ need 16 (isSymbol img (getD ws (nodePlace (nodes img) j) 0))
 
   -- 0 where the table is sound, else 16
   unfoldable pub testSound : ℕ

@@ -2,7 +2,8 @@ use borrow.Author.Needs.{needs}
 use mathlib.Core.Path.{refl, sym}
 use native.Mathlib.Omega.{arith}
 use Prim.Native.Nat.{_-_}
-use Rattle.ast.proofs.Names.{name-fits, bucket-is, Buckets, buckets-begin, buckets-next, buckets-stop, buckets-end, rises-of}
+use Rattle.ast.proofs.Names.{name-fits, bucket-is, Buckets, buckets-begin, buckets-next, buckets-stop, buckets-end}
+use Rattle.ast.proofs.Accepted.{rises-of}
 use Rattle.ast.proofs.test_twice.Statement.{statement}
 use Rattle.ast.proofs.test_twice.Tie as tie
 

@@ -210,10 +210,10 @@ walk-blocks-wide-requires-2 : (t : ℕ) → walk-blocks-lts.Need-wide-requires-2
 walk-blocks-wide-requires-2 t c κs = search needs
 
 walk-blocks-add-walk-stmt-block : (t : ℕ) → walk-blocks-lts.Need-add-walk-stmt-block (walk-blocks-claims t) (walk-blocks-at t) walk-blocks.Post walk-blocks-Inv-loop walk-blocks-μ-loop
-walk-blocks-add-walk-stmt-block t c = let b = branch-place _ (c .before .before .before .before .before .loop .inv) in omega arith
+walk-blocks-add-walk-stmt-block t c = let b = branch-place _ (c .before .before .before .before .loop .inv) in omega arith
 
 walk-blocks-walk-stmt-block-requires : (t : ℕ) → walk-blocks-lts.Need-walk-stmt-block-requires (walk-blocks-claims t) (walk-blocks-at t) walk-blocks.Post walk-blocks-Inv-loop walk-blocks-μ-loop
-walk-blocks-walk-stmt-block-requires t c κs = (omega arith, (blockItem _ (c .before .before .before .before .before .before .before .before .before .before .pre .1) (c .before .before .before .before .before .loop .inv) (omega arith) (c .before .before .wide2 .ensures ∙ c .before .before .before .field2 .ensures)) .run)
+walk-blocks-walk-stmt-block-requires t c κs = (omega arith, (blockItem _ (c .before .before .before .before .before .before .before .before .before .pre .1) (c .before .before .before .before .loop .inv) (omega arith) (c .before .wide2 .ensures ∙ c .before .before .field2 .ensures)) .run)
 
 walk-blocks-add-j : (t : ℕ) → walk-blocks-lts.Need-add-j (walk-blocks-claims t) (walk-blocks-at t) walk-blocks.Post walk-blocks-Inv-loop walk-blocks-μ-loop
 walk-blocks-add-j t c = let b = (blockItem _ (c .before .before .before .before .before .before .before .before .before .before .before .before .before .pre .1) (c .before .before .before .before .before .before .before .before .loop .inv) (omega arith) (c .before .before .before .before .before .wide2 .ensures ∙ c .before .before .before .before .before .before .field2 .ensures)) .fits in omega arith
@@ -228,7 +228,7 @@ walk-blocks-loop-less : (t : ℕ) → walk-blocks-lts.Need-loop-less (walk-block
 walk-blocks-loop-less t c = search needs
 
 walk-blocks-loop-again : (t : ℕ) → walk-blocks-lts.Need-loop-again (walk-blocks-claims t) (walk-blocks-at t) walk-blocks.Post walk-blocks-Inv-loop walk-blocks-μ-loop
-walk-blocks-loop-again t c = (blockItem _ (c .before .before .before .before .before .before .before .before .before .before .before .before .before .pre .1) (c .before .before .before .before .before .before .before .before .loop .inv) (omega arith) (c .before .before .before .before .before .wide2 .ensures ∙ c .before .before .before .before .before .before .field2 .ensures)) .more _ (ap (back (c .before .before .before .before .before .before .before .before .before .before .before .before .before .args .image .now) _) (c .before .before .walk-stmt-block .ensures)) (c .before .before .walk-stmt-block .kept .1 .0 ∙ c .before .before .before .before .before .before .before .before .loop .inv .long)
+walk-blocks-loop-again t c = (blockItem _ (c .before .before .before .before .before .before .before .before .before .before .before .before .before .pre .1) (c .before .before .before .before .before .before .before .before .loop .inv) (omega arith) (c .before .before .before .before .before .wide2 .ensures ∙ c .before .before .before .before .before .before .field2 .ensures)) .more _ (ap (back (c .before .before .before .before .before .before .before .before .before .before .before .before .before .args .image .now) _) (c .before .before .before .walk-stmt-block .ensures)) (c .before .before .before .walk-stmt-block .kept .1 .0 ∙ c .before .before .before .before .before .before .before .before .loop .inv .long)
 
 walk-blocks-same-length : (t : ℕ) → walk-blocks-lts.Need-same-length (walk-blocks-claims t) (walk-blocks-at t) walk-blocks.Post walk-blocks-Inv-loop walk-blocks-μ-loop
 walk-blocks-same-length t c = c .before .loop .inv .long
@@ -344,10 +344,10 @@ unfolding kindOf
 walk-stmt-returns t c = c .before .before .leave .ensures ∙ ap (marked _ _ _) (c .before .before .before .before .before .before .walk-stmt-case .ensures) ∙ sym (plain-whole _ _ (c .before .before .before .before .before .before .before .before .before .before .pre .1 .is))
 
 abbrev walk-stmt-block-Inv-loop : walk-stmt-block-lts.InvT-loop
-walk-stmt-block-Inv-loop image table₀ node first count i₀ w₀ table i w = Left image occurs (node .0) first count i (exitOf w₀ table₀) (exitOf w table)
+walk-stmt-block-Inv-loop image table₀ node first count done₀ w₀ table done w = Left image occurs (node .0) first count done (exitOf w₀ table₀) (exitOf w table)
 
 abbrev walk-stmt-block-μ-loop : walk-stmt-block-lts.MeasureT-loop
-walk-stmt-block-μ-loop image table₀ node first count i₀ w₀ table i w = count - i
+walk-stmt-block-μ-loop image table₀ node first count done₀ w₀ table done w = count - done
 
 walk-stmt-block-loop-holds : (t : ℕ) → walk-stmt-block-lts.Need-loop-holds (walk-stmt-block-claims t) (walk-stmt-block-at t) walk-stmt-block.Post walk-stmt-block-Inv-loop walk-stmt-block-μ-loop
 walk-stmt-block-loop-holds t c = record { within = omega arith; long = refl; left = refl }
@@ -361,8 +361,8 @@ walk-stmt-block-field-requires t c κs = let b = c .before .before .before .befo
 walk-stmt-block-walk-stmt-requires : (t : ℕ) → walk-stmt-block-lts.Need-walk-stmt-requires (walk-stmt-block-claims t) (walk-stmt-block-at t) walk-stmt-block.Post walk-stmt-block-Inv-loop walk-stmt-block-μ-loop
 walk-stmt-block-walk-stmt-requires t c κs = let o = runItem _ (c .before .before .before .before .before .before .pre .1) (c .before .before .loop-test .taken) (c .before .field .ensures) (c .before .before .before .loop .inv .left) in (let l = o .low in omega arith, o .ready)
 
-walk-stmt-block-add-i : (t : ℕ) → walk-stmt-block-lts.Need-add-i (walk-stmt-block-claims t) (walk-stmt-block-at t) walk-stmt-block.Post walk-stmt-block-Inv-loop walk-stmt-block-μ-loop
-walk-stmt-block-add-i t c = search needs
+walk-stmt-block-add-done : (t : ℕ) → walk-stmt-block-lts.Need-add-done (walk-stmt-block-claims t) (walk-stmt-block-at t) walk-stmt-block.Post walk-stmt-block-Inv-loop walk-stmt-block-μ-loop
+walk-stmt-block-add-done t c = search needs
 
 walk-stmt-block-loop-less : (t : ℕ) → walk-stmt-block-lts.Need-loop-less (walk-stmt-block-claims t) (walk-stmt-block-at t) walk-stmt-block.Post walk-stmt-block-Inv-loop walk-stmt-block-μ-loop
 walk-stmt-block-loop-less t c = search needs
@@ -374,7 +374,7 @@ walk-stmt-block-same-length : (t : ℕ) → walk-stmt-block-lts.Need-same-length
 walk-stmt-block-same-length t c = c .before .loop .inv .long
 
 walk-stmt-block-returns : (t : ℕ) → walk-stmt-block-lts.Need-returns (walk-stmt-block-claims t) (walk-stmt-block-at t) walk-stmt-block.Post walk-stmt-block-Inv-loop walk-stmt-block-μ-loop
-walk-stmt-block-returns t c = sym (c .before .loop .inv .left ∙ rest-end _ _ _ _ _ (c .before .loop .i) _ (omega arith))
+walk-stmt-block-returns t c = sym (c .before .loop .inv .left ∙ rest-end _ _ _ _ _ (c .before .loop .done) _ (omega arith))
 
 walk-stmt-case-field-requires : (t : ℕ) → walk-stmt-case-lts.Need-field-requires (walk-stmt-case-claims t) (walk-stmt-case-at t) walk-stmt-case.Post
 walk-stmt-case-field-requires t c κs = search needs
@@ -516,7 +516,7 @@ pub +walk-blocks+walk-branch+walk-cases+walk-match+walk-match-case+walk-stmt+wal
     (walk-stmt-block-add-field t)
     (walk-stmt-block-field-requires t)
     (walk-stmt-block-walk-stmt-requires t)
-    (walk-stmt-block-add-i t)
+    (walk-stmt-block-add-done t)
     (walk-stmt-block-loop-less t)
     (walk-stmt-block-loop-again t)
     (walk-stmt-block-same-length t)

@@ -1,0 +1,118 @@
+-- What the steps of a walk do to the symbols of one scope.
+use mathlib.Core.Path.{_≡_, refl, ap, ap₂, _∙_}
+use mathlib.Core.Bool.{Bool, true, false}
+use mathlib.Core.List.{List}
+use mathlib.Core.Option.{Option, none, some}
+use Prim.Native.Nat.{ℕ, zero, suc, _+_, _*_, _<_, _≤_}
+use native.Mathlib.Omega.{arith}
+use native.Mathlib.Nat.{zero-add}
+use native.Mathlib.Numerals.{add-one}
+use lib.Dec.{eqb}
+use lib.ListN.{length, getD, set, length-set}
+use lib.Seq.{getD-set-same, getD-set-other}
+use borrow.Author.Tests.{eq-eqb}
+use Rattle.ast.specs.Image.{nodes, nameOf}
+use Rattle.table.specs.Layout.{scopePlace, nodePlace, tableLength}
+use Rattle.table.specs.Rows.{scopeOf, nodeAt}
+use Rattle.table.specs.Table.{Table, rowIs, findFrom, find, mark, newScope, newSymbol}
+use Rattle.table.proofs.Finds.{row-out}
+use Rattle.table.proofs.Rising.{either, hit, find-snoc}
+
+-- the words ws and vs have the same first y rows, in the table of an image of n nodes
+pub record SameRows (n y : ℕ) (ws vs : List ℕ) : Type 0 where
+  pub scopes : (j : ℕ) → j < y → scopeOf n ws j ≡ scopeOf n vs j
+  pub nodes : (j : ℕ) → j < y → nodeAt n ws j ≡ nodeAt n vs j
+
+module _ (img : List ℕ) where
+  -- the node n, if it has the name x
+  unfoldable pub own : ℕ → ℕ → Option ℕ
+  own n x = elim (eqb (nameOf img n) x) [ true ↦ some n | false ↦ none ]
+
+  isRow : ℕ → ℕ → ℕ → ℕ → Bool
+  isRow a n s x = elim (eqb a s) [ true ↦ eqb (nameOf img n) x | false ↦ false ]
+
+  pick : Bool → ℕ → Option ℕ → Option ℕ
+  pick b n o = elim b [ true ↦ some n | false ↦ o ]
+
+  from-same : (c : ℕ) (ws vs : List ℕ) (j s x : ℕ) → SameRows (nodes img) (j + c) ws vs → findFrom img c ws j s x ≡ findFrom img c vs j s x
+  unfolding findFrom isRow pick
+  from-same zero ws vs j s x h = refl
+  from-same (suc c) ws vs j s x h =
+      ap₂ (λ (a n : ℕ). pick (isRow a n s x) n (findFrom img c ws (j + 1) s x)) (h .scopes j (omega arith)) (h .nodes j (omega arith))
+      ∙ ap (λ (o : Option ℕ). pick (isRow (scopeOf (nodes img) vs j) (nodeAt (nodes img) vs j) s x) (nodeAt (nodes img) vs j) o)
+      (from-same c ws vs (j + 1) s x (record { scopes = λ i l. h .scopes i (omega arith); nodes = λ i l. h .nodes i (omega arith) }))
+
+  -- no row of the scope
+  pub from-none : (c : ℕ) (ws : List ℕ) (j s x : ℕ) → ((i : ℕ) → i < j + c → scopeOf (nodes img) ws i ≡ s → ⊥) → findFrom img c ws j s x ≡ none
+  unfolding findFrom
+  from-none zero ws j s x h = refl
+  from-none (suc c) ws j s x h = rw (row-out img ws j s x (h j (omega arith)), findFrom) (from-none c ws (j + 1) s x (λ i l. h i (omega arith)))
+
+  pub find-none : (t : Table) (s x : ℕ) → ((i : ℕ) → i < t .symbols → scopeOf (nodes img) (t .words) i ≡ s → ⊥) → find img t s x ≡ none
+  unfolding find
+  find-none t s x h = from-none (t .symbols) (t .words) 0 s x (λ i l. h i (omega arith))
+
+  pub find-mark : (n a b : ℕ) (t : Table) → n < nodes img → (s x : ℕ) → find img (mark img n a b t) s x ≡ find img t s x
+  unfolding find mark
+  find-mark n a b t l s x =
+      from-same (t .symbols) ((mark img n a b t) .words) (t .words) 0 s x
+      (record { scopes = λ j k. word (scopePlace (nodes img) j) (omega arith); nodes = λ j k. word (nodePlace (nodes img) j) (omega arith) })
+    where
+      word : (i : ℕ) → 3 + 2 * nodes img ≤ i → getD ((mark img n a b t) .words) i 0 ≡ getD (t .words) i 0
+      word i h = getD-set-other (set (t .words) (3 + n) a) (3 + nodes img + n) i b 0 (λ q. omega arith) ∙ getD-set-other (t .words) (3 + n) i a 0 (λ q. omega arith)
+
+  pub find-scope : (p : ℕ) (t : Table) → t .scopes < nodes img → (s x : ℕ) → find img (newScope img p t) s x ≡ find img t s x
+  unfolding find newScope
+  find-scope p t l s x =
+      from-same (t .symbols) ((newScope img p t) .words) (t .words) 0 s x
+      (record {
+        scopes = λ j k. getD-set-other (t .words) (3 + 2 * nodes img + t .scopes) (scopePlace (nodes img) j) p 0 (λ q. omega arith);
+        nodes = λ j k. getD-set-other (t .words) (3 + 2 * nodes img + t .scopes) (nodePlace (nodes img) j) p 0 (λ q. omega arith);
+      })
+
+  -- one symbol more
+  module _ (s n : ℕ) (t : Table) (few : t .symbols < nodes img) (long : tableLength (nodes img) ≤ length (t .words)) where
+    abbrev y : ℕ
+    y = t .symbols
+
+    abbrev vs : List ℕ
+    vs = (newSymbol img s n t) .words
+
+    pub symbol-same : SameRows (nodes img) y vs (t .words)
+    unfolding newSymbol
+    symbol-same =
+        record {
+          scopes = λ j k.
+              getD-set-other (set (t .words) (3 + 3 * nodes img + y) s) (3 + 4 * nodes img + y) (scopePlace (nodes img) j) n 0 (λ q. omega arith)
+              ∙ getD-set-other (t .words) (3 + 3 * nodes img + y) (scopePlace (nodes img) j) s 0 (λ q. omega arith);
+          nodes = λ j k.
+              getD-set-other (set (t .words) (3 + 3 * nodes img + y) s) (3 + 4 * nodes img + y) (nodePlace (nodes img) j) n 0 (λ q. omega arith)
+              ∙ getD-set-other (t .words) (3 + 3 * nodes img + y) (nodePlace (nodes img) j) s 0 (λ q. omega arith);
+        }
+
+    pub symbol-scope : scopeOf (nodes img) vs y ≡ s
+    unfolding newSymbol
+    symbol-scope =
+        getD-set-other (set (t .words) (3 + 3 * nodes img + y) s) (3 + 4 * nodes img + y) (3 + 3 * nodes img + y) n 0 (λ q. omega arith)
+        ∙ getD-set-same (t .words) (3 + 3 * nodes img + y) s 0 (omega arith)
+
+    pub symbol-node : nodeAt (nodes img) vs y ≡ n
+    unfolding newSymbol
+    symbol-node = getD-set-same (set (t .words) (3 + 3 * nodes img + y) s) (3 + 4 * nodes img + y) n 0 (rw length-set (omega arith))
+
+    row-new : (x : ℕ) → rowIs img vs y s x ≡ eqb (nameOf img n) x
+    unfolding rowIs
+    row-new x = rw (eq-eqb _ _ symbol-scope, rowIs) (ap (λ (m : ℕ). eqb (nameOf img m) x) symbol-node)
+
+    hit-new : (x : ℕ) → hit img vs (rowIs img vs y s x) y ≡ own n x
+    unfolding hit own
+    hit-new x = ap₂ (λ (b : Bool) (m : ℕ). elim b as (λ _. Option ℕ) [ true ↦ some m | false ↦ none ]) (row-new x) symbol-node
+
+    -- in its scope: what was there, or else the new node
+    pub find-symbol : (x : ℕ) → find img (newSymbol img s n t) s x ≡ either (find img t s x) (own n x)
+    unfolding find newSymbol
+    find-symbol x =
+        ap (λ (c : ℕ). findFrom img c vs 0 s x) (add-one y)
+        ∙ find-snoc img vs y 0 s x
+        ∙ ap (λ (i : ℕ). either (findFrom img y vs 0 s x) (hit img vs (rowIs img vs i s x) i)) (zero-add y)
+        ∙ ap₂ (λ (o u : Option ℕ). either o u) (from-same y vs (t .words) 0 s x (record { scopes = λ j k. symbol-same .scopes j (omega arith); nodes = λ j k. symbol-same .nodes j (omega arith) })) (hit-new x)
