@@ -1,15 +1,15 @@
 -- Resolving never makes more scopes or symbols than there are nodes.
-use mathlib.Core.Path.{_≡_, refl, sym, _∙_, ap, subst}
+use mathlib.Core.Path.{_≡_, refl, _∙_, subst}
 use mathlib.Core.List.{List, [], _∷_, _++_}
 use Prim.Native.Nat.{ℕ, zero, suc, _+_, _≤_, _<_}
 use native.Mathlib.Omega.{arith}
 use lib.ListN.{length, length-append}
 use Rattle.ast.specs.Image.{nodes}
-use Rattle.ast.specs.Kinds.{Class, outer, inner, Outer, root, decl, signature, rule, enum, model, Inner}
+use Rattle.ast.specs.Kinds.{Class, outer, inner, root, decl, signature, rule, enum, model}
 use Rattle.ast.specs.Tree.{Tree, node, block, Trees, none, _◂_}
 use Rattle.table.specs.Layout.{allOnes}
 use Rattle.table.specs.State.{Exit, childScope, ownSymbol, marked, back}
-use Rattle.table.specs.Table.{Table, mark, newScope, newSymbol}
+use Rattle.table.specs.Table.{newScope}
 use Rattle.ordered.specs.Walk.{occurs, walkSeq}
 use Rattle.scopes.specs.Walk.{done, enterName, enterRule, andThen, enter, enterAll, visit, visitAll, resolveTree}
 use Rattle.occurrences.specs.Sight.{In}

@@ -1,13 +1,13 @@
 -- Each node of an accepted image is marked once, and stands once among the nodes of its rules.
-use mathlib.Core.Path.{_≡_, refl, sym, _∙_, ap, subst}
-use mathlib.Core.Logic.{_⊎_, inl, inr}
+use mathlib.Core.Path.{_≡_, sym, ap, subst}
+use mathlib.Core.Logic.{inl, inr}
 use mathlib.Core.List.{List, [], _∷_, _++_}
 use mathlib.Core.Option.{Option}
-use Prim.Native.Nat.{ℕ, zero, suc, _+_, _≤_, _<_}
+use Prim.Native.Nat.{ℕ, _+_, _≤_, _<_}
 use native.Mathlib.Decide.{decLt}
 use native.Mathlib.Omega.{arith}
 use Rattle.ast.specs.Image.{nodes, last}
-use Rattle.ast.specs.Kinds.{Class, outer, inner, Outer, root, decl, signature, rule, enum, model, Inner, plain, term, ident, head, headMember, member, branch, match, case, ifVar, definedThen, arg}
+use Rattle.ast.specs.Kinds.{outer, inner, root, decl, signature, rule, enum, model, plain, term, ident, head, headMember, member, branch, match, case, ifVar, definedThen, arg}
 use Rattle.ast.specs.Tests.{is, times, verdict}
 use Rattle.ast.specs.Tree.{Tree, node, block, Trees, none, _◂_, treeAt}
 use Rattle.ast.proofs.Count.{nodesOf, nodesAll, is-same, times-append, once, nothing-else}
@@ -16,7 +16,7 @@ use Rattle.occurrences.proofs.Members.{Distinct}
 use Rattle.occurrences.proofs.Steps.{numbers, numbersSeq}
 use Rattle.occurrences.proofs.Lists.{entered, enteredAll, visited, visitedAll}
 use Rattle.occurrences.proofs.Bounded.{moduleNumbers}
-use Rattle.occurrences.proofs.Verdict.{Root, root-of}
+use Rattle.occurrences.proofs.Verdict.{root-of}
 
 -- members and distinct numbers, by how often a number stands in a list
 pub in-times : (v : ℕ) (xs : List ℕ) → In v xs → 1 ≤ times v xs
@@ -34,24 +34,29 @@ distinct-times (x ∷ xs) h = (
 )
 
 module _ (v : ℕ) where
+  -- a node after what stands below it
+  after-own : (n : ℕ) (ns ms : List ℕ) → times v ns ≤ times v ms → times v (ns ++ (n ∷ [])) ≤ times v (n ∷ ms)
+  unfolding times
+  after-own n ns ms l = let a = times-append v ns (n ∷ []) in omega arith
+
   mutual
     unfolding numbers nodesOf times
 
     numbers-once : (u : Tree) → times v (numbers u) ≤ times v (nodesOf u)
     numbers-once (block ts) = numbersSeq-once ts
     numbers-once (node n k (outer c) sh ts) = omega arith
-    numbers-once (node n k (inner plain) sh ts) = let a = times-append v (numbersSeq ts) (n ∷ []) in let b = numbersSeq-once ts in omega arith
-    numbers-once (node n k (inner term) sh ts) = let a = times-append v (numbersSeq ts) (n ∷ []) in let b = numbersSeq-once ts in omega arith
+    numbers-once (node n k (inner plain) sh ts) = after-own n (numbersSeq ts) (nodesAll ts) (numbersSeq-once ts)
+    numbers-once (node n k (inner term) sh ts) = after-own n (numbersSeq ts) (nodesAll ts) (numbersSeq-once ts)
     numbers-once (node n k (inner ident) sh ts) = omega arith
-    numbers-once (node n k (inner head) sh ts) = let a = times-append v (numbersSeq ts) (n ∷ []) in let b = numbersSeq-once ts in omega arith
-    numbers-once (node n k (inner headMember) sh ts) = let a = times-append v (numbersSeq ts) (n ∷ []) in let b = numbersSeq-once ts in omega arith
-    numbers-once (node n k (inner member) sh ts) = let a = times-append v (numbersSeq ts) (n ∷ []) in let b = numbersSeq-once ts in omega arith
-    numbers-once (node n k (inner branch) sh ts) = let a = times-append v (numbersSeq ts) (n ∷ []) in let b = numbersSeq-once ts in omega arith
-    numbers-once (node n k (inner match) sh ts) = let a = times-append v (numbersSeq ts) (n ∷ []) in let b = numbersSeq-once ts in omega arith
-    numbers-once (node n k (inner case) sh ts) = let a = times-append v (numbersSeq ts) (n ∷ []) in let b = numbersSeq-once ts in omega arith
-    numbers-once (node n k (inner ifVar) sh ts) = let a = times-append v (numbersSeq ts) (n ∷ []) in let b = numbersSeq-once ts in omega arith
-    numbers-once (node n k (inner definedThen) sh ts) = let a = times-append v (numbersSeq ts) (n ∷ []) in let b = numbersSeq-once ts in omega arith
-    numbers-once (node n k (inner arg) sh ts) = let a = times-append v (numbersSeq ts) (n ∷ []) in let b = numbersSeq-once ts in omega arith
+    numbers-once (node n k (inner head) sh ts) = after-own n (numbersSeq ts) (nodesAll ts) (numbersSeq-once ts)
+    numbers-once (node n k (inner headMember) sh ts) = after-own n (numbersSeq ts) (nodesAll ts) (numbersSeq-once ts)
+    numbers-once (node n k (inner member) sh ts) = after-own n (numbersSeq ts) (nodesAll ts) (numbersSeq-once ts)
+    numbers-once (node n k (inner branch) sh ts) = after-own n (numbersSeq ts) (nodesAll ts) (numbersSeq-once ts)
+    numbers-once (node n k (inner match) sh ts) = after-own n (numbersSeq ts) (nodesAll ts) (numbersSeq-once ts)
+    numbers-once (node n k (inner case) sh ts) = after-own n (numbersSeq ts) (nodesAll ts) (numbersSeq-once ts)
+    numbers-once (node n k (inner ifVar) sh ts) = after-own n (numbersSeq ts) (nodesAll ts) (numbersSeq-once ts)
+    numbers-once (node n k (inner definedThen) sh ts) = after-own n (numbersSeq ts) (nodesAll ts) (numbersSeq-once ts)
+    numbers-once (node n k (inner arg) sh ts) = after-own n (numbersSeq ts) (nodesAll ts) (numbersSeq-once ts)
 
     numbersSeq-once : (us : Trees) → times v (numbersSeq us) ≤ times v (nodesAll us)
     numbersSeq-once none = omega arith

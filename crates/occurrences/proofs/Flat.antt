@@ -4,8 +4,8 @@ use mathlib.Core.Path.{_≡_, refl, sym, _∙_, ap, subst}
 use mathlib.Core.Logic.{_⊎_, inl, inr, _↔_, Dec·and}
 use mathlib.Core.Bool.{Bool, true, false, Bool-discrete}
 use mathlib.Core.List.{List, [], _∷_}
-use mathlib.Core.Option.{Option, none, some}
-use Prim.Native.Nat.{ℕ, zero, suc, _+_, _≤_, _<_}
+use mathlib.Core.Option.{Option, some}
+use Prim.Native.Nat.{ℕ, suc, _≤_, _<_}
 use native.Mathlib.Decide.{ℕ-discrete, decLt}
 use native.Mathlib.Omega.{arith}
 use Rattle.occurrences.specs.Sight.{Sort, ordinary, declared, applied, defined, Place, In, Within, Sees, Names, Naming, Fresh, FreshSort, NamedBelow, Occurrence, NoneFresh, Same}
@@ -261,7 +261,11 @@ module _ (name : ℕ → ℕ) (var const : Option ℕ → Bool) (outer : ℕ →
     unfolding bind
     bind-at [] s lim b c p i nm v z = absurd i
     bind-at (q ∷ ps) s lim b c p (inl e) nm v z =
-        bind-cong (q ∷ ps) lim (suc (p .at)) b (p .around) (name (p .ident)) (λ r j. (λ w. (top r j, c r p j (inl e) (down (top r j)) (v .0) (w .1) (v .1)), λ w. (let l = w .0 in let m = v .0 in omega arith, λ n k. v .1 n (w .1 n k))))
+        bind-cong (q ∷ ps) lim (suc (p .at)) b (p .around) (name (p .ident))
+        (λ r j. (
+          (λ w. (top r j, c r p j (inl e) (down (top r j)) (v .0) (w .1) (v .1))),
+          (λ w. ((let l = w .0 in let m = v .0 in omega arith), λ n k. v .1 n (w .1 n k))),
+        ))
       where
         down : {a b : ℕ} → a < suc b → a ≤ b
         down h = omega arith
@@ -395,6 +399,6 @@ module _ (name : ℕ → ℕ) (var const : Option ℕ → Bool) (outer : ℕ →
         introduced o i v =
             let h : From ps (suc (o .at)) (o .around) (name (o .ident)) = bind-from ps s (suc (o .at)) (o .around) (name (o .ident)) v in
             let e : binding o ≡ binding (h .0) =
-                at-naming o (h .0) i (h .1) (h .3) (h .4) (let m = h .5 .0 in (omega arith, h .5 .1))
-                (λ d k f e′ l u. let m = u .0 in h .6 d k f e′ l (omega arith, u .1)) in
+            at-naming o (h .0) i (h .1) (h .3) (h .4) (let m = h .5 .0 in (omega arith, h .5 .1))
+            (λ d k f e′ l u. let m = u .0 in h .6 d k f e′ l (omega arith, u .1)) in
             (h .0, h .1, h .3, h .2, sym e ∙ h .2)

@@ -5,19 +5,19 @@ use mathlib.Core.Logic.{_⊎_, inl, inr, _≢_}
 use mathlib.Core.Bool.{Bool, true, false}
 use mathlib.Core.List.{List, [], _∷_, _++_}
 use mathlib.Core.Option.{Option, none, some}
-use Prim.Native.Nat.{ℕ, zero, suc, _+_, _*_, _≤_, _<_}
+use Prim.Native.Nat.{ℕ, suc, _≤_, _<_}
 use native.Mathlib.Omega.{arith}
 use native.Mathlib.Decide.{ℕ-discrete}
 use lib.Dec.{eqb}
 use borrow.Author.Tests.{eq-eqb, ne-eqb}
 use Rattle.ast.specs.Image.{nodes, nameOf, kindAt}
-use Rattle.ordered.specs.Walk.{Role, occurs, declares, names, defines, walkIdent}
+use Rattle.ordered.specs.Walk.{Role, defines, walkIdent}
 use Rattle.table.specs.State.{Exit, introduce}
 use Rattle.table.specs.Table.{Table, lookup, isKind, mark, exitAt}
-use Rattle.occurrences.specs.Sight.{Sort, ordinary, declared, applied, defined, Place, Met, add, opened, In, Within, orElse, own}
-use Rattle.occurrences.proofs.Flat.{limitOf, Adds, Visible, Hit, bind, bind-hit, bind-miss, bind-cong, Sorted, Chain}
+use Rattle.occurrences.specs.Sight.{Sort, defined, Place, add, opened, In, Within, orElse, own}
+use Rattle.occurrences.proofs.Flat.{limitOf, Sorted, Chain}
 use Rattle.occurrences.proofs.Frame.{Sane, Later, later-next, mark-lookup, mark-exit, mark-exit-same, mark-sane, new-lookup, new-lookup-old, new-exit, new-sane}
-use Rattle.occurrences.proofs.Keep.{bound, Choice, choice, choice-defined, Blind, New, Kept, kept, keptPlace}
+use Rattle.occurrences.proofs.Keep.{bound, adds, hits, bound-hit, bound-miss, bound-cong, Choice, choice, choice-defined, New, Kept, kept, keptPlace}
 use Rattle.occurrences.proofs.Members.{in-left, in-right, Distinct, distinct-left, distinct-right, distinct-apart}
 use Rattle.occurrences.proofs.Steps.{State, Simple, occur, declare, apply, role, sort, marking, placing, opening, closing, Steps, stay, next, marks, places, fixes, drops}
 
@@ -46,9 +46,10 @@ module _ (img : List ℕ) (outer : ℕ → Option ℕ) where
     pub single : (p q : Place) → In p (st .met .places) → In q (st .met .places) → p .ident ≡ q .ident → p ≡ q
 
   -- the limit does not matter above all numbers
-  bound-limit : (ps : List Place) (k : ℕ) → ((p : Place) → In p ps → p .at < k) → (lim : ℕ) → k ≤ lim → (b : List ℕ) (x : ℕ) → bound img outer lim ps b x ≡ bound img outer k ps b x
+  bound-limit : (ps : List Place) (k : ℕ) → ((p : Place) → In p ps → p .at < k) → (lim : ℕ) → k ≤ lim → (b : List ℕ) (x : ℕ)
+      → bound img outer lim ps b x ≡ bound img outer k ps b x
   bound-limit ps k low lim l b x =
-      bind-cong (nameOf img) (isKind img 13) (isKind img 5) outer ps lim k b b x
+      bound-cong img outer ps lim k b b x
       (λ p i. (λ v. (low p i, v .1), λ v. (let m = low p i in omega arith, v .1)))
 
   -- an ident at its place
@@ -71,17 +72,17 @@ module _ (img : List ℕ) (outer : ℕ → Option ℕ) where
       reads : (x : ℕ) → lookup img (e .table) (e .scope) x ≡ bound img outer (suc (st .met .next)) (here ∷ ps) b x
 
     -- who is no hit leaves the binding
-    passed : (x : ℕ) → (Hit (nameOf img) (isKind img 13) (isKind img 5) outer (suc (st .met .next)) b x here (bound img outer (limitOf σ (st .met .next)) ps b x) → ⊥)
+    passed : (x : ℕ) → (hits img outer (suc (st .met .next)) b x here (bound img outer (limitOf σ (st .met .next)) ps b x) → ⊥)
         → lookup img (st .now .table) (st .now .scope) x ≡ bound img outer (suc (st .met .next)) (here ∷ ps) b x
     passed x f =
         g .reads x
         ∙ sym (bound-limit ps (st .met .next) (g .low) (suc (st .met .next)) (omega arith) b x)
-        ∙ sym (bind-miss (nameOf img) (isKind img 13) (isKind img 5) outer (suc (st .met .next)) here ps b x f)
+        ∙ sym (bound-miss img outer (suc (st .met .next)) here ps b x f)
 
     abbrev Fits : Exit → Type 0
     Fits e = (e .table .scopes ≤ nodes img) × (e .table .symbols ≤ nodes img)
 
-    did-keep : (Adds (nameOf img) (isKind img 13) (isKind img 5) outer σ asks → ⊥) → Did (st .now)
+    did-keep : (adds img outer σ asks → ⊥) → Did (st .now)
     did-keep f =
         record {
           sane = g .sane;
@@ -89,10 +90,10 @@ module _ (img : List ℕ) (outer : ℕ → Option ℕ) where
           rise = omega arith;
           old = λ s x l. refl;
           exits = λ m l. refl;
-          reads = λ x. passed x (λ h. f (subst (λ y. Adds (nameOf img) (isKind img 13) (isKind img 5) outer σ (bound img outer (limitOf σ (st .met .next)) ps b y)) (sym (h .1 .0)) (h .1 .1)));
+          reads = λ x. passed x (λ h. f (subst (λ y. adds img outer σ (bound img outer (limitOf σ (st .met .next)) ps b y)) (sym (h .1 .0)) (h .1 .1)));
         }
 
-    did-introduce : Adds (nameOf img) (isKind img 13) (isKind img 5) outer σ asks → Fits (introduce img i (st .now)) → Did (introduce img i (st .now))
+    did-introduce : adds img outer σ asks → Fits (introduce img i (st .now)) → Did (introduce img i (st .now))
     unfolding introduce own
     did-introduce a l =
         let l₀ = l .0 in
@@ -113,8 +114,8 @@ module _ (img : List ℕ) (outer : ℕ → Option ℕ) where
         go x (yes e) =
             ap (λ y. pickBy x (eqb (nameOf img i) y)) (sym e)
             ∙ ap (pickBy x) (eq-eqb (nameOf img i) (nameOf img i) refl)
-            ∙ sym (bind-hit (nameOf img) (isKind img 13) (isKind img 5) outer (suc (st .met .next)) here ps b x
-            ((omega arith, λ m j. j), (e, subst (λ y. Adds (nameOf img) (isKind img 13) (isKind img 5) outer σ (bound img outer (limitOf σ (st .met .next)) ps b y)) e a)))
+            ∙ sym (bound-hit img outer (suc (st .met .next)) here ps b x
+            ((omega arith, λ m j. j), (e, subst (λ y. adds img outer σ (bound img outer (limitOf σ (st .met .next)) ps b y)) e a)))
         go x (no f) = ap (pickBy x) (ne-eqb (nameOf img i) x f) ∙ passed x (λ h. f (h .1 .0))
 
     did : Choice img outer σ r i (st .now) asks → Fits (walkIdent img r i (st .now)) → Did (walkIdent img r i (st .now))
@@ -198,7 +199,7 @@ module _ (img : List ℕ) (outer : ℕ → Option ℕ) where
               λ x. same (exitAt img (st .now .table .words) (p .node)) x
                   ∙ d .old (exitAt img (st .now .table .words) (p .node)) x ((g .seen p j) .0)
                   ∙ (g .seen p j) .1 x
-                  ∙ sym (bind-miss (nameOf img) (isKind img 13) (isKind img 5) outer (suc (p .at)) here ps (p .around) x
+                  ∙ sym (bound-miss img outer (suc (p .at)) here ps (p .around) x
                   (λ h. let a = h .0 .0 in let u = g .low p j in omega arith)),
             )
 
@@ -217,6 +218,9 @@ module _ (img : List ℕ) (outer : ℕ → Option ℕ) where
 
   abbrev pub Bounds : Table → Type 0
   Bounds t = (t .scopes ≤ nodes img) × (t .symbols ≤ nodes img)
+
+  clear-left : (ns ms : List ℕ) (st : State) → Clear st (ns ++ ms) → Clear st ns
+  clear-left ns ms st f p j = (λ i. (f p j) .0 (in-left (p .node) ns ms i), λ i. (f p j) .1 (in-left (p .ident) ns ms i))
 
   clear-next : (b ns ms : List ℕ) (st st′ : State) → Kept img outer b ns st st′ → Distinct (ns ++ ms) → Clear st (ns ++ ms) → Clear st′ ms
   clear-next b ns ms st st′ k d f p j = go (k .new p j)
@@ -245,7 +249,9 @@ module _ (img : List ℕ) (outer : ℕ → Option ℕ) where
       lowBlocks = g .lowBlocks;
       chain = g .chain;
       chains = g .chains;
-      seen = λ p j. subst (λ s. (s < st .now .table .scopes) × ((y : ℕ) → lookup img (mark img n e x (st .now .table)) s y ≡ bound img outer (suc (p .at)) (st .met .places) (p .around) y))
+      seen = λ p j. subst
+          (λ s. (s < st .now .table .scopes)
+          × ((y : ℕ) → lookup img (mark img n e x (st .now .table)) s y ≡ bound img outer (suc (p .at)) (st .met .places) (p .around) y))
           (sym (mark-exit img n e x (st .now .table) l (p .node) (g .lowNode p j) (λ q. (f p j) .0 (inl q))))
           ((g .seen p j) .0, λ y. mark-lookup img n e x (st .now .table) l (exitAt img (st .now .table .words) (p .node)) y ∙ (g .seen p j) .1 y);
       single = g .single;
@@ -263,7 +269,7 @@ module _ (img : List ℕ) (outer : ℕ → Option ℕ) where
         sane = g .sane;
         inside = g .inside;
         reads = λ x. g .reads x
-            ∙ bind-cong (nameOf img) (isKind img 13) (isKind img 5) outer (st .met .places) (st .met .next) (suc (st .met .next)) b (st .met .next ∷ b) x
+            ∙ bound-cong img outer (st .met .places) (st .met .next) (suc (st .met .next)) b (st .met .next ∷ b) x
             (λ p j. (λ v. (let l = v .0 in omega arith, λ n k. inr (v .1 n k)), λ v. (g .low p j, shrink p j (v .1))));
         sorted = g .sorted;
         low = λ p j. let l = g .low p j in omega arith;
@@ -322,7 +328,7 @@ module _ (img : List ℕ) (outer : ℕ → Option ℕ) where
       let a = k′ .scopes≤ in
       let c = k′ .symbols≤ in
       let h : Good b st′ × Later img (st .now .table) (st′ .now .table) ns =
-      good s (omega arith, omega arith) (λ n i. sm n (in-left n ns ms i)) (distinct-left ns ms di) (λ p j. (λ i. (cl p j) .0 (in-left (p .node) ns ms i), λ i. (cl p j) .1 (in-left (p .ident) ns ms i))) g in
+      good s (omega arith, omega arith) (λ n i. sm n (in-left n ns ms i)) (distinct-left ns ms di) (clear-left ns ms st cl) g in
       let h′ : Good b st″ × Later img (st′ .now .table) (st″ .now .table) ms =
       good u bs (λ n i. sm n (in-right n ns ms i)) (distinct-right ns ms di) (clear-next b ns ms st st′ k di cl) (h .0) in
       (h′ .0, later-next img (st .now .table) (st′ .now .table) (st″ .now .table) ns ms (k .scopes≤) (h .1) (h′ .1))
@@ -344,7 +350,7 @@ module _ (img : List ℕ) (outer : ℕ → Option ℕ) where
       let a′ = f′ .symbols≤ in
       let l = f .later in
       let h : Good b st′ × Later img (st .now .table) (st′ .now .table) ns =
-      good s (omega arith, omega arith) (λ m j. sm m (in-left m ns ms j)) (distinct-left ns ms di) (λ p j. (λ q. (cl p j) .0 (in-left (p .node) ns ms q), λ q. (cl p j) .1 (in-left (p .ident) ns ms q))) g in
+      good s (omega arith, omega arith) (λ m j. sm m (in-left m ns ms j)) (distinct-left ns ms di) (clear-left ns ms st cl) g in
       let h′ : Good b (placing img b σ r n i st′) × Later img (st′ .now .table) ((placing img b σ r n i st′) .now .table) ms =
       placed b σ r n i st′ (h .0)
       (subst (λ o. Choice img outer σ r i (st′ .now) o)

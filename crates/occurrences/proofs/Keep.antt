@@ -1,19 +1,19 @@
 -- What steps keep: numbers and counts rise, new places stand below the blocks around, and what is bound elsewhere stays.
-use mathlib.Core.Path.{_≡_, refl, sym, _∙_, ap, subst}
-use mathlib.Core.Logic.{_⊎_, inl, inr}
+use mathlib.Core.Path.{_≡_, refl, sym, _∙_, subst}
+use mathlib.Core.Logic.{_⊎_, inl, inr, _↔_}
 use mathlib.Core.Bool.{Bool, true, false}
 use mathlib.Core.List.{List, [], _∷_, _++_}
-use mathlib.Core.Option.{Option, none, some}
-use Prim.Native.Nat.{ℕ, zero, suc, _+_, _≤_, _<_}
+use mathlib.Core.Option.{Option, some}
+use Prim.Native.Nat.{ℕ, _≤_}
 use native.Mathlib.Omega.{arith}
-use Rattle.ast.specs.Image.{nameOf, kindAt}
-use Rattle.table.specs.State.{Exit, introduce, back}
-use Rattle.table.specs.Table.{Table, lookup, isKind, isValue, mark}
-use Rattle.ordered.specs.Walk.{Role, occurs, declares, names, defines, walkIdent}
-use Rattle.occurrences.specs.Sight.{Sort, ordinary, declared, applied, defined, Place, Met, add, opened, In, Within}
+use Rattle.ast.specs.Image.{nameOf}
+use Rattle.table.specs.State.{Exit, introduce}
+use Rattle.table.specs.Table.{lookup, isKind, isValue, mark}
+use Rattle.ordered.specs.Walk.{Role, defines, walkIdent}
+use Rattle.occurrences.specs.Sight.{Sort, defined, Place, add, opened, In, Within}
 use Rattle.occurrences.proofs.Members.{in-left, in-right}
-use Rattle.occurrences.proofs.Flat.{true-not-false, Adds, Visible, Hit, bind, bind-miss}
-use Rattle.occurrences.proofs.Steps.{State, Simple, occur, declare, apply, role, sort, marking, placing, opening, closing, Steps, stay, next, marks, places, fixes, drops}
+use Rattle.occurrences.proofs.Flat.{true-not-false, limit, Adds, Visible, Hit, bind, bind-hit, bind-miss, bind-cong}
+use Rattle.occurrences.proofs.Steps.{State, Simple, occur, declare, apply, role, sort, placing, Steps, stay, next, marks, places, fixes, drops}
 
 module _ (img : List ℕ) (outer : ℕ → Option ℕ) where
   -- the binding of x as seen from below the blocks and cases b, among the places numbered below lim
@@ -23,12 +23,30 @@ module _ (img : List ℕ) (outer : ℕ → Option ℕ) where
   abbrev pub adds : Sort → Option ℕ → Type 0
   adds σ o = Adds (nameOf img) (isKind img 13) (isKind img 5) outer σ o
 
+  abbrev pub hits : ℕ → List ℕ → ℕ → Place → Option ℕ → Type 0
+  hits lim b x p o = Hit (nameOf img) (isKind img 13) (isKind img 5) outer lim b x p o
+
+  pub bound-hit : (lim : ℕ) (p : Place) (ps : List Place) (b : List ℕ) (x : ℕ) → hits lim b x p (bound (limit p) ps (p .around) x)
+      → bound lim (p ∷ ps) b x ≡ some (p .ident)
+  bound-hit = bind-hit (nameOf img) (isKind img 13) (isKind img 5) outer
+
+  pub bound-miss : (lim : ℕ) (p : Place) (ps : List Place) (b : List ℕ) (x : ℕ) → (hits lim b x p (bound (limit p) ps (p .around) x) → ⊥)
+      → bound lim (p ∷ ps) b x ≡ bound lim ps b x
+  bound-miss = bind-miss (nameOf img) (isKind img 13) (isKind img 5) outer
+
+  pub bound-cong : (ps : List Place) (lim lim′ : ℕ) (b b′ : List ℕ) (x : ℕ) → ((p : Place) → In p ps → Visible lim b p ↔ Visible lim′ b′ p)
+      → bound lim ps b x ≡ bound lim′ ps b′ x
+  bound-cong = bind-cong (nameOf img) (isKind img 13) (isKind img 5) outer
+
   -- an ident introduces or not, by what lookup gives
   abbrev pub Choice : Sort → Role → ℕ → Exit → Option ℕ → Type 0
   Choice σ r i e o = ((walkIdent img r i e ≡ introduce img i e) × adds σ o) ⊎ ((walkIdent img r i e ≡ e) × (adds σ o → ⊥))
 
   -- what introduces unless a test holds
-  chosen : (i : ℕ) (e : Exit) (c : Bool) → ((elim c [ true ↦ e | false ↦ introduce img i e ] ≡ introduce img i e) × (c ≡ false)) ⊎ ((elim c [ true ↦ e | false ↦ introduce img i e ] ≡ e) × (c ≡ false → ⊥))
+  abbrev unless : ℕ → Exit → Bool → Exit
+  unless i e c = elim c [ true ↦ e | false ↦ introduce img i e ]
+
+  chosen : (i : ℕ) (e : Exit) (c : Bool) → ((unless i e c ≡ introduce img i e) × (c ≡ false)) ⊎ ((unless i e c ≡ e) × (c ≡ false → ⊥))
   chosen i e true = inr (refl, λ h. true-not-false refl h)
   chosen i e false = inl (refl, refl)
 
@@ -40,7 +58,7 @@ module _ (img : List ℕ) (outer : ℕ → Option ℕ) where
       o = lookup img (e .table) (e .scope) (nameOf img i)
 
       result : Bool → Bool → Exit
-      result a b = elim (elim a as (λ _. Bool) [ true ↦ true | false ↦ b ]) [ true ↦ e | false ↦ introduce img i e ]
+      result a b = unless i e (elim a [ true ↦ true | false ↦ b ])
 
       go : (a b : Bool) → isKind img 13 o ≡ a → isKind img 5 o ≡ b
           → ((result a b ≡ introduce img i e) × ((isKind img 13 o ≡ false) × (isKind img 5 o ≡ false)))
@@ -91,7 +109,7 @@ module _ (img : List ℕ) (outer : ℕ → Option ℕ) where
           | inl e ↦ inr (subst (New b (i ∷ n ∷ []) (st .met .next)) (sym e) (omega arith, (λ m k. k), inr (inl refl), inl refl))
           | inr k ↦ inl k
         ];
-        quiet = λ lim b′ x d. bind-miss (nameOf img) (isKind img 13) (isKind img 5) outer lim
+        quiet = λ lim b′ x d. bound-miss lim
             (record { at = st .met .next; node = n; ident = i; sort = σ; around = b }) (st .met .places) b′ x
             (λ w. elim d [ inl l ↦ let m = w .0 .0 in omega arith | inr f ↦ f (w .0 .1) ]);
       }

@@ -1,30 +1,35 @@
 -- What Occurrences leaves where it refuses nothing and no name is declared twice: the resolver's table, and the list.
 use mathlib.Core.Path.{_≡_, refl, sym, _∙_, ap, ap₂, subst, fun-ext}
 use mathlib.Core.Logic.{_⊎_, inl, inr, _↔_}
-use mathlib.Core.List.{List, [], _∷_}
-use mathlib.Core.Option.{Option, none as nothing, some}
+use mathlib.Core.List.{List}
+use mathlib.Core.Option.{Option, some}
 use Prim.Native.Nat.{ℕ, zero, suc, _≤_}
 use native.Mathlib.Omega.{arith}
 use lib.ListN.{length}
 use borrow.Author.Tests.{eqb-true}
 use Rattle.ast.specs.Answer.{refused, result}
 use Rattle.ast.specs.Image.{nodes, kindAt, nameOf}
-use Rattle.ast.specs.Tests.{_▸_, verdict}
-use Rattle.ast.proofs.Accepted.{both}
-use Rattle.table.specs.State.{Exit}
-use Rattle.table.specs.Table.{Table, lookup, isKind, exitAt}
+use Rattle.ast.specs.Tests.{verdict}
+use Rattle.rows.specs.Rows.{Row, row, lefts, written}
 use Rattle.scopes.specs.Resolve.{testTable, walked, headed}
-use Rattle.scopes.specs.Rows.{Row, row, lefts, written, testRows, Outcome}
+use Rattle.scopes.specs.Rows.{testRows, Outcome}
 use Rattle.scopes.specs.Walk.{done}
-use Rattle.occurrences.specs.Sight.{Sort, ordinary, declared, applied, defined, Place, In, Rule, moduleRules, outerConst, Same}
+use Rattle.table.specs.State.{Exit}
+use Rattle.table.specs.Table.{lookup, isKind, exitAt}
+use Rattle.ast.proofs.Accepted.{both}
 use Rattle.occurrences.specs.Occurrences.{occurrenceRows, occurrencesOf, occurrences}
-use Rattle.occurrences.proofs.Members.{Distinct}
+use Rattle.occurrences.specs.Sight.{Sort, ordinary, declared, applied, defined, Place, In, Rule, moduleRules, outerConst, Same}
 use Rattle.occurrences.proofs.Listing.{placesOf, Occurs, AllRows}
-use Rattle.occurrences.proofs.Spots.{ownerKind, ordered}
+use Rattle.occurrences.proofs.Members.{Distinct}
 use Rattle.occurrences.proofs.Resolving.{tableOf, resolved, headed-exit, headed-lookup}
 use Rattle.occurrences.proofs.RowLaws.{bindingOf, RowAt, all-only, all-all, one-row, rows-list, rows-distinct, rows-few}
+use Rattle.occurrences.proofs.Spots.{ownerKind, ordered}
 use Rattle.occurrences.proofs.WholeModule.{WalkOf, var-is-occurrence, equal-is-same}
 use Rattle.occurrences.proofs.Written.{rowsIn, rows-read}
+
+-- no more rows than nodes: no row is dropped
+pub few-rows : (img tab : List ℕ) (e : Exit) → verdict img ≡ 0 → walked img tab ≡ done e → length (occurrenceRows img (e .table)) ≤ nodes img
+few-rows img tab e accepted single = rows-few img (e .table) accepted ((resolved img tab e accepted single) .walks)
 
 module _ (img tab rows : List ℕ) (accepted : testRows img tab rows ≡ 0) (e : Exit) (single : walked img tab ≡ done e) where
   pub image-accepted : verdict img ≡ 0
@@ -58,17 +63,17 @@ module _ (img tab rows : List ℕ) (accepted : testRows img tab rows ≡ 0) (e :
   walks : (r : Rule) → In r (moduleRules img) → WalkOf img r (e .table)
   walks = (resolved img tab e image-accepted single) .walks
 
-  pub list-few : length found-rows ≤ nodes img
-  list-few = rows-few img (e .table) image-accepted walks
-
   pub list-is : list ≡ found-rows
-  list-is = ap (λ (o : Outcome). rowsIn (nodes img) (o .rows)) leaves ∙ rows-read (nodes img) found-rows rows list-few
+  list-is = ap (λ (o : Outcome). rowsIn (nodes img) (o .rows)) leaves ∙ rows-read (nodes img) found-rows rows (few-rows img tab e image-accepted single)
 
   pub binding-is : (p : Place) → binding p ≡ bindingOf img (e .table) p
   binding-is p =
       ap (λ (o : Outcome). lookup img (tableOf img (o .table)) (exitAt img (o .table) (p .node)) (nameOf img (p .ident))) leaves
       ∙ headed-lookup img tab e image-accepted single (exitAt img (headed img (e .table)) (p .node)) (nameOf img (p .ident))
       ∙ ap (λ s. lookup img (e .table) s (nameOf img (p .ident))) (headed-exit img tab e image-accepted single (p .node))
+
+  pub list-few : length list ≤ nodes img
+  list-few = subst (λ (l : List Row). length l ≤ nodes img) (sym list-is) (few-rows img tab e image-accepted single)
 
   pub answered : left .answer ≡ result 0 (length list)
   answered = ap (λ (o : Outcome). o .answer) leaves ∙ ap (λ (l : List Row). result 0 (length l)) (sym list-is)
@@ -97,7 +102,8 @@ module _ (img tab rows : List ℕ) (accepted : testRows img tab rows ≡ 0) (e :
   )
 
   -- the listed binding of a variable occurrence
-  listed-binding : (r : Rule) → In r (moduleRules img) → (p : Place) → In p (placesOf r) → Occurs img r p → (w : Row) → In w list → w .left ≡ p .node → binding p ≡ some (w .right)
+  listed-binding : (r : Rule) → In r (moduleRules img) → (p : Place) → In p (placesOf r) → Occurs img r p
+      → (w : Row) → In w list → w .left ≡ p .node → binding p ≡ some (w .right)
   listed-binding r i p j o w k q =
       let g = all-all img binding lists-all r i p j o in
       let z = one-row list lists-once w (row (p .node) (g .0)) k (g .2) q in

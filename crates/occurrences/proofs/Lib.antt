@@ -17,5 +17,6 @@ pub mod Resolving
 pub mod RowLaws
 pub mod Written
 pub mod Leaving
-pub mod Lone
+pub mod LoneTerm
+pub mod Single
 pub mod Demand

@@ -7,7 +7,7 @@ use mathlib.Core.Option.{Option, some}
 use Prim.Native.Nat.{ℕ, _≤_, _<_}
 use native.Mathlib.Omega.{arith}
 use Rattle.ast.specs.Image.{nameOf}
-use Rattle.scopes.specs.Rows.{Row, row}
+use Rattle.rows.specs.Rows.{Row, row}
 use Rattle.occurrences.specs.Sight.{Sort, ordinary, declared, applied, defined, Place, In, Spot, Rule, rulePlaces, outerConst, Occurrence}
 
 -- q stands in the term of the defined-then whose variable is d: the term's places are numbered from the atom's start on,

@@ -1,17 +1,17 @@
 -- Declaration lists: what entering and visiting them do to the table.
 use mathlib.Core.Path.{_≡_, refl, sym, _∙_, ap, subst}
-use mathlib.Core.Logic.{_⊎_, inl, inr, _≢_}
+use mathlib.Core.Logic.{inl, _≢_}
 use mathlib.Core.Bool.{Bool, true, false}
 use mathlib.Core.List.{List, [], _∷_, _++_}
 use mathlib.Core.Option.{Option, none as nothing, some}
-use Prim.Native.Nat.{ℕ, zero, suc, _+_, _≤_, _<_}
+use Prim.Native.Nat.{ℕ, zero, suc, _≤_, _<_}
 use native.Mathlib.Omega.{arith}
 use lib.Dec.{eqb}
 use Rattle.ast.specs.Image.{nodes, kindAt, nameOf}
-use Rattle.ast.specs.Kinds.{Class, outer, inner, Outer, root, decl, signature, rule, enum, model, Inner}
+use Rattle.ast.specs.Kinds.{outer, inner, root, decl, signature, rule, enum, model}
 use Rattle.ast.specs.Tree.{Tree, node, block, Trees, none, _◂_}
 use Rattle.table.specs.State.{Exit, childScope, ownSymbol, marked, back}
-use Rattle.table.specs.Table.{Table, mark, newSymbol, find, isKind, exitAt}
+use Rattle.table.specs.Table.{Table, find, isKind, exitAt}
 use Rattle.ordered.specs.Walk.{occurs, walkSeq}
 use Rattle.scopes.specs.Walk.{Listed, done, twice, enterName, enterRule, andThen, enter, enterAll, visit, visitAll}
 use Rattle.occurrences.specs.Sight.{In, orElse, own, ruleOwn, Rule, says, saysAll, rules, rulesAll}
@@ -191,7 +191,7 @@ module _ (img : List ℕ) where
       let q = stays u in
       let f : Entered (e .scope) ns D (e .table) (e′ .table) = entering v (omega arith) (λ n j. sm n (in-left n ns ms j)) so i in
       let g : Entered (e .scope) ms E (e′ .table) (e″ .table) =
-          subst (λ s. Entered s ms E (e′ .table) (e″ .table)) p₀ (entering u b (λ n j. sm n (in-right n ns ms j)) (f .sane) (omega arith)) in
+      subst (λ s. Entered s ms E (e′ .table) (e″ .table)) p₀ (entering u b (λ n j. sm n (in-right n ns ms j)) (f .sane) (omega arith)) in
       record {
         sane = g .sane;
         others = λ r x h. g .others r x h ∙ f .others r x h;

@@ -1,23 +1,23 @@
 -- What any walk below a declaration does to the table: it marks its nodes, and adds scopes with their symbols.
-use mathlib.Core.Path.{_≡_, refl, sym, _∙_, ap, subst}
+use mathlib.Core.Path.{_≡_, refl, sym, _∙_, subst}
 use mathlib.Core.Logic.{_⊎_, inl, inr}
 use mathlib.Core.List.{List, [], _∷_, _++_}
-use mathlib.Core.Option.{Option, none as nothing, some}
+use mathlib.Core.Option.{none as nothing}
 use Prim.Native.Nat.{ℕ, zero, suc, _+_, _≤_, _<_}
 use native.Mathlib.Omega.{arith}
 use lib.ListN.{length, length-append}
-use Rattle.ast.specs.Image.{nodes, nameOf}
-use Rattle.ast.specs.Kinds.{Class, outer, inner, Outer, Inner, plain, term, ident, head, headMember, member, branch, match, case, ifVar, definedThen, arg}
+use Rattle.ast.specs.Image.{nodes}
+use Rattle.ast.specs.Kinds.{outer, inner, plain, term, ident, head, headMember, member, branch, match, case, ifVar, definedThen, arg}
 use Rattle.ast.specs.Tree.{Tree, node, block, Trees, none, _◂_}
 use Rattle.table.specs.Layout.{allOnes}
-use Rattle.table.specs.State.{Exit, introduce, marked, unmarked, back}
-use Rattle.table.specs.Table.{Table, mark, lookup}
+use Rattle.table.specs.State.{Exit, introduce, back}
+use Rattle.table.specs.Table.{Table, mark}
 use Rattle.ordered.specs.Walk.{Role, occurs, declares, names, defines, walkIdent, walk, walkSeq, walkFirst, headRole, walkArg}
 use Rattle.occurrences.specs.Sight.{In}
 use Rattle.occurrences.proofs.Members.{in-left, in-right}
 use Rattle.occurrences.proofs.Frame.{Sane, Later, later-next, mark-lookup, mark-exit, mark-sane, new-lookup-old, new-exit, new-sane}
-use Rattle.occurrences.proofs.Steps.{numbers, numbersSeq, Simple, occur, declare, apply, role, sort}
-use Rattle.occurrences.proofs.Keep.{choice, choice-defined, Choice}
+use Rattle.occurrences.proofs.Steps.{numbers, numbersSeq, Simple, occur, declare, apply, role}
+use Rattle.occurrences.proofs.Keep.{choice, choice-defined}
 
 module _ (img : List ℕ) where
   -- the node n, entered at c and left at x

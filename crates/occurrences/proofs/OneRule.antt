@@ -1,25 +1,23 @@
 -- The third demand for one rule: lookup at the exits that the walk records gives a Var exactly at the variable
 -- occurrences, and gives two of them one node exactly where they are `Same`.
-use mathlib.Core.Path.{_≡_, refl, sym, _∙_, ap, ap₂, subst}
-use mathlib.Core.Logic.{_⊎_, inl, inr, _↔_}
+use mathlib.Core.Path.{_≡_, refl, sym, _∙_, ap}
+use mathlib.Core.Logic.{inl, inr, _↔_}
 use mathlib.Core.Bool.{Bool, true, false}
-use mathlib.Core.List.{List, [], _∷_, _++_}
+use mathlib.Core.List.{List, []}
 use mathlib.Core.Option.{Option, none as nothing, some}
-use Prim.Native.Nat.{ℕ, zero, suc, _+_, _≤_, _<_}
-use native.Mathlib.Omega.{arith}
-use lib.ListN.{length}
+use Prim.Native.Nat.{ℕ, suc, _≤_, _<_}
 use Rattle.ast.specs.Image.{nodes, nameOf}
-use Rattle.ast.specs.Tree.{Tree, Trees}
+use Rattle.ast.specs.Tree.{Trees}
 use Rattle.ordered.specs.Walk.{occurs, walkSeq}
 use Rattle.table.specs.State.{Exit}
 use Rattle.table.specs.Table.{Table, lookup, isKind, exitAt}
-use Rattle.occurrences.specs.Sight.{Place, Met, ordinary, placeSeq, rulePlaces, In, Naming, Occurrence, Same}
+use Rattle.occurrences.specs.Sight.{Place, ordinary, placeSeq, rulePlaces, In, Naming, Occurrence, Same}
 use Rattle.occurrences.proofs.Flat.{bind, var→occurrence, occurrence→var, same→equal, equal→same, introduced}
 use Rattle.occurrences.proofs.Frame.{Sane}
-use Rattle.occurrences.proofs.Good.{Small, Bounds, Good, good}
+use Rattle.occurrences.proofs.Good.{Good, good}
 use Rattle.occurrences.proofs.Keep.{bound, kept}
 use Rattle.occurrences.proofs.Members.{Distinct}
-use Rattle.occurrences.proofs.Steps.{numbersSeq, Bodies, State, occur, Steps, stepsSeq}
+use Rattle.occurrences.proofs.Steps.{numbersSeq, Bodies, State, occur, stepsSeq}
 
 -- a walk of the statements ts that starts at e, and a table T that keeps what it wrote
 pub record Walked (img : List ℕ) (ts : Trees) (e : Exit) (T : Table) : Type 0 where

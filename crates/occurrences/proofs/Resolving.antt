@@ -1,26 +1,23 @@
 -- What resolving an accepted image leaves: no more scopes and symbols than nodes, the walk of every rule, and a table whose
 -- lookups the three counts in front do not touch.
-use mathlib.Core.Path.{_≡_, refl, sym, _∙_, ap, ap₂, subst}
-use mathlib.Core.Logic.{_≢_}
-use mathlib.Core.List.{List, [], _∷_, _++_}
-use mathlib.Core.Option.{Option}
-use Prim.Native.Nat.{ℕ, zero, suc, _+_, _*_, _≤_, _<_}
+use mathlib.Core.Path.{_≡_, sym, _∙_, ap, subst}
+use mathlib.Core.List.{List}
+use Prim.Native.Nat.{ℕ, suc, _≤_}
 use native.Mathlib.Omega.{arith}
 use lib.ListN.{length, getD, set, drop, replicate, length-append, length-replicate, length-set}
 use lib.Seq.{getD-set-same, getD-set-other}
 use Rattle.ast.specs.Image.{nodes, last}
 use Rattle.ast.specs.Tests.{verdict}
-use Rattle.ast.specs.Tree.{Tree, treeAt}
+use Rattle.ast.specs.Tree.{Tree}
 use Rattle.table.specs.Layout.{nodesPlace, scopesPlace, symbolsPlace, parentPlace, scopePlace, nodePlace, exitPlace, tableLength}
 use Rattle.table.specs.Sound.{scopesIn, symbolsIn}
 use Rattle.table.specs.State.{Exit}
 use Rattle.table.specs.Table.{Table, find, lookup, exitAt}
 use Rattle.scopes.specs.Resolve.{zeroed, walked, headed}
 use Rattle.scopes.specs.Walk.{done, resolveTree}
-use Rattle.occurrences.specs.Sight.{In, Rule, moduleRules, saysAll, rulesAll}
-use Rattle.occurrences.proofs.Frame.{Sane, find-cong, lookup-agree}
-use Rattle.occurrences.proofs.Moves.{Bounds}
-use Rattle.occurrences.proofs.Verdict.{Root, root-of}
+use Rattle.occurrences.specs.Sight.{Rule, moduleRules}
+use Rattle.occurrences.proofs.Frame.{find-cong, lookup-agree}
+use Rattle.occurrences.proofs.Verdict.{root-of}
 use Rattle.occurrences.proofs.WholeModule.{Resolved, resolves}
 use Rattle.occurrences.proofs.Counting.{lists, module-small, module-distinct, rules-are}
 

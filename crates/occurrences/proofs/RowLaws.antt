@@ -1,37 +1,33 @@
 -- The rows of Occurrences list the variable occurrences of all rules, each node once.
-use mathlib.Core.Path.{_≡_, refl, sym, _∙_, ap, ap₂, subst}
-use mathlib.Core.Logic.{_⊎_, inl, inr, _↔_}
+use mathlib.Core.Path.{_≡_, refl, sym, _∙_, ap, subst}
+use mathlib.Core.Logic.{_⊎_, inl, inr}
 use mathlib.Core.Bool.{Bool, true, false}
 use mathlib.Core.List.{List, [], _∷_, _++_}
 use mathlib.Core.Option.{Option, none as nothing, some}
-use Prim.Native.Nat.{ℕ, zero, suc, _+_, _≤_, _<_}
+use Prim.Native.Nat.{ℕ, _+_, _≤_}
 use native.Mathlib.Omega.{arith}
 use lib.Dec.{eqb}
 use lib.ListN.{length}
-use Rattle.ast.specs.Image.{nodes, kindAt, nameOf}
+use Rattle.ast.specs.Image.{nodes, kindAt}
 use Rattle.ast.specs.Tests.{is, times, verdict}
-use Rattle.ast.proofs.Count.{times-append}
+use Rattle.rows.specs.Rows.{Row, row, lefts}
+use Rattle.rows.proofs.Appends.{lefts-length}
 use Rattle.table.specs.Table.{Table, isKind}
-use Rattle.scopes.specs.Rows.{Row, row, lefts}
-use Rattle.occurrences.specs.Sight.{Place, In, Rule, moduleRules, Spot, ruleSpots, Occurrence}
+use Rattle.ast.proofs.Count.{times-append}
 use Rattle.occurrences.specs.Occurrences.{found, listed, rowsFor, ruleRows, allRows, occurrenceRows}
-use Rattle.occurrences.proofs.Members.{in-left, in-right, in-split, Distinct, pigeonhole}
-use Rattle.occurrences.proofs.Flat.{true-not-false}
-use Rattle.occurrences.proofs.Steps.{numbersSeq}
-use Rattle.occurrences.proofs.Listing.{spotOf, spotsOf, placesOf, Occurs, RowsOf, end, put, pass, RuleRows, AllRows, noRule, rule}
-use Rattle.occurrences.proofs.Spots.{owners, Ordered, ordered, owners-once}
-use Rattle.occurrences.proofs.WholeModule.{WalkOf, var-is-occurrence}
+use Rattle.occurrences.specs.Sight.{Place, In, Rule, moduleRules, Spot, ruleSpots}
 use Rattle.occurrences.proofs.Counting.{in-times, distinct-times, ruleNumbers, rule-nodes-once, rule-nodes-small}
+use Rattle.occurrences.proofs.Flat.{true-not-false}
+use Rattle.occurrences.proofs.Listing.{spotOf, spotsOf, placesOf, Occurs, RowsOf, end, put, pass, RuleRows, AllRows, noRule, rule}
+use Rattle.occurrences.proofs.Members.{in-left, in-right, in-split, Distinct, pigeonhole}
+use Rattle.occurrences.proofs.Spots.{owners, ordered, owners-once}
+use Rattle.occurrences.proofs.Steps.{numbersSeq}
+use Rattle.occurrences.proofs.WholeModule.{WalkOf, var-is-occurrence}
 
 lefts-append : (ws vs : List Row) → lefts (ws ++ vs) ≡ lefts ws ++ lefts vs
 unfolding lefts
 lefts-append [] vs = refl
 lefts-append (w ∷ ws) vs = ap (λ (l : List ℕ). w .left ∷ l) (lefts-append ws vs)
-
-pub length-lefts : (ws : List Row) → length (lefts ws) ≡ length ws
-unfolding lefts
-length-lefts [] = refl
-length-lefts (w ∷ ws) = ap suc (length-lefts ws)
 
 pub in-lefts : (w : Row) (ws : List Row) → In w ws → In (w .left) (lefts ws)
 unfolding lefts
@@ -179,7 +175,7 @@ module _ (img : List ℕ) (t : Table) where
     pub rows-few : length (occurrenceRows img t) ≤ nodes img
     unfolding occurrenceRows
     rows-few =
-        let a = length-lefts (occurrenceRows img t) in
+        let a = lefts-length (occurrenceRows img t) in
         let b = pigeonhole (nodes img) (lefts (occurrenceRows img t)) rows-distinct
         (λ v i. let c = in-times v (lefts (occurrenceRows img t)) i in let d = all-once v (moduleRules img) walks in rule-nodes-small img accepted v (omega arith)) in
         omega arith

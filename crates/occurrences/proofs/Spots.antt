@@ -5,15 +5,15 @@ use mathlib.Core.List.{List, [], _∷_, _++_, append-nil}
 use Prim.Native.Nat.{ℕ, zero, suc, _+_, _≤_, _<_}
 use native.Mathlib.Omega.{arith}
 use Rattle.ast.specs.Image.{kindAt}
-use Rattle.ast.specs.Kinds.{Class, outer, inner, Outer, Inner, plain, term, ident, head, headMember, member, branch, match, case, ifVar, definedThen, arg}
+use Rattle.ast.specs.Kinds.{outer, inner, plain, term, ident, head, headMember, member, branch, match, case, ifVar, definedThen, arg}
 use Rattle.ast.specs.Tests.{is, times}
 use Rattle.ast.specs.Tree.{Tree, node, block, Trees, none, _◂_}
 use Rattle.ast.proofs.Count.{times-append}
-use Rattle.occurrences.specs.Sight.{Sort, ordinary, declared, applied, defined, Place, Met, add, opened, headSort, place, placeSeq, placeThen, placeFirst, rulePlaces, Spot, spots, spotsSeq, spotsBack, spotsFirst, ruleSpots, In}
+use Rattle.occurrences.specs.Sight.{Sort, ordinary, declared, applied, defined, Place, Met, add, opened, place, placeSeq, placeThen, placeFirst, rulePlaces, Spot, spots, spotsSeq, spotsBack, spotsFirst, ruleSpots, In}
 use Rattle.occurrences.proofs.Members.{in-left, in-right, in-split}
 use Rattle.occurrences.proofs.Flat.{limitOf}
 use Rattle.occurrences.proofs.Steps.{numbers, numbersSeq, Simple, occur, declare, apply, sort, IdentOnly, VarTerm, VarTerms, Body, Bodies, Members, Defines}
-use Rattle.occurrences.proofs.Listing.{InTermSort, InTermOf, Ahead, InOrder, spotOf, spotsOf}
+use Rattle.occurrences.proofs.Listing.{InTermSort, Ahead, InOrder, spotOf, spotsOf}
 
 -- the nodes of spots
 abbrev pub owners : List Spot → List ℕ
@@ -125,7 +125,8 @@ module _ (img : List ℕ) where
       }
 
   -- the IdentTerm i in its Term or AppHead o
-  meets-add : (c : Simple) (o : ℕ) (b : List ℕ) (i : ℕ) (m : Met) → kindAt img o ≡ ownerKind (sort c) → Meets img m (add (sort c) o b i m) (i ∷ o ∷ []) (record { node = o; ident = i } ∷ [])
+  meets-add : (c : Simple) (o : ℕ) (b : List ℕ) (i : ℕ) (m : Met) → kindAt img o ≡ ownerKind (sort c)
+      → Meets img m (add (sort c) o b i m) (i ∷ o ∷ []) (record { node = o; ident = i } ∷ [])
   unfolding add
   meets-add c o b i m kind =
       record {
@@ -284,7 +285,8 @@ module _ (img : List ℕ) where
     meetsSeq c a o b none h m = meets-none m []
     meetsSeq c a o b (u ◂ us) h m = meets-next (meets c a o b u (h .0) m) (meetsSeq c a o b us (h .1) (place (sort c) o b u m))
 
-    meetsThen : (c : Simple) → Asks c → (o : ℕ) (b : List ℕ) (us : Trees) → Bodies img us → (m : Met) → Meets img m (placeThen (sort c) o b us m) (numbersSeq us) (spotsSeq o us)
+    meetsThen : (c : Simple) → Asks c → (o : ℕ) (b : List ℕ) (us : Trees) → Bodies img us → (m : Met)
+        → Meets img m (placeThen (sort c) o b us m) (numbersSeq us) (spotsSeq o us)
     meetsThen c a o b none h m = meets-none m []
     meetsThen c a o b (u ◂ us) h m = meets-next (meets occur tt o b u (h .0) m) (meetsSeq c a o b us (h .1) (place ordinary o b u m))
 

@@ -1,16 +1,16 @@
 -- The walk of a rule body and its list of places take the same steps.
-use mathlib.Core.Path.{_≡_, refl, sym, _∙_, ap, subst}
+use mathlib.Core.Path.{_≡_, sym, subst}
 use mathlib.Core.Logic.{_⊎_, inl, inr}
 use mathlib.Core.List.{List, [], _∷_, _++_, append-nil}
 use Prim.Native.Nat.{ℕ, zero, suc}
 use Rattle.ast.specs.Image.{kindAt}
-use Rattle.ast.specs.Kinds.{Class, outer, inner, Outer, Inner, plain, term, ident, head, headMember, member, branch, match, case, ifVar, definedThen, arg}
+use Rattle.ast.specs.Kinds.{Class, outer, inner, plain, term, ident, head, headMember, member, branch, match, case, ifVar, definedThen, arg}
 use Rattle.ast.specs.Tree.{Tree, node, block, Trees, none, _◂_}
 use Rattle.table.specs.Layout.{allOnes}
-use Rattle.table.specs.State.{Exit, marked, back}
-use Rattle.table.specs.Table.{Table, mark}
-use Rattle.ordered.specs.Walk.{Role, occurs, declares, names, defines, walkIdent, headRole, walk, walkSeq, walkFirst}
-use Rattle.occurrences.specs.Sight.{Sort, ordinary, declared, applied, defined, Met, add, opened, headSort, place, placeSeq, placeThen, placeFirst}
+use Rattle.table.specs.State.{Exit, back}
+use Rattle.table.specs.Table.{mark}
+use Rattle.ordered.specs.Walk.{Role, occurs, declares, names, defines, walkIdent, walk, walkSeq, walkFirst}
+use Rattle.occurrences.specs.Sight.{Sort, ordinary, declared, applied, defined, Met, add, opened, place, placeSeq, placeThen, placeFirst}
 
 -- the nodes that the walk marks, in its order
 unfoldable mutual

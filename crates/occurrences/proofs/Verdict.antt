@@ -7,18 +7,18 @@ use mathlib.Core.List.{List, [], _∷_, _++_}
 use Prim.Native.Nat.{ℕ, zero, suc, _+_, _≤_, _<_}
 use native.Mathlib.Nat.{add-zero}
 use native.Mathlib.Omega.{arith}
-use lib.Dec.{T, eqb, eqb→eq, not-T, T-not}
-use lib.ListN.{length, getD}
+use lib.Dec.{T, eqb, eqb→eq, T-not}
+use lib.ListN.{getD}
 use Rattle.ast.specs.Image.{nodes, last, kindAt, startAt, opAt}
-use Rattle.ast.specs.Kinds.{Class, outer, inner, Outer, root, decl, signature, rule, enum, model, Inner, plain, term, ident, head, headMember, member, branch, match, case, ifVar, definedThen, arg, Field, name, optName, child, optChild, list, lists, cases, noChild, Kind, kinds, kindOf}
+use Rattle.ast.specs.Kinds.{Class, outer, inner, Outer, root, decl, signature, rule, enum, model, plain, term, ident, head, headMember, member, branch, match, case, ifVar, definedThen, arg, Field, name, optName, child, optChild, list, lists, cases, noChild, Kind, kinds, kindOf}
 use Rattle.ast.specs.Rows.{Kid, one, many, ones, numbers, opsFrom, after, blockKids, fieldKids, fieldsKids, fieldShape, fieldsShape, fieldsAt, kids, shape}
 use Rattle.ast.specs.Tests.{verdict}
-use Rattle.ast.specs.Tree.{Tree, node, block, Trees, none, _◂_, swap, swaps, ordered, growAll, grow, classAt, treeAt}
+use Rattle.ast.specs.Tree.{Tree, node, Trees, none, _◂_, swap, swaps, ordered, growAll, grow, classAt, treeAt}
 use Rattle.ast.proofs.Accepted.{formed, last-below}
 use Rattle.ast.proofs.Formed.{Child, Items, Formed, FormedBlocks, FormedField, FormedFields}
 use Rattle.ast.proofs.Unfold.{All, nil, cons, All-append, All-split, All-map, numbers-append, numbers-ones, kids-below, treeAt-is}
 use Rattle.ast.proofs.Shapes.{termKinds, headKinds}
-use Rattle.ast.proofs.Vars.{PlainVar, named, wildcard, Each, AfterFirst, PlainAt, every-kind, checkAll, vars-at}
+use Rattle.ast.proofs.Vars.{PlainVar, named, wildcard, Each, AfterFirst, PlainAt, every-kind, vars-at}
 use Rattle.occurrences.proofs.Steps.{IdentOnly, VarTerm, VarTerms, Idents, Body, Bodies, Members, Defines}
 use Rattle.occurrences.proofs.Lists.{NoVar, Decl, Decls}
 
@@ -211,7 +211,7 @@ module _ (img : List ℕ) (f : Formed img) (n : ℕ) (n<N : n < nodes img)
   ident-tree c l e = (
     ordered (classAt img c) (grow (treeAt img) (kids img c)),
     treeAt-is img f c (omega arith)
-    ∙ ap (λ (d : Class). node c (kindAt img c) d (shape img c) (ordered (classAt img c) (grow (treeAt img) (kids img c)))) (ap (λ k. (kindOf k) .class) e),
+        ∙ ap (λ (d : Class). node c (kindAt img c) d (shape img c) (ordered (classAt img c) (grow (treeAt img) (kids img c)))) (ap (λ k. (kindOf k) .class) e),
   )
 
   bodies-of : (fs : List Field) (p : ℕ) → T (fieldsAll bodyKind fs) → FormedFields img n fs p → Bodies img (grow (treeAt img) (fieldsKids img fs p))

@@ -5,24 +5,24 @@ use mathlib.Core.Logic.{_⊎_, inl, inr, _↔_}
 use mathlib.Core.Bool.{Bool, true, false}
 use mathlib.Core.List.{List, [], _∷_, _++_}
 use mathlib.Core.Option.{Option, none as nothing, some}
-use Prim.Native.Nat.{ℕ, zero, suc, _+_, _*_, _≤_, _<_}
+use Prim.Native.Nat.{ℕ, _≤_, _<_}
 use native.Mathlib.Omega.{arith}
 use lib.ListN.{length}
 use lib.Dec.{eqb}
 use Rattle.ast.specs.Image.{nodes, nameOf, kindAt}
 use Rattle.ast.specs.Kinds.{Class}
-use Rattle.ast.specs.Tree.{Tree, node, Trees}
+use Rattle.ast.specs.Tree.{node, Trees}
 use Rattle.table.specs.Layout.{allOnes, tableLength}
-use Rattle.table.specs.State.{Exit, childScope, marked, back}
+use Rattle.table.specs.State.{Exit, childScope, marked}
 use Rattle.table.specs.Table.{Table, mark, newScope, find, lookup, isKind, exitAt}
 use Rattle.ordered.specs.Walk.{occurs, walkSeq}
-use Rattle.scopes.specs.Walk.{Listed, done, enterAll, visitAll, resolveTree}
+use Rattle.scopes.specs.Walk.{done, enterAll, visitAll, resolveTree}
 use Rattle.occurrences.specs.Sight.{Place, In, rulePlaces, Rule, saysAll, rulesAll, orElse, Naming, Occurrence, Same, outerConst}
 use Rattle.occurrences.proofs.Members.{in-left, in-right, in-split, Distinct, distinct-left, distinct-right, distinct-apart}
 use Rattle.occurrences.proofs.Frame.{Sane, Later, later-next, parentAt, Agree, lookup-agree, lookup-child, lookup-root, mark-find, mark-parent, mark-exit, mark-sane, child-parent, child-parent-other, child-find, child-empty, child-exit, child-sane}
 use Rattle.occurrences.proofs.Steps.{numbersSeq, Bodies}
-use Rattle.occurrences.proofs.Moves.{movesSeq, Rises, Bounds, rises, framed}
-use Rattle.occurrences.proofs.Lists.{enteredAll, visitedAll, Decls, Enters, stays, Entered, entering, entersAll, Visits, idle, after, walks, ruled, nested, visitsAll, andThen-done, kind-orElse}
+use Rattle.occurrences.proofs.Moves.{movesSeq, Bounds, rises, framed}
+use Rattle.occurrences.proofs.Lists.{enteredAll, visitedAll, Decls, stays, Entered, entering, entersAll, Visits, idle, after, walks, ruled, nested, visitsAll, andThen-done, kind-orElse}
 use Rattle.occurrences.proofs.Bounded.{moduleNumbers, bounded}
 use Rattle.occurrences.proofs.OneRule.{Walked, place-node, occurrences, bindings, introducing}
 
@@ -170,8 +170,8 @@ module _ (img : List ℕ) where
       let q = returns u in
       let f : Held ns rs (e .table) (e′ .table) = holds v (omega arith, omega arith) (λ n j. sm n (in-left n ns ms j)) (distinct-left ns ms di) so i reads outs in
       let g : Held ms qs (e′ .table) (e″ .table) =
-          holds u b (λ n j. sm n (in-right n ns ms j)) (distinct-right ns ms di) (f .sane) (omega arith)
-          (λ x. ap (λ s. lookup img (e′ .table) s x) p₀ ∙ f .later .lookups (e .scope) x i ∙ reads x) outs in
+      holds u b (λ n j. sm n (in-right n ns ms j)) (distinct-right ns ms di) (f .sane) (omega arith)
+      (λ x. ap (λ s. lookup img (e′ .table) s x) p₀ ∙ f .later .lookups (e .scope) x i ∙ reads x) outs in
       held-after ns ms rs qs (e .table) (e′ .table) (e″ .table) (p .scopes) (q .scopes) di f g
   holds (walks {e = e} ts) b sm di so i reads outs =
       let f = framed img (movesSeq img occurs ts e) b sm so i in
@@ -189,14 +189,14 @@ module _ (img : List ℕ) where
       let K<N : K < nodes img = omega arith in
       let n<N = sm n (inl refl) in
       let en : Entered img K es D (mark img n K K (newScope img (e .scope) (e .table))) (e′ .table) =
-          entering img v (omega arith) (λ k j. sm k (inr (in-left k es ns j)))
-          (mark-sane img n K K (newScope img (e .scope) (e .table)) n<N (child-sane img (e .scope) (e .table) so K<N)) (omega arith) in
+      entering img v (omega arith) (λ k j. sm k (inr (in-left k es ns j)))
+      (mark-sane img n K K (newScope img (e .scope) (e .table)) n<N (child-sane img (e .scope) (e .table) so K<N)) (omega arith) in
       let f : Held (n ∷ es) [] (e .table) (e′ .table) =
-          record { sane = en .sane; later = list-later n es D m e (e′ .table) so i K<N n<N en reads; walked = λ T k r j. absurd j } in
+      record { sane = en .sane; later = list-later n es D m e (e′ .table) so i K<N n<N en reads; walked = λ T k r j. absurd j } in
       let g : Held ns rs (e′ .table) (e″ .table) =
-          holds u b (λ k j. sm k (inr (in-right k es ns j))) (distinct-right es ns (di .1)) (en .sane) (omega arith)
-          (λ x. ap (λ s. lookup img (e′ .table) s x) p₀ ∙ list-reads n es D m e (e′ .table) so i K<N n<N en reads x)
-          (λ x. kind-orElse img (D x) (m x) (en .novar x) (outs x)) in
+      holds u b (λ k j. sm k (inr (in-right k es ns j))) (distinct-right es ns (di .1)) (en .sane) (omega arith)
+      (λ x. ap (λ s. lookup img (e′ .table) s x) p₀ ∙ list-reads n es D m e (e′ .table) so i K<N n<N en reads x)
+      (λ x. kind-orElse img (D x) (m x) (en .novar x) (outs x)) in
       held-after (n ∷ es) ns [] rs (e .table) (e′ .table) (e″ .table) (omega arith) q₀ di f g
 
   -- what resolving leaves for the rules rs
@@ -229,14 +229,14 @@ module _ (img : List ℕ) where
       let z = returns v in
       let z₀ = z .symbols in
       let en : Entered img 0 es D (mark img n 0 0 t₁) (h .0 .table) =
-          entering img E (omega arith) (λ m i. sm m (inr (in-left m es ns i))) (mark-sane img n 0 0 t₁ n<N (child-sane img allOnes t₀ so (omega arith))) (omega arith) in
+      entering img E (omega arith) (λ m i. sm m (inr (in-left m es ns i))) (mark-sane img n 0 0 t₁ n<N (child-sane img allOnes t₀ so (omega arith))) (omega arith) in
       let reads : (x : ℕ) → lookup img (h .0 .table) (h .0 .scope) x ≡ D x = λ x.
-          ap (λ s. lookup img (h .0 .table) s x) p₀
-          ∙ lookup-root img (h .0 .table) 0 x (omega arith)
-          ∙ en .here x
-          ∙ ap (λ u. orElse u (D x)) (mark-find img n 0 0 t₁ n<N 0 x ∙ child-empty img allOnes t₀ so (omega arith) x) in
+      ap (λ s. lookup img (h .0 .table) s x) p₀
+      ∙ lookup-root img (h .0 .table) 0 x (omega arith)
+      ∙ en .here x
+      ∙ ap (λ u. orElse u (D x)) (mark-find img n 0 0 t₁ n<N 0 x ∙ child-empty img allOnes t₀ so (omega arith) x) in
       let held : Held ns (rulesAll img D ts) (h .0 .table) (e .table) =
-          holds v b (λ m i. sm m (inr (in-right m es ns i))) (distinct-right es ns (di .1)) (en .sane) (omega arith) reads (en .novar) in
+      holds v b (λ m i. sm m (inr (in-right m es ns i))) (distinct-right es ns (di .1)) (en .sane) (omega arith) reads (en .novar) in
       record { bounds = b; sane = held .sane; walks = held .walked (e .table) (record { lookups = λ s x l. refl; exits = λ m l i. refl }) }
 
   -- the third demand for a rule that was walked

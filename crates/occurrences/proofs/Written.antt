@@ -1,13 +1,12 @@
 -- The rows that lent words hold: a count, then two parallel arrays of N words. Where all rows are written, they are read back.
 use mathlib.Core.Path.{_≡_, refl, sym, _∙_, ap, ap₂}
 use mathlib.Core.List.{List, [], _∷_, _++_}
-use Prim.Native.Nat.{ℕ, zero, suc, _+_, _*_, _-_, _≤_, _<_}
-use native.Mathlib.Nat.{add-zero}
+use Prim.Native.Nat.{ℕ, zero, suc, _+_, _-_, _≤_, _<_}
 use native.Mathlib.Omega.{arith}
 use lib.ListN.{length, getD, drop, replicate, length-append, length-replicate, List·getD-append}
 use lib.Seq.{getD-append-add}
-use Rattle.scopes.specs.Rows.{Row, row, lefts, rights, rowsLength, filled, written}
-use Rattle.occurrences.proofs.RowLaws.{length-lefts}
+use Rattle.rows.specs.Rows.{Row, row, lefts, rights, rowsLength, filled, written}
+use Rattle.rows.proofs.Appends.{lefts-length, rights-length}
 
 -- the c rows from j on
 unfoldable pub rowsFrom : ℕ → List ℕ → ℕ → ℕ → List Row
@@ -17,11 +16,6 @@ rowsFrom N ws (suc c) j = row (getD ws (1 + j) 0) (getD ws (1 + N + j) 0) ∷ ro
 -- as many as the count says
 abbrev pub rowsIn : ℕ → List ℕ → List Row
 rowsIn N ws = rowsFrom N ws (getD ws 0 0) 0
-
-length-rights : (ws : List Row) → length (rights ws) ≡ length ws
-unfolding rights
-length-rights [] = refl
-length-rights (w ∷ ws) = ap suc (length-rights ws)
 
 filled-length : (N : ℕ) (xs : List ℕ) → length xs ≤ N → length (filled N xs) ≡ N
 unfolding filled
@@ -61,15 +55,15 @@ module _ (N : ℕ) (l : List Row) (old : List ℕ) (few : length l ≤ N) where
   unfolding written
   left-word j h =
       let e : 1 + (0 + j) ≡ suc j = omega arith in
-      let a = length-lefts l in
+      let a = lefts-length l in
       ap (λ k. getD (written N l old) k 0) e ∙ filled-word N (lefts l) rest j (omega arith) (omega arith)
 
   right-word : (j : ℕ) → j < length l → getD (written N l old) (1 + N + (0 + j)) 0 ≡ getD (rights l) j 0
   unfolding written
   right-word j h =
       let e : 1 + N + (0 + j) ≡ suc (N + j) = omega arith in
-      let a = length-lefts l in
-      let b = length-rights l in
+      let a = lefts-length l in
+      let b = rights-length l in
       ap (λ k. getD (written N l old) k 0) e
       ∙ past-filled N (lefts l) rest j (omega arith)
       ∙ filled-word N (rights l) (drop (rowsLength N) old) j (omega arith) (omega arith)

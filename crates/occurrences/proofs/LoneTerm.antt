@@ -1,18 +1,18 @@
 -- A lone occurrence is a Term whose own IdentTerm is its binding.
-use mathlib.Core.Path.{_≡_, refl, sym, _∙_, ap, ap₂, subst}
-use mathlib.Core.Logic.{_⊎_, inl, inr}
+use mathlib.Core.Path.{_≡_, refl, sym, _∙_, ap, subst}
+use mathlib.Core.Logic.{inl, inr}
 use mathlib.Core.Bool.{Bool, true, false}
-use mathlib.Core.List.{List, [], _∷_, _++_}
+use mathlib.Core.List.{List, [], _∷_}
 use mathlib.Core.Option.{Option, none as nothing, some}
-use Prim.Native.Nat.{ℕ, zero, suc, _+_, _≤_, _<_}
+use Prim.Native.Nat.{ℕ, suc, _≤_, _<_}
 use native.Mathlib.Omega.{arith}
 use lib.Dec.{eqb, leb}
 use borrow.Author.Tests.{eq-eqb, leb-false}
 use Rattle.ast.specs.Image.{kindAt, nameOf}
+use Rattle.rows.specs.Rows.{Row, row}
 use Rattle.table.specs.Table.{Table, isKind}
-use Rattle.scopes.specs.Rows.{Row, row}
+use Rattle.occurrences.specs.Occurrences.{ruleRows, timesBound, loneIn, lone, rowsByRule}
 use Rattle.occurrences.specs.Sight.{Sort, ordinary, declared, applied, defined, Place, In, Rule, outerConst, Names, Naming}
-use Rattle.occurrences.specs.Occurrences.{ruleRows, timesBound, loneIn}
 use Rattle.occurrences.proofs.Listing.{placesOf, Occurs}
 use Rattle.occurrences.proofs.RowLaws.{bindingOf, rows-only, rows-all, rule-rows}
 use Rattle.occurrences.proofs.Spots.{ownerKind, ordered}
@@ -120,3 +120,27 @@ module _ (img : List ℕ) (t : Table) (r : Rule) (walk : WalkOf img r t) where
       let a = rows-only img (bindingOf img t) (rows .rows) w (l .0) in
       let f = introduced (w .right) (a .0) (rows .only (a .0) (a .1)) (a .2 .0) (a .2 .2) in
       lone-at w (l .0) (l .1) (f .0) (f .1) (f .2) (f .3) (f .4) (f .5)
+
+-- what Once hands back is the lone occurrence of some rule
+lone-list : (ls : List (List Row)) (w : Row) → lone ls ≡ some w → (l : List Row) × In l ls × (loneIn l l ≡ some w)
+unfolding lone
+lone-list [] w e = let z : _≡_ {A = ℕ} 0 1 = cc in absurd (omega arith)
+lone-list (l ∷ ls) w e = go (loneIn l l) refl (lone-list ls w) e
+  where
+    go : (o : Option Row) → loneIn l l ≡ o → (lone ls ≡ some w → (k : List Row) × In k ls × (loneIn k k ≡ some w))
+        → elim o [ nothing ↦ lone ls | some v ↦ some v ] ≡ some w → (k : List Row) × In k (l ∷ ls) × (loneIn k k ≡ some w)
+    go nothing p r q = let h = r q in (h .0, inr (h .1), h .2)
+    go (some v) p r q = (l, inl refl, p ∙ q)
+
+by-rule : (img : List ℕ) (t : Table) (rs : List Rule) (l : List Row) → In l (rowsByRule img t rs) → (r : Rule) × In r rs × (l ≡ ruleRows img t r)
+unfolding rowsByRule
+by-rule img t [] l i = absurd i
+by-rule img t (r ∷ rs) l (inl e) = (r, inl refl, e)
+by-rule img t (r ∷ rs) l (inr i) = let h = by-rule img t rs l i in (h .0, inr (h .1), h .2)
+
+pub once-lone : (img : List ℕ) (t : Table) (rs : List Rule) (walks : (r : Rule) → In r rs → WalkOf img r t) (w : Row)
+    → lone (rowsByRule img t rs) ≡ some w → (r : Rule) × (i : In r rs) × Lone img t r (walks r i) w
+once-lone img t rs walks w e =
+    let a = lone-list (rowsByRule img t rs) w e in
+    let b = by-rule img t rs (a .0) (a .1) in
+    (b .0, b .1, lone-is img t (b .0) (walks (b .0) (b .1)) w (subst (λ (l : List Row). loneIn l l ≡ some w) (b .2) (a .2)))
