@@ -9,8 +9,9 @@ ghost use Rattle.ast.specs.Kinds.{kindOf};
 ghost use Rattle.table.specs.Rows.{Sorted};
 ghost use Rattle.table.specs.Values.{optionOf};
 ghost use Rattle.rows.specs.Rows.{rights, Appended};
-ghost use Rattle.occurrences.specs.Occurrences.{found};
-ghost use Rattle.occurrences.specs.Collect.{sought, spot, identRows, rowsIn, rowsAt, Room, Ready, Run, joined, listsIn, listsAt, Listing, ListingRun, readRows, under, uncounted, loneOf, Scratch, Searched};
+ghost use Rattle.occurrences.specs.Sight.{moduleRules};
+ghost use Rattle.occurrences.specs.Occurrences.{found, occurrenceRows, lone, rowsByRule};
+ghost use Rattle.occurrences.specs.Collect.{sought, spot, identRows, rowsIn, rowsAt, Room, Ready, Run, joined, listsIn, listsAt, Listing, ListingRun, Whole, Nodes, readRows, under, uncounted, loneOf, Scratch, Searched};
 use ast::NodeId;
 use table::Found;
 use table::ScopeId;
@@ -582,4 +583,26 @@ fn check_decls(
         i += 1;
     }
     Checked::Ok
+}
+
+// The rows of all rules, in the list's order.
+fn collect_module(image: &[u8], table: &[u32], symbols: u32, rows: &mut [u32]) -> u32
+    requires { ⌜ Whole (now image) (sought (now table) symbols) ⌝ }
+    ensures { λ r. ⌜ Appended («image-spec».nodes (now (image .entry))) (occurrenceRows (now (image .entry)) (sought (now (table .entry)) symbols)) 0 (now (rows .entry)) r (now (rows .exit)) ⌝ }
+{
+    let root = NodeId(ast::node_count(image) - 1);
+    let size = ast::wide(ast::field(image, root, 0));
+    collect_decls(image, table, symbols, rows, 0, root, 1, size)
+}
+
+// Works in local arrays: one for the rows of a rule, one for the counts of its bindings.
+fn check_module(image: &[u8], table: &[u32], symbols: u32) -> Checked
+    requires { ⌜ (Whole (now image) (sought (now table) symbols)) × (Nodes (now image) (sought (now table) symbols)) ⌝ }
+    ensures { λ r. ⌜ loneOf r ≡ lone (rowsByRule (now (image .entry)) (sought (now (table .entry)) symbols) (moduleRules (now (image .entry)))) ⌝ }
+{
+    let root = NodeId(ast::node_count(image) - 1);
+    let size = ast::wide(ast::field(image, root, 0));
+    let mut rows = [0u32; 4097];
+    let mut counts = [0u32; 2048];
+    check_decls(image, table, symbols, &mut rows, &mut counts, root, 1, size)
 }
