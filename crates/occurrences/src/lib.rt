@@ -225,8 +225,9 @@ fn collect_defined(
     if var == 0 {
         return collect_term(image, table, symbols, rows, count, term);
     }
-    let after = collect_term(image, table, symbols, rows, count, NodeId(var - 1));
-    collect_term(image, table, symbols, rows, after, term)
+    let variable = NodeId(var - 1);
+    let after_var = collect_term(image, table, symbols, rows, count, variable);
+    collect_term(image, table, symbols, rows, after_var, term)
 }
 
 fn collect_if_atom(
