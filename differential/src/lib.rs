@@ -9,3 +9,4 @@ pub mod inputs;
 pub mod make;
 pub mod random;
 pub mod reading;
+pub mod record;

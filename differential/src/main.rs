@@ -1,4 +1,5 @@
 //! differential [SEED [COUNT [LARGEST]]]: generated images, this library against the original Rust and the reading.
+//! differential record FILE [SEED [COUNT]]: writes the list of recorded answers that the crate `replay` replays.
 
 use std::time::Instant;
 
@@ -6,7 +7,9 @@ use differential::calls::Calls;
 use differential::compare::Compare;
 use differential::counts::Counts;
 use differential::inputs::input;
+#[cfg(not(feature = "library"))]
 use differential::reading::Reading;
+use differential::record::records;
 
 const SEED: u64 = 1;
 const COUNT: u64 = 40_000;
@@ -25,8 +28,37 @@ fn subject() -> (Box<dyn Calls>, bool) {
     return (Box::new(Reading), true);
 }
 
+/// The list that the crate `replay` has as its data was made by `record FILE` with these.
+const RECORD_SEED: u64 = 2026;
+const RECORDS: u64 = 300;
+
+fn write_records(mut args: impl Iterator<Item = String>) -> bool {
+    let file = args.next().expect("a file");
+    let seed = number(args.next(), RECORD_SEED);
+    let count = number(args.next(), RECORDS);
+    if !original::PRESENT {
+        println!("no list is written: the original sources were not there when this was built (EQLOG_SRC)");
+        return false;
+    }
+    match records(seed, count) {
+        Ok(bytes) => {
+            std::fs::write(&file, &bytes).expect("the file");
+            println!("{count} records from seed {seed}, {} bytes", bytes.len());
+            true
+        }
+        Err(why) => {
+            println!("the reading and the original differ: {why}");
+            false
+        }
+    }
+}
+
 fn run() -> bool {
-    let mut args = std::env::args().skip(1);
+    let mut args = std::env::args().skip(1).peekable();
+    if args.peek().is_some_and(|a| a == "record") {
+        args.next();
+        return write_records(args);
+    }
     let seed = number(args.next(), SEED);
     let count = number(args.next(), COUNT);
     let largest = number(args.next(), 2048) as usize;

@@ -38,7 +38,7 @@ module _ (f : ℕ → ℕ) (c : ℕ) where
   run-end i l h = let z : c - i ≡ 0 = omega arith in l ∙ rw (z, run)
 
 -- none, one, several
-unfoldable sat : ℕ → ℕ
+unfoldable pub sat : ℕ → ℕ
 sat zero = 0
 sat (suc zero) = 1
 sat (suc (suc x)) = 2
@@ -79,7 +79,7 @@ module _ (v : ℕ) where
           let o = is-other v c q in
           f y (getD-set-other us c v _ 0 q ∙ e) ∙ ap sat (omega arith)
 
-  claimed-times : (cs : List ℕ) → v < 2048 → getD (claimAll cs (replicate 2048 0)) v 0 ≡ sat (times v cs)
+  pub claimed-times : (cs : List ℕ) → v < 2048 → getD (claimAll cs (replicate 2048 0)) v 0 ≡ sat (times v cs)
   unfolding sat
   claimed-times cs h = claims-are cs (replicate 2048 0) 0 (rw length-replicate h) (getD-replicate 2048 v 0 0 h ∙ sat-zero) ∙ ap sat (zero-add (times v cs))
     where

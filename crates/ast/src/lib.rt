@@ -160,9 +160,11 @@ pub fn loc(image: &[u8], node: NodeId) -> Location
 
 // The j-th word of a node's row after its two location words.
 pub fn field(image: &[u8], node: NodeId, j: usize) -> u32
-    requires { ⌜ j < 2 ^ 34 ⌝ }
     ensures { λ r. ⌜ r ≡ «image-spec».field (now (image .entry)) (node .0) j ⌝ }
 {
+    if image.len() < j {
+        return 0;
+    }
     operand(image, wide(row_start(image, node)) + 2 + j)
 }
 

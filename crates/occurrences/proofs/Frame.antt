@@ -5,6 +5,8 @@ use mathlib.Core.Bool.{Bool, true, false}
 use mathlib.Core.List.{List, _++_}
 use mathlib.Core.Option.{Option, none, some}
 use Prim.Native.Nat.{ℕ, zero, suc, _+_, _≤_, _<_}
+use native.Mathlib.Nat.{zero-add}
+use native.Mathlib.Numerals.{add-one}
 use native.Mathlib.Omega.{arith}
 use native.Mathlib.Decide.{decLt}
 use lib.Dec.{eqb, ltb}
@@ -15,6 +17,9 @@ use Rattle.ast.specs.Image.{nodes, nameOf}
 use Rattle.table.specs.Layout.{entryPlace, exitPlace, parentPlace, scopePlace, nodePlace, tableLength}
 use Rattle.table.specs.State.{Exit, introduce}
 use Rattle.table.specs.Table.{Table, mark, newScope, newSymbol, rowIs, findFrom, find, climb, lookup, exitAt}
+use Rattle.table.proofs.Finds.{row-out}
+use Rattle.table.proofs.Frames.{SameRows, find-none, find-mark, find-scope, symbol-same, symbol-scope, find-symbol}
+use Rattle.table.proofs.Rising.{either, hit, find-snoc}
 use Rattle.occurrences.specs.Sight.{In, orElse, own}
 use Rattle.occurrences.proofs.Members.{in-left, in-right}
 
@@ -22,13 +27,10 @@ pub orElse-none : (u : Option ℕ) → orElse u none ≡ u
 orElse-none none = refl
 orElse-none (some n) = refl
 
--- a row's symbol, if it is the one looked for, and what the rows after it give
-abbrev hit : Bool → ℕ → Option ℕ → Option ℕ
-hit b n rest = elim b [ true ↦ some n | false ↦ rest ]
-
-hit-orElse : (b : Bool) (n : ℕ) (u v : Option ℕ) → hit b n (orElse u v) ≡ orElse (hit b n u) v
-hit-orElse true n u v = refl
-hit-orElse false n u v = refl
+either-orElse : (o u : Option ℕ) → either o u ≡ orElse o u
+unfolding either
+either-orElse none u = refl
+either-orElse (some n) u = refl
 
 abbrev through : Bool → Option ℕ → Option ℕ
 through b rest = elim b [ true ↦ rest | false ↦ none ]
@@ -66,43 +68,17 @@ module _ (img : List ℕ) where
   abbrev pub parentAt : List ℕ → ℕ → ℕ
   parentAt ws s = getD ws (parentPlace N s) 0
 
-  -- a row with the scope sc and the node n is a symbol of the scope s with the name x
-  abbrev isRow : ℕ → ℕ → ℕ → ℕ → Bool
-  isRow sc n s x = elim (eqb sc s) [ true ↦ eqb (nameOf img n) x | false ↦ false ]
-
-  row-other : (sc n s x : ℕ) (u : Option ℕ) → sc ≢ s → hit (isRow sc n s x) n u ≡ u
-  row-other sc n s x u h = ap (λ (b : Bool). hit (elim b [ true ↦ eqb (nameOf img n) x | false ↦ false ]) n u) (ne-eqb sc s h)
-
-  row-same : (n s x : ℕ) → hit (isRow s n s x) n none ≡ own img n x
-  unfolding own
-  row-same n s x = ap (λ (b : Bool). hit (elim b [ true ↦ eqb (nameOf img n) x | false ↦ false ]) n none) (eq-eqb s s refl)
+  -- a row of the scope sc with the node n, looked at for the name x in the scope s, before what the other rows give
+  abbrev row : ℕ → ℕ → ℕ → ℕ → Option ℕ → Option ℕ
+  row sc n s x rest = elim (elim (eqb sc s) as (λ _. Bool) [ true ↦ eqb (nameOf img n) x | false ↦ false ]) [ true ↦ some n | false ↦ rest ]
 
   pub find-cong : (c : ℕ) (ws ws′ : List ℕ) (j s x : ℕ) → ((i : ℕ) → i < j + c → (scopeAt ws i ≡ scopeAt ws′ i) × (symbolAt ws i ≡ symbolAt ws′ i))
       → findFrom img c ws j s x ≡ findFrom img c ws′ j s x
   unfolding findFrom
   find-cong zero ws ws′ j s x h = refl
   find-cong (suc c) ws ws′ j s x h =
-      ap₂ (λ a n. hit (isRow a n s x) n (findFrom img c ws (j + 1) s x)) ((h j (omega arith)) .0) ((h j (omega arith)) .1)
-      ∙ ap (λ u. hit (rowIs img ws′ j s x) (symbolAt ws′ j) u) (find-cong c ws ws′ (j + 1) s x (λ i l. h i (omega arith)))
-
-  find-snoc : (c : ℕ) (ws : List ℕ) (j s x : ℕ)
-      → findFrom img (suc c) ws j s x ≡ orElse (findFrom img c ws j s x) (hit (isRow (scopeAt ws (j + c)) (symbolAt ws (j + c)) s x) (symbolAt ws (j + c)) none)
-  unfolding findFrom
-  find-snoc zero ws j s x =
-      let e : j ≡ j + 0 = omega arith in
-      ap (λ i. hit (rowIs img ws i s x) (symbolAt ws i) none) e
-  find-snoc (suc c) ws j s x =
-      let e : j + 1 + c ≡ j + suc c = omega arith in
-      ap (λ u. hit (rowIs img ws j s x) (symbolAt ws j) u) (find-snoc c ws (j + 1) s x)
-      ∙ hit-orElse (rowIs img ws j s x) (symbolAt ws j) (findFrom img c ws (j + 1) s x) (hit (rowIs img ws (j + 1 + c) s x) (symbolAt ws (j + 1 + c)) none)
-      ∙ ap (λ i. orElse (hit (rowIs img ws j s x) (symbolAt ws j) (findFrom img c ws (j + 1) s x)) (hit (rowIs img ws i s x) (symbolAt ws i) none)) e
-
-  find-none : (c : ℕ) (ws : List ℕ) (j s x : ℕ) → ((i : ℕ) → i < j + c → scopeAt ws i ≢ s) → findFrom img c ws j s x ≡ none
-  unfolding findFrom
-  find-none zero ws j s x h = refl
-  find-none (suc c) ws j s x h =
-      row-other (scopeAt ws j) (symbolAt ws j) s x (findFrom img c ws (j + 1) s x) (h j (omega arith))
-      ∙ find-none c ws (j + 1) s x (λ i l. h i (omega arith))
+      ap₂ (λ a n. row a n s x (findFrom img c ws (j + 1) s x)) ((h j (omega arith)) .0) ((h j (omega arith)) .1)
+      ∙ ap (λ u. row (scopeAt ws′ j) (symbolAt ws′ j) s x u) (find-cong c ws ws′ (j + 1) s x (λ i l. h i (omega arith)))
 
   climb-fuel : (f g : ℕ) (ws : List ℕ) (y s x : ℕ) → s < f → s < g → climb img f ws y s x ≡ climb img g ws y s x
   unfolding climb
@@ -167,17 +143,11 @@ module _ (img : List ℕ) where
     unfolding mark
     mark-word i f g = getD-set-other (set (t .words) (entryPlace N n) e) (exitPlace N n) i x 0 g ∙ getD-set-other (t .words) (entryPlace N n) i e 0 f
 
-    pub mark-find : (r y : ℕ) → find img (mark img n e x t) r y ≡ find img t r y
-    unfolding mark find
-    mark-find r y =
-        find-cong (t .symbols) ((mark img n e x t) .words) (t .words) 0 r y
-        (λ i k. (mark-word (scopePlace N i) (omega arith) (omega arith), mark-word (nodePlace N i) (omega arith) (omega arith)))
-
     pub mark-parent : (r : ℕ) → parentAt ((mark img n e x t) .words) r ≡ parentAt (t .words) r
     mark-parent r = mark-word (parentPlace N r) (omega arith) (omega arith)
 
     pub mark-lookup : (s y : ℕ) → lookup img (mark img n e x t) s y ≡ lookup img t s y
-    mark-lookup s y = lookup-agree (suc s) (mark img n e x t) t s y (omega arith) (λ r h. (mark-find r, mark-parent r))
+    mark-lookup s y = lookup-agree (suc s) (mark img n e x t) t s y (omega arith) (λ r h. (find-mark img n e x t l r, mark-parent r))
 
     pub mark-exit : (m : ℕ) → m < N → m ≢ n → exitAt img ((mark img n e x t) .words) m ≡ exitAt img (t .words) m
     mark-exit m h f = mark-word (exitPlace N m) (omega arith) (λ q. f (omega arith))
@@ -210,17 +180,9 @@ module _ (img : List ℕ) where
     pub child-parent-other : (r : ℕ) → r < t .scopes → parentAt ((newScope img p t) .words) r ≡ parentAt (t .words) r
     child-parent-other r h = child-word (parentPlace N r) (omega arith)
 
-    pub child-find : (r x : ℕ) → find img (newScope img p t) r x ≡ find img t r x
-    unfolding newScope find
-    child-find r x =
-        find-cong (t .symbols) ((newScope img p t) .words) (t .words) 0 r x
-        (λ i k. (child-word (scopePlace N i) (omega arith), child-word (nodePlace N i) (omega arith)))
-
     pub child-empty : (x : ℕ) → find img (newScope img p t) (t .scopes) x ≡ none
-    unfolding find
     child-empty x =
-        child-find (t .scopes) x
-        ∙ find-none (t .symbols) (t .words) 0 (t .scopes) x (λ i h q. let w = sane .within i (omega arith) in omega arith)
+        find-scope img p t K<N (t .scopes) x ∙ find-none img t (t .scopes) x (λ i h q. let w = sane .within i h in omega arith)
 
     pub child-exit : (m : ℕ) → m < N → exitAt img ((newScope img p t) .words) m ≡ exitAt img (t .words) m
     child-exit m h = child-word (exitPlace N m) (omega arith)
@@ -245,40 +207,25 @@ module _ (img : List ℕ) where
         getD-set-other (set (t .words) (scopePlace N (t .symbols)) s) (nodePlace N (t .symbols)) i n 0 g
         ∙ getD-set-other (t .words) (scopePlace N (t .symbols)) i s 0 f
 
-    name-scope : scopeAt named (t .symbols) ≡ s
-    unfolding newSymbol
-    name-scope =
-        let z = sane .size in
-        getD-set-other (set (t .words) (scopePlace N (t .symbols)) s) (nodePlace N (t .symbols)) (scopePlace N (t .symbols)) n 0 (omega arith)
-        ∙ getD-set-same (t .words) (scopePlace N (t .symbols)) s 0 (omega arith)
-
-    name-symbol : symbolAt named (t .symbols) ≡ n
-    unfolding newSymbol
-    name-symbol =
-        let z = sane .size in
-        getD-set-same (set (t .words) (scopePlace N (t .symbols)) s) (nodePlace N (t .symbols)) n 0 (rw length-set (omega arith))
-
-    name-rows : (i : ℕ) → i < 0 + t .symbols → (scopeAt named i ≡ scopeAt (t .words) i) × (symbolAt named i ≡ symbolAt (t .words) i)
-    name-rows i h = (name-word (scopePlace N i) (omega arith) (omega arith), name-word (nodePlace N i) (omega arith) (omega arith))
-
-    -- among the old rows, then in the new one
-    name-finds : (r x : ℕ) → find img (newSymbol img s n t) r x ≡ orElse (find img t r x) (hit (isRow s n r x) n none)
-    unfolding newSymbol find
-    name-finds r x =
-        let e : t .symbols + 1 ≡ suc (t .symbols) = omega arith in
-        let e′ : 0 + t .symbols ≡ t .symbols = omega arith in
-        ap (λ c. findFrom img c named 0 r x) e
-        ∙ find-snoc (t .symbols) named 0 r x
-        ∙ ap (λ i. orElse (findFrom img (t .symbols) named 0 r x) (hit (isRow (scopeAt named i) (symbolAt named i) r x) (symbolAt named i) none)) e′
-        ∙ ap₂ (λ a m. orElse (findFrom img (t .symbols) named 0 r x) (hit (isRow a m r x) m none)) name-scope name-symbol
-        ∙ ap (λ u. orElse u (hit (isRow s n r x) n none)) (find-cong (t .symbols) named (t .words) 0 r x name-rows)
-
+    -- the new row counts in no other scope
     pub name-find-other : (r x : ℕ) → r ≢ s → find img (newSymbol img s n t) r x ≡ find img t r x
+    unfolding newSymbol find hit either
     name-find-other r x f =
-        name-finds r x ∙ ap (orElse (find img t r x)) (row-other s n r x none (λ e. f (sym e))) ∙ orElse-none (find img t r x)
+        let y = t .symbols in
+        ap (λ c. findFrom img c named 0 r x) (add-one y)
+        ∙ find-snoc img named y 0 r x
+        ∙ ap (λ i. either (findFrom img y named 0 r x) (hit img named (rowIs img named i r x) i)) (zero-add y)
+        ∙ ap (λ b. either (findFrom img y named 0 r x) (hit img named b y)) (row-out img named y r x (λ q. f (sym q ∙ symbol-scope img s n t Y<N (sane .size))))
+        ∙ either-orElse (findFrom img y named 0 r x) none
+        ∙ orElse-none (findFrom img y named 0 r x)
+        ∙ find-cong y named (t .words) 0 r x (λ i h. (rows .scopes i (omega arith), rows .nodes i (omega arith)))
+      where
+        rows : SameRows N (t .symbols) named (t .words)
+        rows = symbol-same img s n t Y<N (sane .size)
 
     pub name-find : (x : ℕ) → find img (newSymbol img s n t) s x ≡ orElse (find img t s x) (own img n x)
-    name-find x = name-finds s x ∙ ap (orElse (find img t s x)) (row-same n s x)
+    unfolding own Rattle.table.proofs.Frames.own
+    name-find x = find-symbol img s n t Y<N (sane .size) x ∙ either-orElse (find img t s x) (own img n x)
 
     pub name-parent : (r : ℕ) → r < N → parentAt named r ≡ parentAt (t .words) r
     name-parent r h = name-word (parentPlace N r) (omega arith) (omega arith)
@@ -296,10 +243,10 @@ module _ (img : List ℕ) where
         }
       where
         go : (j : ℕ) → j < t .symbols + 1 → Dec (j < t .symbols) → scopeAt named j < t .scopes
-        go j h (yes l) = let e = (name-rows j (omega arith)) .0 in let w = sane .within j l in omega arith
+        go j h (yes l) = let e = (symbol-same img s n t Y<N (sane .size)) .scopes j l in let w = sane .within j l in omega arith
         go j h (no f) =
             let e : t .symbols ≡ j = omega arith in
-            let w = subst (λ i. scopeAt named i ≡ s) e name-scope in
+            let w = subst (λ i. scopeAt named i ≡ s) e (symbol-scope img s n t Y<N (sane .size)) in
             omega arith
 
   -- a new scope, below the one that the walk stands in, with one symbol
@@ -320,7 +267,7 @@ module _ (img : List ℕ) where
     old-agree : Agree K t₂ (e .table)
     unfolding newScope
     old-agree s h = (
-      (λ x. name-find-other K n t₁ sane₁ (omega arith) Y<N s x (omega arith) ∙ child-find (e .scope) (e .table) sane K<N s x),
+      (λ x. name-find-other K n t₁ sane₁ (omega arith) Y<N s x (omega arith) ∙ find-scope img (e .scope) (e .table) K<N s x),
       name-parent K n t₁ sane₁ (omega arith) Y<N s (omega arith) ∙ child-parent-other (e .scope) (e .table) sane K<N s h,
     )
 

@@ -20,3 +20,7 @@ pub mod Leaving
 pub mod LoneTerm
 pub mod Single
 pub mod Demand
+pub mod CollectRows
+pub mod CollectSteps
+pub mod CollectRules
+pub mod CollectLone

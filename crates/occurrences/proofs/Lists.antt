@@ -12,11 +12,12 @@ use Rattle.ast.specs.Kinds.{outer, inner, root, decl, signature, rule, enum, mo
 use Rattle.ast.specs.Tree.{Tree, node, block, Trees, none, _◂_}
 use Rattle.table.specs.State.{Exit, childScope, ownSymbol, marked, back}
 use Rattle.table.specs.Table.{Table, find, isKind, exitAt}
+use Rattle.table.proofs.Frames.{find-mark}
 use Rattle.ordered.specs.Walk.{occurs, walkSeq}
 use Rattle.scopes.specs.Walk.{Listed, done, twice, enterName, enterRule, andThen, enter, enterAll, visit, visitAll}
 use Rattle.occurrences.specs.Sight.{In, orElse, own, ruleOwn, Rule, says, saysAll, rules, rulesAll}
 use Rattle.occurrences.proofs.Members.{in-left, in-right}
-use Rattle.occurrences.proofs.Frame.{Sane, parentAt, orElse-none, name-find-other, name-find, name-parent, name-exit, name-sane, mark-find, mark-parent, mark-exit, mark-sane}
+use Rattle.occurrences.proofs.Frame.{Sane, parentAt, orElse-none, name-find-other, name-find, name-parent, name-exit, name-sane, mark-parent, mark-exit, mark-sane}
 use Rattle.occurrences.proofs.Steps.{numbersSeq, Bodies}
 
 -- the nodes that entering marks
@@ -206,8 +207,8 @@ module _ (img : List ℕ) where
       let t = e .table in
       record {
         sane = mark-sane img n s s t l so;
-        others = λ r x f. mark-find img n s s t l r x;
-        here = λ x. mark-find img n s s t l s x ∙ sym (orElse-none (find img t s x));
+        others = λ r x f. find-mark img n s s t l r x;
+        here = λ x. find-mark img n s s t l s x ∙ sym (orElse-none (find img t s x));
         parents = λ r k. mark-parent img n s s t l r;
         exits = λ m k f. mark-exit img n s s t l m k (λ q. f (inl q));
         novar = λ x. refl;

@@ -41,13 +41,6 @@ distinct-apart [] ms d n i j = i
 distinct-apart (m ∷ ns) ms d n (inl e) j = d .0 (in-right m ns ms (subst (λ z. In z ms) e j))
 distinct-apart (m ∷ ns) ms d n (inr i) j = distinct-apart ns ms (d .1) n i j
 
-pub distinct-join : (ns ms : List ℕ) → Distinct ns → Distinct ms → ((n : ℕ) → In n ns → In n ms → ⊥) → Distinct (ns ++ ms)
-distinct-join [] ms d e f = e
-distinct-join (n ∷ ns) ms d e f = (
-  (λ i. elim (in-split n ns ms i) [ inl j ↦ d .0 j | inr j ↦ f n (inl refl) j ]),
-  distinct-join ns ms (d .1) e (λ m i j. f m (inr i) j),
-)
-
 -- distinct numbers below k are at most k
 taken : {n k : ℕ} → Dec (n ≡ k) → List ℕ → List ℕ → List ℕ
 taken {n} (yes e) ns ms = ns

@@ -15,11 +15,12 @@ use Rattle.ast.specs.Tree.{node, Trees}
 use Rattle.table.specs.Layout.{allOnes, tableLength}
 use Rattle.table.specs.State.{Exit, childScope, marked}
 use Rattle.table.specs.Table.{Table, mark, newScope, find, lookup, isKind, exitAt}
+use Rattle.table.proofs.Frames.{find-mark, find-scope}
 use Rattle.ordered.specs.Walk.{occurs, walkSeq}
 use Rattle.scopes.specs.Walk.{done, enterAll, visitAll, resolveTree}
 use Rattle.occurrences.specs.Sight.{Place, In, rulePlaces, Rule, saysAll, rulesAll, orElse, Naming, Occurrence, Same, outerConst}
 use Rattle.occurrences.proofs.Members.{in-left, in-right, in-split, Distinct, distinct-left, distinct-right, distinct-apart}
-use Rattle.occurrences.proofs.Frame.{Sane, Later, later-next, parentAt, Agree, lookup-agree, lookup-child, lookup-root, mark-find, mark-parent, mark-exit, mark-sane, child-parent, child-parent-other, child-find, child-empty, child-exit, child-sane}
+use Rattle.occurrences.proofs.Frame.{Sane, Later, later-next, parentAt, Agree, lookup-agree, lookup-child, lookup-root, mark-parent, mark-exit, mark-sane, child-parent, child-parent-other, child-empty, child-exit, child-sane}
 use Rattle.occurrences.proofs.Steps.{numbersSeq, Bodies}
 use Rattle.occurrences.proofs.Moves.{movesSeq, Bounds, rises, framed}
 use Rattle.occurrences.proofs.Lists.{enteredAll, visitedAll, Decls, stays, Entered, entering, entersAll, Visits, idle, after, walks, ruled, nested, visitsAll, andThen-done, kind-orElse}
@@ -132,7 +133,7 @@ module _ (img : List ℕ) where
     list-agree : Agree img K t t′
     unfolding newScope
     list-agree r l = (
-      (λ x. sym (en .others r x (omega arith) ∙ mark-find img n K K t₀ n<N r x ∙ child-find img s t so K<N r x)),
+      (λ x. sym (en .others r x (omega arith) ∙ find-mark img n K K t₀ n<N r x ∙ find-scope img s t K<N r x)),
       sym (en .parents r (omega arith) ∙ mark-parent img n K K t₀ n<N r ∙ child-parent-other img s t so K<N r l),
     )
 
@@ -140,7 +141,7 @@ module _ (img : List ℕ) where
     list-old r x l = sym (lookup-agree img K t t′ r x l list-agree)
 
     list-find : (x : ℕ) → find img t′ K x ≡ D x
-    list-find x = en .here x ∙ ap (λ u. orElse u (D x)) (mark-find img n K K t₀ n<N K x ∙ child-empty img s t so K<N x)
+    list-find x = en .here x ∙ ap (λ u. orElse u (D x)) (find-mark img n K K t₀ n<N K x ∙ child-empty img s t so K<N x)
 
     list-parent : parentAt img (t′ .words) K ≡ s
     list-parent = en .parents K K<N ∙ mark-parent img n K K t₀ n<N K ∙ child-parent img s t so K<N
@@ -234,7 +235,7 @@ module _ (img : List ℕ) where
       ap (λ s. lookup img (h .0 .table) s x) p₀
       ∙ lookup-root img (h .0 .table) 0 x (omega arith)
       ∙ en .here x
-      ∙ ap (λ u. orElse u (D x)) (mark-find img n 0 0 t₁ n<N 0 x ∙ child-empty img allOnes t₀ so (omega arith) x) in
+      ∙ ap (λ u. orElse u (D x)) (find-mark img n 0 0 t₁ n<N 0 x ∙ child-empty img allOnes t₀ so (omega arith) x) in
       let held : Held ns (rulesAll img D ts) (h .0 .table) (e .table) =
       holds v b (λ m i. sm m (inr (in-right m es ns i))) (distinct-right es ns (di .1)) (en .sane) (omega arith) reads (en .novar) in
       record { bounds = b; sane = held .sane; walks = held .walked (e .table) (record { lookups = λ s x l. refl; exits = λ m l i. refl }) }

@@ -1,7 +1,7 @@
 -- What the calls hand back: document 01's numbers and values for every case of the code's enums.
 use mathlib.Core.Option.{Option, none, some}
 use Prim.Native.Nat.{ℕ}
-use Rattle.ast.specs.Answer.{Answer, refused, twice, result, other}
+use Rattle.ast.specs.Answer.{Answer, refused, result, other}
 use Rattle.scopes.specs.declared.Looked.{Looked}
 use Rattle.scopes.specs.declared.Looked.the-variants as looked
 use Rattle.scopes.specs.declared.Numbered.{Numbered}
