@@ -32,6 +32,10 @@ unfolding _▸_
 stop zero b r e = absurd (omega arith)
 stop (suc a) b r e = e
 
+pub stop-at : (a b k : ℕ) → a ≡ k → (k ≡ 0 → ⊥) → a ▸ b ≡ k
+stop-at a b zero e z = absurd (z refl)
+stop-at a b (suc k) e z = stop a b k e
+
 pub needed : (r : ℕ) (b : Bool) → need (suc r) b ≡ 0 → T b
 unfolding need
 needed r true e = tt

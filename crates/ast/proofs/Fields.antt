@@ -1,17 +1,14 @@
 -- The answers of the field tests, from what the code reads.
-use mathlib.Core.Path.{_≡_, refl, sym, ap, _∙_, subst}
-use mathlib.Core.Bool.{Bool, true, false}
+use mathlib.Core.Path.{_≡_, refl, sym, ap, _∙_}
 use mathlib.Core.List.{List, [], _∷_, _++_, append-assoc, append-nil}
-use Prim.Native.Nat.{ℕ, zero, suc, _+_, _-_, _*_, _<_, _≤_}
+use Prim.Native.Nat.{ℕ, zero, suc, _+_, _-_, _<_, _≤_}
 use native.Mathlib.Omega.{arith}
-use lib.Dec.{ltb, leb, eqb}
-use lib.ListN.{length, getD, set, take, drop}
-use lib.Seq.{getD-take, getD-drop}
+use lib.ListN.{length, getD}
 use borrow.Author.Tests.{lt-ltb, le-ltb, le-leb, lt-leb, eq-eqb, ne-eqb}
-use Rattle.ast.specs.Image.{nodes, kindAt, opAt, operands, names}
+use Rattle.ast.specs.Image.{kindAt, opAt, operands, names}
 use Rattle.ast.specs.Kinds.{Field, name, optName, child, optChild, list, lists, cases, noChild}
-use Rattle.ast.specs.Rows.{Kid, one, many, ones, numbers, opsFrom, afterBlocks, blockKids, after, afterFields, fieldKids, fieldsKids}
-use Rattle.ast.specs.Scan.{bump, claimAll, Step, FieldTested, FieldsTested}
+use Rattle.ast.specs.Rows.{numbers, opsFrom, afterBlocks, blockKids, after, afterFields, fieldKids, fieldsKids}
+use Rattle.ast.specs.Scan.{claimAll, Step, FieldTested, FieldsTested}
 use Rattle.ast.specs.Tests.{_▸_, need, run, inRow, isChild, childWord, testBlocks, testField, testFields}
 use Rattle.ast.proofs.Scans.{need-in, need-out, passes, refuses, restep, skips, stops, halts, follows, ▸-zero, ▸-assoc}
 use Rattle.ast.proofs.Unfold.{numbers-ones, numbers-append}

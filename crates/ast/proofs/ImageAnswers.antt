@@ -1,12 +1,10 @@
 -- Laws of the answer of the image test.
-use mathlib.Core.Path.{_≡_, refl, sym, ap, _∙_}
+use mathlib.Core.Path.{_≡_, refl, sym, _∙_}
 use mathlib.Core.List.{List}
 use Prim.Native.Nat.{ℕ, zero, suc}
-use native.Mathlib.Omega.{arith}
-use Rattle.ast.specs.Answer.{Answer, refused, result}
+use Rattle.ast.specs.Answer.{refused, result}
 use Rattle.ast.specs.ImageAnswer.{answerOf, testCall}
 use Rattle.ast.specs.Tests.{verdict}
-use Rattle.ast.specs.declared.Tested.{Tested}
 use Rattle.ast.specs.declared.Tested.the-variants.{Accepted, Refused}
 
 module _ (img : List ℕ) (k : ℕ) (e : k ≡ verdict img) where

@@ -6,6 +6,8 @@ pub mod Shapes
 pub mod Small
 pub mod Count
 pub mod Vars
+pub mod RowNames
+pub mod Acceptance
 pub mod Words
 pub mod Scans
 pub mod Fields

@@ -1,23 +1,23 @@
 -- Laws of the tests of the names: their ends, and buckets of names by a hash of their bytes.
-use mathlib.Core.Path.{_≡_, refl, sym, ap, _∙_, subst}
+use mathlib.Core.Path.{_≡_, refl, sym, ap, _∙_}
 use mathlib.Core.Bool.{Bool, true, false, not}
 use mathlib.Core.Logic.{_⊎_, inl, inr}
-use mathlib.Core.List.{List, [], _∷_, _++_}
-use Prim.Native.Nat.{ℕ, zero, suc, _+_, _-_, _*_, _/_, _%_, _<_, _≤_}
+use mathlib.Core.List.{List, [], _∷_}
+use Prim.Native.Nat.{ℕ, zero, suc, _+_, _-_, _*_, _%_, _<_, _≤_}
 use native.Mathlib.Omega.{arith}
 use native.Mathlib.Numerals.{add-one}
-use lib.Dec.{eqb, leb, ltb, ltb→lt, eqb→eq}
+use lib.Dec.{eqb}
 use lib.ListN.{length, getD, set, take, drop, replicate, length-replicate, length-set}
 use lib.Seq.{slice, slice-cons, slice-empty, length-slice, take-nil, getD-set-same, getD-set-other}
-use native.Mathlib.Nat.{add-zero, zero-add, sub-zero}
+use native.Mathlib.Nat.{add-zero, zero-add}
 use native.Mathlib.Decide.{decLt}
-use borrow.Author.Tests.{lt-ltb, le-ltb, le-leb, lt-leb, eq-eqb, ne-eqb, eqb-true}
+use borrow.Author.Tests.{lt-ltb, le-ltb, eq-eqb, ne-eqb, eqb-true}
 use Rattle.ast.specs.Image.{names, bytes, bytesPlace, nameStart, nameEnd, nameBytes}
-use Rattle.ast.specs.Scan.{Head, Within}
+use Rattle.ast.specs.Scan.{Within}
 use Rattle.ast.specs.Tests.{_▸_, need, run, same, rising, unequal, testEnds, testTwice, testNames}
-use Rattle.ast.proofs.Accepted.{skip, stop, name-in}
+use Rattle.ast.proofs.Accepted.{skip, stop, stop-at, name-in}
 use Rattle.ast.proofs.Runs.{RunLeft, run-begin, run-next, run-stop, run-end}
-use Rattle.ast.proofs.Scans.{need-in, need-out, ▸-assoc}
+use Rattle.ast.proofs.Scans.{need-in, need-out}
 use Rattle.ast.specs.declared.Sizes.{Sizes}
 use Rattle.ast.specs.Names.{Met, NameAt, Reach, Rises, Spanned, hash, here, there}
 
@@ -79,8 +79,7 @@ module _ (img : List ℕ) where
 
   pub names-split : (k : ℕ) → testEnds img ≡ k → (k ≡ 0 → ⊥) → testNames img ≡ k
   unfolding testNames
-  names-split zero e z = absurd (z refl)
-  names-split (suc k) e z = stop _ _ k e
+  names-split k e z = stop-at _ _ k e z
 
   pub names-twice : testEnds img ≡ 0 → testNames img ≡ testTwice img
   unfolding testNames

@@ -1,15 +1,15 @@
 -- The rows of the code are those of the kinds: one computed check over the table.
 use mathlib.Core.Path.{_≡_, refl, sym, ap, _∙_}
 use mathlib.Core.Bool.{Bool, true, false, _&&_}
-use mathlib.Core.List.{List, [], _∷_, _++_}
+use mathlib.Core.List.{List, [], _∷_, _++_, append-nil}
 use Prim.Native.Nat.{ℕ, zero, suc, _+_, _-_, _*_, _/_, _%_, _<_, _≤_}
 use native.Mathlib.Omega.{arith}
-use lib.Dec.{T, ltb, leb, eqb, leb→le}
-use lib.ListN.{length, getD, take, drop, length-take, length-drop}
+use lib.Dec.{T, leb, leb→le}
+use lib.ListN.{length, getD, drop, length-take, length-drop}
 use lib.Seq.{getD-take, getD-drop}
-use borrow.Author.Tests.{lt-ltb, le-ltb, eq-eqb, ne-eqb}
+use borrow.Author.Tests.{lt-ltb, le-ltb, ne-eqb}
 use Rattle.ast.specs.Kinds.{Field, name, optName, child, optChild, list, lists, cases, Kind, kinds, kindOf}
-use Rattle.ast.specs.Parts.{Cased, caseKinds, caseList, partOf, rowParts}
+use Rattle.ast.specs.Parts.{Cased, caseKinds, caseList, partOf, partsOf, rowParts}
 
 cased : ℕ → Bool
 cased x = leb ((x - 500) / 10 + (x - 500) % 10) 34
@@ -56,9 +56,15 @@ kinds-long : (k : ℕ) → k ≤ 40 → k < length kinds
 unfolding kinds
 kinds-long k h = omega arith
 
-pub row-parts : (k : ℕ) → k ≤ 40 → partOf (getD rowParts (3 * k) 0) ++ (partOf (getD rowParts (3 * k + 1) 0) ++ partOf (getD rowParts (3 * k + 2) 0)) ≡ (kindOf k) .fields
+row-parts : (k : ℕ) → k ≤ 40 → partOf (getD rowParts (3 * k) 0) ++ (partOf (getD rowParts (3 * k + 1) 0) ++ partOf (getD rowParts (3 * k + 2) 0)) ≡ (kindOf k) .fields
 unfolding kindOf
 row-parts k h = sym (triple-at rowParts k (rows-long k h)) ∙ ap (λ (l : List (List Field)). getD l k []) table ∙ fields-at kinds k _ (kinds-long k h)
+
+pub parts-row : (k : ℕ) → k ≤ 40 → partsOf 3 (3 * k) ≡ (kindOf k) .fields
+unfolding partsOf
+parts-row k h =
+    let e : 3 * k + 1 + 1 ≡ 3 * k + 2 = omega arith in
+    rw (e, append-nil) (row-parts k h)
 
 every : List ℕ → Bool
 every [] = true

@@ -9,15 +9,14 @@ use native.Mathlib.Omega.{arith}
 use borrow.Author.Tests.{ne-eqb}
 use lib.Dec.{eqb}
 use lib.ListN.{length, getD}
-use Rattle.ast.specs.Image.{nodes, operands, kindAt, startAt, opAt, field}
-use Rattle.ast.specs.Kinds.{Class, Field, name, optName, child, optChild, list, lists, cases, noChild, Kind, kindOf}
+use Rattle.ast.specs.Image.{nodes, kindAt, startAt, opAt, field}
+use Rattle.ast.specs.Kinds.{Field, name, optName, child, optChild, list, lists, cases, noChild, Kind, kindOf}
 use Rattle.ast.specs.Rows.{Kid, one, many, ones, opsFrom, afterBlocks, blockKids, blockCounts, after, fieldKids, fieldShape, afterFields, fieldsKids, fieldsShape, fieldsAt, rowEnd}
 use Rattle.ast.specs.Tree.{Tree, node, block, Trees, none, _◂_, ordered, growAll, grow, treeAt}
 use Rattle.ast.specs.Items.{items, blocks}
 use Rattle.ast.specs.Tests.{verdict}
-use Rattle.ast.proofs.Formed.{Formed, FormedNode}
 use Rattle.ast.proofs.Formed as absolute
-use Rattle.ast.proofs.Accepted.{Sized, sized, formed}
+use Rattle.ast.proofs.Accepted.{sized, formed}
 use Rattle.ast.proofs.Unfold.{treeOf, rowOf}
 
 unfoldable pub append : Trees → Trees → Trees

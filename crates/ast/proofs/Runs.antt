@@ -1,8 +1,7 @@
 -- Runs of tests, as a loop goes through them; and the claims, against how often a node stands as a child.
 use mathlib.Core.Path.{_≡_, refl, sym, ap, _∙_}
-use mathlib.Core.Bool.{Bool, true, false}
-use mathlib.Core.List.{List, [], _∷_, _++_}
-use Prim.Native.Nat.{ℕ, zero, suc, _+_, _-_, _*_, _<_, _≤_}
+use mathlib.Core.List.{List, [], _∷_}
+use Prim.Native.Nat.{ℕ, zero, suc, _+_, _-_, _<_, _≤_}
 use native.Mathlib.Omega.{arith}
 use native.Mathlib.Nat.{sub-zero, zero-add}
 use lib.Dec.{eqb}
@@ -10,16 +9,12 @@ use lib.ListN.{length, getD, set, replicate, length-set, length-replicate, getD-
 use lib.Seq.{getD-set-same, getD-set-other}
 use borrow.Author.Tests.{eq-eqb, ne-eqb}
 use native.Mathlib.Decide.{decLt}
-use Rattle.ast.specs.Image.{nodes, last}
-use Rattle.ast.specs.Rows.{kidsTo}
 use Rattle.ast.specs.Scan.{bump, claimAll}
-use Rattle.ast.specs.Tests.{_▸_, need, run, is, times, testParents}
+use Rattle.ast.specs.Tests.{need, run, is, times}
 use Rattle.ast.proofs.Accepted.{skip, stop}
 use Rattle.ast.proofs.Count.{is-same, is-other}
+use Rattle.ast.proofs.Shapes.{one-more}
 use Rattle.ast.proofs.Scans.{need-in, need-out}
-
-one-more : {j c : ℕ} → j < c → c - j ≡ suc (c - (j + 1))
-one-more h = omega arith
 
 -- the whole run is what is left of it
 module _ (f : ℕ → ℕ) (c : ℕ) where
@@ -43,7 +38,7 @@ module _ (f : ℕ → ℕ) (c : ℕ) where
   run-end i l h = let z : c - i ≡ 0 = omega arith in l ∙ rw (z, run)
 
 -- none, one, several
-unfoldable sat : ℕ → ℕ
+unfoldable pub sat : ℕ → ℕ
 sat zero = 0
 sat (suc zero) = 1
 sat (suc (suc x)) = 2
@@ -84,7 +79,7 @@ module _ (v : ℕ) where
           let o = is-other v c q in
           f y (getD-set-other us c v _ 0 q ∙ e) ∙ ap sat (omega arith)
 
-  claimed-times : (cs : List ℕ) → v < 2048 → getD (claimAll cs (replicate 2048 0)) v 0 ≡ sat (times v cs)
+  pub claimed-times : (cs : List ℕ) → v < 2048 → getD (claimAll cs (replicate 2048 0)) v 0 ≡ sat (times v cs)
   unfolding sat
   claimed-times cs h = claims-are cs (replicate 2048 0) 0 (rw length-replicate h) (getD-replicate 2048 v 0 0 h ∙ sat-zero) ∙ ap sat (zero-add (times v cs))
     where

@@ -1,16 +1,11 @@
 -- Laws of the answers of a scan: how they follow one another.
-use mathlib.Core.Path.{_≡_, refl, sym, ap, _∙_, subst}
+use mathlib.Core.Path.{_≡_, refl, sym, ap, _∙_}
 use mathlib.Core.Bool.{Bool, true, false}
-use mathlib.Core.List.{List, [], _∷_, _++_, append-assoc}
-use Prim.Native.Nat.{ℕ, zero, suc, _+_, _-_, _*_, _<_, _≤_}
+use mathlib.Core.List.{List, [], _∷_, _++_}
+use Prim.Native.Nat.{ℕ, zero, suc, _+_, _-_, _≤_}
 use native.Mathlib.Omega.{arith}
-use lib.Dec.{ltb, leb, eqb}
-use lib.ListN.{length, getD, set}
-use Rattle.ast.specs.Image.{nodes, word, opAt, operands, names, bytes}
-use Rattle.ast.specs.Kinds.{Field}
-use Rattle.ast.specs.Rows.{numbers, after, afterFields, fieldKids, fieldsKids, rowEnd, kids}
-use Rattle.ast.specs.Tests.{_▸_, need, run, testField, testFields, testNode}
-use Rattle.ast.specs.declared.Sizes.{Sizes}
+use lib.ListN.{getD, set}
+use Rattle.ast.specs.Tests.{_▸_, need}
 use Rattle.ast.specs.declared.Scan.{Scan}
 use Rattle.ast.specs.Scan.{Step, bump, claimAll}
 

@@ -1,20 +1,20 @@
 -- Laws of rows by their shape, for whoever goes down a tree: the row of a node of a known kind, its tree over those of its
 -- children, a case of an enum, the items of a list.
-use mathlib.Core.Path.{_≡_, refl, sym, ap, subst, _∙_}
-use mathlib.Core.Bool.{Bool, true, false}
+use mathlib.Core.Path.{_≡_, ap, subst, _∙_}
+use mathlib.Core.Bool.{true, false}
 use mathlib.Core.List.{List, [], _∷_}
-use Prim.Native.Nat.{ℕ, zero, suc, _+_, _-_, _<_, _≤_}
+use Prim.Native.Nat.{ℕ, suc, _+_, _-_, _<_}
 use native.Mathlib.Omega.{arith}
 use native.Mathlib.Nat.{add-assoc}
 use borrow.Author.Tests.{eqb-false}
 use lib.Dec.{eqb}
 use lib.ListN.{length, getD}
-use Rattle.ast.specs.Image.{nodes, kindAt, field}
-use Rattle.ast.specs.Kinds.{Class, Field, cases, noChild, Kind, kindOf}
-use Rattle.ast.specs.Tree.{Tree, node, block, Trees, none, _◂_, ordered, treeAt}
-use Rattle.ast.specs.Items.{items, blocks, below}
+use Rattle.ast.specs.Image.{field}
+use Rattle.ast.specs.Kinds.{Class, cases, noChild, Kind, kindOf}
+use Rattle.ast.specs.Tree.{Trees, none, _◂_, ordered, treeAt}
+use Rattle.ast.specs.Items.{items, below}
 use Rattle.ast.specs.Is.{Is, kindBy}
-use Rattle.ast.proofs.Row.{append, append-none, Child, FormedFields, FormedRow, kidsOf, allKids, shapes, nodeOf, tree-is, row-formed}
+use Rattle.ast.proofs.Row.{append-none, Child, FormedFields, FormedRow, nodeOf, tree-is, row-formed}
 
 -- the kinds of the children of a term's cases, and of an app head's
 abbrev pub termKinds : List ℕ

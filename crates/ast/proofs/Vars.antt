@@ -14,15 +14,13 @@ use Rattle.ast.specs.Tests.{first, isVar, testVar, testTree, verdict}
 use Rattle.ast.specs.Tree.{Tree, node, block, Trees, none, _◂_, swap, swaps, ordered, growAll, grow, classAt, treeAt}
 use Rattle.ast.proofs.Accepted.{both, needed, ran, passed, formed, last-below}
 use Rattle.ast.proofs.Formed.{Child, Formed, FormedField, FormedFields}
+use Rattle.ast.proofs.Shapes.{termKinds}
 use Rattle.ast.proofs.Unfold.{All, nil, cons, All-split, All-map, kids-below, treeAt-is, treeOf, rowOf}
 
 -- a term of case Ident, with its IdentTerm, or of case Wildcard
 pub data PlainVar : Tree → Type 0 where
   named : (n i : ℕ) → PlainVar (node n 12 (inner term) (0 ∷ []) (node i 13 (inner ident) [] none ◂ none))
   wildcard : (n : ℕ) → PlainVar (node n 12 (inner term) (1 ∷ []) none)
-
-abbrev termCases : List ℕ
-termCases = 13 ∷ noChild ∷ 14 ∷ 17 ∷ 18 ∷ 19 ∷ 20 ∷ 21 ∷ []
 
 module _ (img : List ℕ) (f : Formed img) where
   identTree : (i : ℕ) → i < nodes img → kindAt img i ≡ 13 → treeAt img i ≡ node i 13 (inner ident) [] none
@@ -31,20 +29,20 @@ module _ (img : List ℕ) (f : Formed img) where
 
   module _ (c : ℕ) (h : c < nodes img) (e : kindAt img c ≡ 12) where
     termTree : (w : ℕ) → first img c ≡ w → treeAt img c ≡ node c 12 (inner term) (w ∷ [])
-        (grow (treeAt img) (elim (eqb (getD termCases w noChild) noChild) [ true ↦ [] | false ↦ one (opAt img (startAt img c + 2 + 1)) ∷ [] ] ++ []))
+        (grow (treeAt img) (elim (eqb (getD termKinds w noChild) noChild) [ true ↦ [] | false ↦ one (opAt img (startAt img c + 2 + 1)) ∷ [] ] ++ []))
     unfolding kindOf fieldsShape fieldShape fieldsKids fieldKids ordered first
     termTree w q = subst (λ x. treeAt img c ≡ node c 12 (inner term) (x ∷ [])
-        (grow (treeAt img) (elim (eqb (getD termCases x noChild) noChild) [ true ↦ [] | false ↦ one (opAt img (startAt img c + 2 + 1)) ∷ [] ] ++ [])))
+        (grow (treeAt img) (elim (eqb (getD termKinds x noChild) noChild) [ true ↦ [] | false ↦ one (opAt img (startAt img c + 2 + 1)) ∷ [] ] ++ [])))
         q (treeOf img f c h 12 e)
 
-    termChild : (w : ℕ) → first img c ≡ w → elim (eqb (getD termCases w noChild) noChild) as (λ b. Type 0) [
+    termChild : (w : ℕ) → first img c ≡ w → elim (eqb (getD termKinds w noChild) noChild) as (λ b. Type 0) [
       | true ↦ Unit {0}
-      | false ↦ Child img c (getD termCases w noChild) (opAt img (startAt img c + 2 + 1))
+      | false ↦ Child img c (getD termKinds w noChild) (opAt img (startAt img c + 2 + 1))
     ]
     unfolding kindOf FormedFields FormedField first
-    termChild w q = subst (λ x. elim (eqb (getD termCases x noChild) noChild) as (λ b. Type 0) [
+    termChild w q = subst (λ x. elim (eqb (getD termKinds x noChild) noChild) as (λ b. Type 0) [
       | true ↦ Unit {0}
-      | false ↦ Child img c (getD termCases x noChild) (opAt img (startAt img c + 2 + 1))
+      | false ↦ Child img c (getD termKinds x noChild) (opAt img (startAt img c + 2 + 1))
     ])
         q (rowOf img f c h 12 e .1 .1)
 

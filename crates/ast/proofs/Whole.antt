@@ -1,30 +1,25 @@
 -- The tests of a node, of the nodes, and of the whole tree, as the code goes through them.
 use mathlib.Core.Path.{_≡_, refl, sym, ap, _∙_, subst}
-use mathlib.Core.Bool.{Bool, true, false}
 use mathlib.Core.List.{List, [], _∷_, _++_}
 use Prim.Native.Nat.{ℕ, zero, suc, _+_, _-_, _*_, _<_, _≤_}
 use native.Mathlib.Omega.{arith}
 use native.Mathlib.Numerals.{add-one}
 use lib.Dec.{eqb, leb, ltb}
-use lib.ListN.{length, getD, replicate}
+use lib.ListN.{length, getD}
 use borrow.Author.Tests.{lt-ltb, le-ltb, le-leb, lt-leb, eq-eqb, ne-eqb}
-use Rattle.ast.specs.Image.{word, nodes, kindAt, startAt, opAt, operands, names, bytes, last}
+use Rattle.ast.specs.Image.{nodes, kindAt, startAt, operands, names, bytes, last}
 use Rattle.ast.specs.Kinds.{kindOf}
-use Rattle.ast.specs.Parts.{partOf, rowParts}
+use Rattle.ast.specs.Parts.{partOf, partsOf, rowParts}
 use Rattle.ast.specs.Rows.{numbers, kids, kidsTo, fieldsAt, rowEnd}
-use Rattle.ast.specs.Scan.{Head, Within, Went, Step, FieldsTested, NodeTested, claimAll}
+use Rattle.ast.specs.Scan.{Head, Within, Step, FieldsTested, NodeTested, claimAll}
 use Rattle.ast.specs.Tests.{_▸_, need, run, times, first, isVar, testVar, testSizes, testNames, testNode, testParents, testTree, endBefore, verdict}
-use Rattle.ast.proofs.Accepted.{skip, stop, sizes-ok}
-use Rattle.ast.proofs.Fields.{in-row, out-row, fields-halt, fields-follow}
-use Rattle.ast.proofs.Parts.{row-parts}
-use Rattle.ast.proofs.Runs.{RunLeft, run-begin, run-next, run-stop, run-end, once, not-once}
+use Rattle.ast.proofs.Accepted.{skip, stop, stop-at, sizes-ok}
+use Rattle.ast.proofs.Fields.{in-row, out-row, fields-none, fields-halt, fields-follow}
+use Rattle.ast.proofs.Parts.{parts-row}
+use Rattle.ast.proofs.Runs.{RunLeft, run-begin, run-next, run-stop, run-end}
 use Rattle.ast.proofs.Scans.{need-in, need-out, claim-append, skips, stops, refused}
 use Rattle.ast.specs.declared.Scan.{Scan}
 use Rattle.ast.specs.declared.Sizes.{Sizes}
-
-stop-at : (a b k : ℕ) → a ≡ k → (k ≡ 0 → ⊥) → a ▸ b ≡ k
-stop-at a b zero e z = absurd (z refl)
-stop-at a b (suc k) e z = stop a b k e
 
 module _ (img : List ℕ) where
   module _ (n : ℕ) {us vs : List ℕ} (r : Scan) (kind start : ℕ) (k : kind ≡ kindAt img n) where
@@ -55,17 +50,35 @@ module _ (img : List ℕ) where
             skips _ _ _ _ (need-in 6 _ (le-leb _ _ (rw k at h))) (skips _ _ _ _ (need-in 7 _ (eq-eqb _ _ (rw e at q)))
             (skips _ _ _ _ (in-row img _ (rw e at i)) (skips _ _ _ _ (in-row img _ (rw e at l)) (rw (k, e) at t))))
 
-  -- a row by its parts
-  module _ (n k : ℕ) {us vs : List ℕ} (r : Scan) (p a : ℕ) (h : k ≤ 40) (e : a ≡ getD rowParts (3 * k) 0) (t : FieldsTested img n (partOf a) p us r vs) where
-    pub row-halt : (r .code ≡ 0 → ⊥) → FieldsTested img n ((kindOf k) .fields) p us r vs
-    row-halt c = rw (sym (row-parts k h)) (rw (sym e) (fields-halt img n r p _ _ t c))
+  -- a row by its parts: those before the j-th have passed, and what answers the others from `at` on answers the row
+  pub record RowLeft (n k p : ℕ) (us : List ℕ) (j at : ℕ) (vs : List ℕ) : Type 0 where
+    pub left : {r : Scan} {ws : List ℕ} → FieldsTested img n (partsOf (3 - j) (3 * k + j)) at vs r ws → FieldsTested img n ((kindOf k) .fields) p us r ws
+    pub low : at ≤ 8192
 
-    module _ (b : ℕ) {ws : List ℕ} (q : Scan) (c : r .code ≡ 0) (f : b ≡ getD rowParts (3 * k + 1) 0) (u : FieldsTested img n (partOf b) (r .at) vs q ws) where
-      pub row-halt-2 : (q .code ≡ 0 → ⊥) → FieldsTested img n ((kindOf k) .fields) p us q ws
-      row-halt-2 d = rw (sym (row-parts k h)) (rw (sym e, sym f) (fields-follow img n r p _ _ t c (fields-halt img n q _ _ _ u d)))
+  pub row-begin : (n k p : ℕ) (us : List ℕ) → k ≤ 40 → p ≤ 8192 → RowLeft n k p us 0 p us
+  row-begin n k p us h l =
+      let z : 3 * k + 0 ≡ 3 * k = omega arith in
+      record { left = λ {r} {ws} t. subst (λ gs. FieldsTested img n gs p us r ws) (rw z (parts-row k h)) t; low = l }
 
-      pub row-in : (d : ℕ) {xs : List ℕ} (z : Scan) → q .code ≡ 0 → d ≡ getD rowParts (3 * k + 2) 0 → FieldsTested img n (partOf d) (q .at) ws z xs → FieldsTested img n ((kindOf k) .fields) p us z xs
-      row-in d z y g v = rw (sym (row-parts k h)) (rw (sym e, sym f, sym g) (fields-follow img n r p _ _ t c (fields-follow img n q _ _ _ u y v)))
+  module _ (n k p : ℕ) {us : List ℕ} (j at : ℕ) {vs ws : List ℕ} (r : Scan) (part : ℕ) (i : RowLeft n k p us j at vs) (h : j < 3) (e : part ≡ getD rowParts (3 * k + j) 0) (t : FieldsTested img n (partOf part) at vs r ws) where
+    more : {q : Scan} {xs : List ℕ} → FieldsTested img n (partOf part ++ partsOf (3 - (j + 1)) (3 * k + (j + 1))) at vs q xs → FieldsTested img n ((kindOf k) .fields) p us q xs
+    unfolding partsOf
+    more u =
+        let c : 3 - j ≡ suc (3 - (j + 1)) = omega arith in
+        let d : 3 * k + (j + 1) ≡ 3 * k + j + 1 = omega arith in
+        i .left (rw c (rw d at (rw e at u)))
+
+    pub row-next : r .code ≡ 0 → RowLeft n k p us (j + 1) (r .at) ws
+    row-next c = record { left = λ u. more (fields-follow img n r at _ _ t c u); low = t .went c .low }
+
+    pub row-stop : (r .code ≡ 0 → ⊥) → FieldsTested img n ((kindOf k) .fields) p us r ws
+    row-stop c = more (fields-halt img n r at _ _ t c)
+
+  pub row-end : (n k p : ℕ) {us : List ℕ} (j at : ℕ) {vs : List ℕ} (r : Scan) → RowLeft n k p us j at vs → 3 ≤ j → r .code ≡ 0 → r .at ≡ at → FieldsTested img n ((kindOf k) .fields) p us r vs
+  unfolding partsOf
+  row-end n k p j at r i h c a =
+      let d : 3 - j ≡ 0 = omega arith in
+      i .left (rw d (fields-none img n r at refl c a (i .low)))
 
   -- the nodes before n have passed
   pub record NodesLeft (us : List ℕ) (n end : ℕ) (vs : List ℕ) : Type 0 where

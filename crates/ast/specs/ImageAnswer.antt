@@ -6,6 +6,7 @@ use Rattle.ast.specs.Tests.{verdict}
 use Rattle.ast.specs.declared.Tested.{Tested}
 use Rattle.ast.specs.declared.Tested.the-variants.{Accepted, Refused}
 
+-- the answer that a value of the enum stands for
 unfoldable pub answerOf : Tested → Answer
 answerOf Accepted = result 0 0
 answerOf (Refused number) = refused number

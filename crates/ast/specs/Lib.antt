@@ -3,6 +3,7 @@ pub mod Kinds
 pub mod Rows
 pub mod Tree
 pub mod Items
+pub mod RowShapes
 pub mod Is
 pub mod Tests
 pub mod Scan

@@ -1,23 +1,16 @@
--- The tests of the names: their ends, and buckets of names by a hash of their bytes.
-use mathlib.Core.Path.{_≡_, refl, sym, ap, _∙_, subst}
-use mathlib.Core.Bool.{Bool, true, false, not}
-use mathlib.Core.Logic.{_⊎_, inl, inr}
-use mathlib.Core.List.{List, [], _∷_, _++_}
-use Prim.Native.Nat.{ℕ, zero, suc, _+_, _-_, _*_, _/_, _%_, _<_, _≤_}
-use native.Mathlib.Omega.{arith}
-use native.Mathlib.Numerals.{add-one}
-use lib.Dec.{eqb, leb, ltb, ltb→lt, eqb→eq}
-use lib.ListN.{length, getD, set, take, drop, replicate, length-replicate, length-set}
-use lib.Seq.{slice, slice-cons, slice-empty, length-slice, take-nil, getD-set-same, getD-set-other}
-use native.Mathlib.Nat.{add-zero, zero-add, sub-zero}
-use native.Mathlib.Decide.{decLt}
-use borrow.Author.Tests.{lt-ltb, le-ltb, le-leb, lt-leb, eq-eqb, ne-eqb, eqb-true}
+-- What the tests of the names (4, 5) ask and hand back as the code goes through them: names by place, and buckets of names by a hash
+-- of their bytes. Vocabulary of its contracts.
+use mathlib.Core.Path.{_≡_}
+use mathlib.Core.Bool.{Bool, true, false}
+use mathlib.Core.List.{List, [], _∷_}
+use Prim.Native.Nat.{ℕ, suc, _+_, _-_, _*_, _%_, _<_, _≤_}
+use lib.ListN.{getD}
 use Rattle.ast.specs.Image.{names, bytes, bytesPlace, nameStart, nameEnd, nameBytes}
-use Rattle.ast.specs.Scan.{Head, Within}
+use Rattle.ast.specs.Scan.{Within}
 use Rattle.ast.specs.Tests.{run, same, unequal}
 use Rattle.ast.specs.declared.Sizes.{Sizes}
 
--- the bucket of a name
+-- the bucket of bytes
 unfoldable pub hash : ℕ → List ℕ → ℕ
 hash h [] = h
 hash h (x ∷ xs) = hash ((31 * h + x) % 1024) xs
@@ -47,11 +40,13 @@ pub data Reach (next : List ℕ) : ℕ → ℕ → Type 0 where
   here : {j : ℕ} → Reach next (suc j) j
   there : {j m : ℕ} → Reach next (getD next j 0) m → Reach next (suc j) m
 
+-- the chain of a bucket's earlier names, for the name i: next falls
 pub record Chain (img : List ℕ) (s : Sizes) (i from to first : ℕ) (next : List ℕ) : Type 0 where
   pub at : NameAt img s i from to
   pub low : first ≤ i
   pub falls : (j : ℕ) → j < i → getD next j 0 ≤ j
 
+-- whether a name of the chain has the bytes of i
 pub record Met (img : List ℕ) (i first : ℕ) (next : List ℕ) (r : Bool) : Type 0 where
   pub found : r ≡ true → run (unequal img i) i 0 ≡ 5
   pub none : r ≡ false → (m : ℕ) → Reach next first m → same (nameBytes img m) (nameBytes img i) ≡ false

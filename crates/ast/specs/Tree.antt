@@ -1,4 +1,4 @@
--- The tree of an image.
+-- The tree of an image: numbers, kinds, classes, shapes and children, and no names.
 use mathlib.Core.Bool.{Bool, true, false}
 use mathlib.Core.List.{List, [], _∷_}
 use Prim.Native.Nat.{ℕ, zero, suc}
@@ -19,6 +19,7 @@ mutual
     none : Trees
     _◂_ : Tree → Trees → Trees
 
+-- the first two, the other way round
 unfoldable pub swap : Trees → Trees
 swap none = none
 swap (t ◂ none) = t ◂ none
@@ -40,6 +41,7 @@ swaps (inner ifVar) = true
 swaps (inner definedThen) = true
 swaps (inner arg) = false
 
+-- the children of a node of this class, from row order to scope order
 unfoldable pub ordered : Class → Trees → Trees
 unfolding swaps swap
 ordered c ts = elim (swaps c) [ true ↦ swap ts | false ↦ ts ]
@@ -56,6 +58,7 @@ module _ (f : ℕ → Tree) where
   grow (one c ∷ ks) = f c ◂ grow ks
   grow (many cs ∷ ks) = block (growAll cs) ◂ grow ks
 
+-- the class of the node n
 unfoldable pub classAt : List ℕ → ℕ → Class
 unfolding kindOf
 classAt img n = (kindOf (kindAt img n)) .class
@@ -71,6 +74,7 @@ treeTo img (suc d) n =
       | false ↦ block none
     ]
 
+-- the tree of the node n
 unfoldable pub treeAt : List ℕ → ℕ → Tree
 unfolding treeTo
 treeAt img n = treeTo img (suc n) n

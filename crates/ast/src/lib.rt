@@ -1,4 +1,4 @@
-// The image tests: the first refusal of 1 to 12, or 0 for an accepted image.
+// The image: its words, the rows by node, the tests 1 to 12, and Name.
 ghost use mathlib.Core.Path.{_≡_};
 ghost use mathlib.Core.List.{List, [], _∷_, _++_};
 ghost use Prim.Native.Nat.{ℕ, suc, _+_, _*_, _-_, _<_, _≤_, _^_};
@@ -10,9 +10,12 @@ ghost use Rattle.ast.specs.Kinds.{name, optName, child, optChild, list, 
 ghost use Rattle.ast.specs.Scan.{Head, Within, Place, Step, FieldTested, FieldsTested, NodeTested, bump, claimAll};
 ghost use lib.Seq.{slice};
 ghost use Rattle.ast.specs.Names.{hash, Spanned, NameAt, Chain, Met};
+ghost use Rattle.ast.specs.RowShapes.{locationOf};
 ghost use Rattle.ast.specs.Name.{nameCall, namePlace};
 ghost use Rattle.ast.specs.ImageAnswer.{answerOf, testCall};
-ghost use Rattle.ast.specs.Parts.{partOf, rowParts, caseKinds, caseList, Cased};
+ghost use Rattle.ast.specs.Parts.{partOf, rowParts, caseKinds, caseList, Cased, Tables};
+
+pub mod rows; // the rows by kind
 
 pub fn wide(x: u32) -> usize
     ensures { λ r. ⌜ r ≡ x ⌝ }
@@ -63,8 +66,10 @@ pub fn sizes_of(image: &[u8]) -> Sizes
     }
 }
 
+// A node by its number.
 pub struct NodeId(pub u32);
 
+// The kind of a node.
 pub fn kind_at(image: &[u8], node: NodeId) -> u32
     ensures { λ r. ⌜ r ≡ «image-spec».kindAt (now (image .entry)) (node .0) ⌝ }
 {
@@ -85,30 +90,81 @@ fn op_at(image: &[u8], s: Sizes, place: u32) -> u32
     word(image, 16 + 8 * wide(s.nodes) + 4 * wide(place))
 }
 
+// N.
 pub fn node_count(image: &[u8]) -> u32
     ensures { λ r. ⌜ r ≡ «image-spec».nodes (now (image .entry)) ⌝ }
 {
     word(image, 0)
 }
 
+// The place where a node's row starts.
 pub fn row_start(image: &[u8], node: NodeId) -> u32
     ensures { λ r. ⌜ r ≡ «image-spec».startAt (now (image .entry)) (node .0) ⌝ }
 {
     word(image, 16 + 4 * wide(node_count(image)) + 4 * wide(node.0))
 }
 
-pub fn operand(image: &[u8], place: usize) -> u32
-    requires { ⌜ place < 2 ^ 40 ⌝ }
-    ensures { λ r. ⌜ r ≡ «image-spec».opAt (now (image .entry)) place ⌝ }
+// The operand word at a place; 0 where it does not fit.
+pub fn operand_at(image: &[u8], at: usize) -> u32
+    ensures { λ r. ⌜ r ≡ «image-spec».opAt (now (image .entry)) at ⌝ }
 {
-    word(image, 16 + 8 * wide(node_count(image)) + 4 * place)
+    if image.len() / 4 < at {
+        return 0;
+    }
+    word(image, 16 + 8 * wide(node_count(image)) + 4 * at)
+}
+
+// A row reader: the image that it reads from, and the place of its next operand.
+pub struct RowReader<'a> {
+    pub image: &'a [u8],
+    pub at: usize,
+}
+
+pub fn read_from<'a>(image: &'a [u8], at: usize) -> RowReader<'a>
+    ensures { λ r. ⌜ (r .image ≡ image .entry) × (r .at ≡ at) ⌝ }
+{
+    RowReader { image, at }
+}
+
+// Where a reader stands.
+pub fn place<'a>(r: RowReader<'a>) -> usize
+    ensures { λ n. ⌜ n ≡ r .entry .at ⌝ }
+{
+    r.at
+}
+
+// The next operand of a reader.
+pub fn next<'a>(r: RowReader<'a>) -> u32
+    ensures { λ w. ⌜ w ≡ «image-spec».opAt (now (r .entry .image)) (r .entry .at) ⌝ }
+{
+    operand_at(r.image, r.at)
+}
+
+// The operand word at a place, read by a reader that starts there.
+pub fn operand(image: &[u8], at: usize) -> u32
+    ensures { λ w. ⌜ w ≡ «image-spec».opAt (now (image .entry)) at ⌝ }
+{
+    next(read_from(image, at))
+}
+
+// Where a node's text begins and ends.
+pub struct Location(pub u32, pub u32);
+
+// The two words that a node's row begins with.
+pub fn loc(image: &[u8], node: NodeId) -> Location
+    ensures { λ r. ⌜ r ≡ locationOf (now (image .entry)) (node .0) ⌝ }
+{
+    let start = wide(row_start(image, node));
+    Location(operand(image, start), operand(image, start + 1))
 }
 
 // The j-th word of a node's row after its two location words.
 pub fn field(image: &[u8], node: NodeId, j: usize) -> u32
-    requires { ⌜ j < 2 ^ 34 ⌝ }
     ensures { λ r. ⌜ r ≡ «image-spec».field (now (image .entry)) (node .0) j ⌝ }
 {
+    if image.len() < j {
+        return 0;
+    }
     operand(image, wide(row_start(image, node)) + 2 + j)
 }
 
@@ -118,6 +174,7 @@ fn less_one(x: u32) -> u32
     if x == 0 { 0 } else { x - 1 }
 }
 
+// The name number of a node that has a name; of an optional one, the word less 1.
 pub fn name_of(image: &[u8], node: NodeId) -> u32
     ensures { λ r. ⌜ r ≡ «image-spec».nameOf (now (image .entry)) (node .0) ⌝ }
 {
@@ -402,11 +459,11 @@ const CASES: [u32; 34] = [
     40, // Stmt
 ];
 
-fn case_kind(i: u32) -> u32
-    requires { ⌜ i < 34 ⌝ }
+fn case_kind(kinds: &[u32; 34], i: u32) -> u32
+    requires { ⌜ (now kinds ≡ caseKinds) × (i < 34) ⌝ }
     ensures { λ r. ⌜ r ≡ getD caseKinds i 0 ⌝ }
 {
-    CASES[i as usize]
+    kinds[i as usize]
 }
 
 // A case number, of `count` cases whose kinds stand from `from` on, and the child.
@@ -417,9 +474,10 @@ fn check_case(
     from: u32,
     count: u32,
     p: u32,
+    kinds: &[u32; 34],
     claims: &mut [u8; 2048],
 ) -> Scan
-    requires { ⌜ Place (now image) s (node .0) p × (from + count ≤ 34) ⌝ }
+    requires { ⌜ Place (now image) s (node .0) p × (from + count ≤ 34) × (now kinds ≡ caseKinds) ⌝ }
     ensures { λ r. ⌜ FieldTested (now (image .entry)) (node .0) (cases (caseList from count)) p (now (claims .entry)) r (now (claims .exit)) ⌝ }
 {
     if s.operands <= p {
@@ -429,7 +487,7 @@ fn check_case(
     if count <= case {
         return Scan { code: 8, at: p };
     }
-    let k = case_kind(from + case);
+    let k = case_kind(kinds, from + case);
     if k == 41 {
         let next = p + 1;
         return Scan { code: 0, at: next };
@@ -565,11 +623,11 @@ const ROWS: [u32; 123] = [
     0, // MatchStmt
 ];
 
-fn part_at(i: u32) -> u32
-    requires { ⌜ i < 123 ⌝ }
+fn part_at(parts: &[u32; 123], i: u32) -> u32
+    requires { ⌜ (now parts ≡ rowParts) × (i < 123) ⌝ }
     ensures { λ r. ⌜ r ≡ getD rowParts i 0 ⌝ }
 {
-    ROWS[i as usize]
+    parts[i as usize]
 }
 
 fn check_part(
@@ -578,9 +636,10 @@ fn check_part(
     node: NodeId,
     part: u32,
     p: u32,
+    kinds: &[u32; 34],
     claims: &mut [u8; 2048],
 ) -> Scan
-    requires { ⌜ Place (now image) s (node .0) p × Cased part ⌝ }
+    requires { ⌜ Place (now image) s (node .0) p × Cased part × (now kinds ≡ caseKinds) ⌝ }
     ensures { λ r. ⌜ FieldsTested (now (image .entry)) (node .0) (partOf part) p (now (claims .entry)) r (now (claims .exit)) ⌝ }
 {
     if part == 0 {
@@ -611,6 +670,7 @@ fn check_part(
         (part - 500) / 10,
         (part - 500) % 10,
         p,
+        kinds,
         claims,
     )
 }
@@ -621,28 +681,38 @@ fn check_row(
     node: NodeId,
     kind: u32,
     p: u32,
+    parts: &[u32; 123],
+    kinds: &[u32; 34],
     claims: &mut [u8; 2048],
 ) -> Scan
-    requires { ⌜ Place (now image) s (node .0) p × (kind ≤ 40) ⌝ }
+    requires { ⌜ Place (now image) s (node .0) p × (kind ≤ 40) × Tables (now parts) (now kinds) ⌝ }
     ensures { λ r. ⌜ FieldsTested (now (image .entry)) (node .0) ((kindOf kind) .fields) p (now (claims .entry)) r (now (claims .exit)) ⌝ }
 {
-    let first = part_at(3 * kind);
-    let a = check_part(image, s, node, first, p, claims);
-    if a.code != 0 {
-        return a;
+    let mut j = 0u32;
+    let mut at = p;
+    while j < 3 {
+        let part = part_at(parts, 3 * kind + j);
+        let step = check_part(image, s, node, part, at, kinds, claims);
+        if step.code != 0 {
+            return step;
+        }
+        at = step.at;
+        j += 1;
     }
-    let second = part_at(3 * kind + 1);
-    let b = check_part(image, s, node, second, a.at, claims);
-    if b.code != 0 {
-        return b;
-    }
-    let third = part_at(3 * kind + 2);
-    check_part(image, s, node, third, b.at, claims)
+    Scan { code: 0, at }
 }
 
 // Refusals 6 to 9 of a node; `end` is where the row before ends.
-fn check_node(image: &[u8], s: Sizes, node: NodeId, end: u32, claims: &mut [u8; 2048]) -> Scan
-    requires { ⌜ Place (now image) s (node .0) 0 × (end ≡ «tests-spec».endBefore (now image) (node .0)) ⌝ }
+fn check_node(
+    image: &[u8],
+    s: Sizes,
+    node: NodeId,
+    end: u32,
+    parts: &[u32; 123],
+    kinds: &[u32; 34],
+    claims: &mut [u8; 2048],
+) -> Scan
+    requires { ⌜ Place (now image) s (node .0) 0 × (end ≡ «tests-spec».endBefore (now image) (node .0)) × Tables (now parts) (now kinds) ⌝ }
     ensures { λ r. ⌜ NodeTested (now (image .entry)) (node .0) (now (claims .entry)) r (now (claims .exit)) ⌝ }
 {
     let kind = kind_at(image, node);
@@ -659,18 +729,24 @@ fn check_node(image: &[u8], s: Sizes, node: NodeId, end: u32, claims: &mut [u8; 
     if s.operands <= start + 1 {
         return Scan { code: 7, at: 0 };
     }
-    check_row(image, s, node, kind, start + 2, claims)
+    check_row(image, s, node, kind, start + 2, parts, kinds, claims)
 }
 
 // Refusals 6 to 9.
-fn check_nodes(image: &[u8], s: Sizes, claims: &mut [u8; 2048]) -> Scan
-    requires { ⌜ Within (now image) s ⌝ }
+fn check_nodes(
+    image: &[u8],
+    s: Sizes,
+    parts: &[u32; 123],
+    kinds: &[u32; 34],
+    claims: &mut [u8; 2048],
+) -> Scan
+    requires { ⌜ Within (now image) s × Tables (now parts) (now kinds) ⌝ }
     ensures { λ r. ⌜ Step («tests-spec».run («tests-spec».testNode (now (image .entry))) («image-spec».nodes (now (image .entry))) 0) («tests-spec».endBefore (now (image .entry)) («image-spec».nodes (now (image .entry)))) (kidsTo (now (image .entry)) («image-spec».nodes (now (image .entry)))) (now (claims .entry)) r (now (claims .exit)) ⌝ }
 {
     let mut n = 0u32;
     let mut end = 0u32;
     while n < s.nodes {
-        let step = check_node(image, s, NodeId(n), end, claims);
+        let step = check_node(image, s, NodeId(n), end, parts, kinds, claims);
         if step.code != 0 {
             return step;
         }
@@ -949,21 +1025,23 @@ pub fn verdict(image: &[u8]) -> u32
     if b != 0 {
         return b;
     }
+    let parts = ROWS;
+    let kinds = CASES;
     let mut claims = [0u8; 2048];
-    let step = check_nodes(image, s, &mut claims);
+    let step = check_nodes(image, s, &parts, &kinds, &mut claims);
     if step.code != 0 {
         return step.code;
     }
     test_tree(image, s, step.at, &claims)
 }
 
-// Where the bytes of a name stand in the image.
+// A part of the image: its start and its length.
 pub struct NamePlace {
     pub start: usize,
     pub len: usize,
 }
 
-// The place of a name's bytes; 0 and 0 where Name is empty.
+// Where the bytes of a name stand in the image; 0 and 0 where Name is empty.
 pub fn name_place(image: &[u8], number: u32) -> NamePlace
     ensures { λ r. ⌜ r ≡ namePlace (now (image .entry)) number ⌝ }
 {
@@ -991,7 +1069,7 @@ pub fn name(image: &[u8], number: u32) -> &[u8]
     &image[start..end]
 }
 
-// What the image tests say.
+// The answer of the image test.
 pub enum Tested {
     Accepted,
     Refused(u32),

@@ -42,12 +42,16 @@ lentTable = replicate (tableLength 2048) 0
 abbrev pub lentRows : List ℕ
 lentRows = replicate (rowsLength 2048) 0
 
+-- the lines of the plain error rows, and of the occurrences
+abbrev pub errorLines : List ℕ → List Line
+errorLines img = let e = errors img lentTable lentRows 1 in rowLines error (nodes img) (e .answer) (e .rows)
+
+abbrev pub varLines : List ℕ → List Line
+varLines img = let o = occurrences img lentTable lentRows in rowLines var (nodes img) (o .answer) (o .rows)
+
 unfoldable pub bodyLines : List ℕ → List Line
 unfolding rowLines endLines
-bodyLines img =
-    let e = errors img lentTable lentRows 1 in
-    let o = occurrences img lentTable lentRows in
-    rowLines error (nodes img) (e .answer) (e .rows) ++ (rowLines var (nodes img) (o .answer) (o .rows) ++ endLines ((once img lentTable) .answer))
+bodyLines img = errorLines img ++ (varLines img ++ endLines ((once img lentTable) .answer))
 
 unfoldable pub linesOf : List ℕ → Answer → List Line
 unfolding bodyLines

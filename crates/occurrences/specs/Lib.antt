@@ -1,2 +1,3 @@
 pub mod Sight
 pub mod Occurrences
+pub mod Collect

@@ -1,1 +1,609 @@
 // Variable occurrences: Occurrences and Once.
+ghost use mathlib.Core.Path.{_≡_};
+ghost use mathlib.Core.List.{[], _∷_};
+ghost use Prim.Native.Nat.{_+_, _<_, _≤_, _^_};
+ghost use lib.ListN.{getD, set};
+ghost use Rattle.ast.specs.Scan.{bump, claimAll};
+ghost use Rattle.ast.specs.Image as «image-spec»;
+ghost use Rattle.ast.specs.Kinds.{kindOf};
+ghost use Rattle.table.specs.Rows.{Sorted};
+ghost use Rattle.table.specs.Values.{optionOf};
+ghost use Rattle.rows.specs.Rows.{rights, Appended};
+ghost use Rattle.occurrences.specs.Sight.{moduleRules};
+ghost use Rattle.occurrences.specs.Occurrences.{found, occurrenceRows, lone, rowsByRule};
+ghost use Rattle.occurrences.specs.Collect.{sought, spot, identRows, rowsIn, rowsAt, Room, Ready, Run, joined, listsIn, listsAt, Listing, ListingRun, Whole, Nodes, readRows, under, uncounted, loneOf, Scratch, Searched};
+use ast::NodeId;
+use table::Found;
+use table::ScopeId;
+
+// What lookup of the ident's name gives at the exit of the node.
+fn lookup_at(image: &[u8], table: &[u32], symbols: u32, node: NodeId, ident: NodeId) -> Found
+    requires { ⌜ Sorted («image-spec».nodes (now image)) symbols (now table) ⌝ }
+    ensures { λ r. ⌜ optionOf r ≡ found (now (image .entry)) (sought (now (table .entry)) symbols) (spot (node .0) (ident .0)) ⌝ }
+{
+    let n = ast::wide(ast::node_count(image));
+    let exit = table::get(table, 3 + n + ast::wide(node.0));
+    let name = ast::name_of(image, ident);
+    table::seek(image, table, symbols, ScopeId(exit), name)
+}
+
+// An ident directly under a Term or AppHead: a row if it is a Var.
+fn collect_ident(
+    image: &[u8],
+    table: &[u32],
+    symbols: u32,
+    rows: &mut [u32],
+    count: u32,
+    node: NodeId,
+    ident: NodeId,
+) -> u32
+    requires { ⌜ Room (now image) (sought (now table) symbols) (identRows (now image) (sought (now table) symbols) (node .0) (ident .0)) count ⌝ }
+    ensures { λ r. ⌜ Appended («image-spec».nodes (now (image .entry))) (identRows (now (image .entry)) (sought (now (table .entry)) symbols) (node .0) (ident .0)) count (now (rows .entry)) r (now (rows .exit)) ⌝ }
+{
+    match lookup_at(image, table, symbols, node, ident) {
+        Found::At(binding) => {
+            if ast::kind_at(image, binding) == 13 {
+                let n = ast::node_count(image);
+                rows::put_row(rows, n, count, node.0, binding.0)
+            } else {
+                count
+            }
+        }
+        Found::Nothing => count,
+    }
+}
+
+fn collect_term(
+    image: &[u8],
+    table: &[u32],
+    symbols: u32,
+    rows: &mut [u32],
+    count: u32,
+    term: NodeId,
+) -> u32
+    requires { ⌜ Ready (now image) (sought (now table) symbols) (kindOf 12) (term .0) count ⌝ }
+    ensures { λ r. ⌜ Appended («image-spec».nodes (now (image .entry))) (rowsIn (now (image .entry)) (sought (now (table .entry)) symbols) (term .0)) count (now (rows .entry)) r (now (rows .exit)) ⌝ }
+{
+    let case = ast::field(image, term, 0);
+    let id = NodeId(ast::field(image, term, 1));
+    match case {
+        0 => collect_ident(image, table, symbols, rows, count, term, id),
+        2 => {
+            let head = NodeId(ast::field(image, id, 0));
+            let args = NodeId(ast::field(image, id, 1));
+            let after = collect_app_head(image, table, symbols, rows, count, head);
+            collect_term_list(image, table, symbols, rows, after, args)
+        }
+        3 | 4 | 5 | 6 => {
+            let inner = NodeId(ast::field(image, id, 0));
+            collect_term(image, table, symbols, rows, count, inner)
+        }
+        7 => {
+            let first = NodeId(ast::field(image, id, 0));
+            let second = NodeId(ast::field(image, id, 1));
+            let after = collect_term(image, table, symbols, rows, count, first);
+            collect_term(image, table, symbols, rows, after, second)
+        }
+        _ => count,
+    }
+}
+
+fn collect_app_head(
+    image: &[u8],
+    table: &[u32],
+    symbols: u32,
+    rows: &mut [u32],
+    count: u32,
+    head: NodeId,
+) -> u32
+    requires { ⌜ Ready (now image) (sought (now table) symbols) (kindOf 15) (head .0) count ⌝ }
+    ensures { λ r. ⌜ Appended («image-spec».nodes (now (image .entry))) (rowsIn (now (image .entry)) (sought (now (table .entry)) symbols) (head .0)) count (now (rows .entry)) r (now (rows .exit)) ⌝ }
+{
+    let case = ast::field(image, head, 0);
+    let id = NodeId(ast::field(image, head, 1));
+    match case {
+        0 => collect_ident(image, table, symbols, rows, count, head, id),
+        1 => {
+            let receiver = NodeId(ast::field(image, id, 0));
+            collect_term(image, table, symbols, rows, count, receiver)
+        }
+        _ => collect_term(image, table, symbols, rows, count, id),
+    }
+}
+
+fn collect_term_list(
+    image: &[u8],
+    table: &[u32],
+    symbols: u32,
+    rows: &mut [u32],
+    count: u32,
+    list: NodeId,
+) -> u32
+    requires { ⌜ Ready (now image) (sought (now table) symbols) (kindOf 22) (list .0) count ⌝ }
+    ensures { λ r. ⌜ Appended («image-spec».nodes (now (image .entry))) (rowsIn (now (image .entry)) (sought (now (table .entry)) symbols) (list .0)) count (now (rows .entry)) r (now (rows .exit)) ⌝ }
+{
+    let size = ast::wide(ast::field(image, list, 0));
+    let mut i = 0;
+    let mut after = count;
+    while i < size {
+        let term = NodeId(ast::field(image, list, 1 + i));
+        after = collect_term(image, table, symbols, rows, after, term);
+        i += 1;
+    }
+    after
+}
+
+fn collect_type_expr(
+    image: &[u8],
+    table: &[u32],
+    symbols: u32,
+    rows: &mut [u32],
+    count: u32,
+    typ: NodeId,
+) -> u32
+    requires { ⌜ Ready (now image) (sought (now table) symbols) (kindOf 23) (typ .0) count ⌝ }
+    ensures { λ r. ⌜ Appended («image-spec».nodes (now (image .entry))) (rowsIn (now (image .entry)) (sought (now (table .entry)) symbols) (typ .0)) count (now (rows .entry)) r (now (rows .exit)) ⌝ }
+{
+    let case = ast::field(image, typ, 0);
+    if case == 1 {
+        let id = NodeId(ast::field(image, typ, 1));
+        let receiver = NodeId(ast::field(image, id, 0));
+        return collect_term(image, table, symbols, rows, count, receiver);
+    }
+    count
+}
+
+fn collect_pred_expr(
+    image: &[u8],
+    table: &[u32],
+    symbols: u32,
+    rows: &mut [u32],
+    count: u32,
+    pred: NodeId,
+) -> u32
+    requires { ⌜ Ready (now image) (sought (now table) symbols) (kindOf 26) (pred .0) count ⌝ }
+    ensures { λ r. ⌜ Appended («image-spec».nodes (now (image .entry))) (rowsIn (now (image .entry)) (sought (now (table .entry)) symbols) (pred .0)) count (now (rows .entry)) r (now (rows .exit)) ⌝ }
+{
+    let case = ast::field(image, pred, 0);
+    if case == 1 {
+        let id = NodeId(ast::field(image, pred, 1));
+        let receiver = NodeId(ast::field(image, id, 0));
+        return collect_term(image, table, symbols, rows, count, receiver);
+    }
+    count
+}
+
+// Two terms: an Equal atom.
+fn collect_equal(
+    image: &[u8],
+    table: &[u32],
+    symbols: u32,
+    rows: &mut [u32],
+    count: u32,
+    id: NodeId,
+) -> u32
+    requires { ⌜ Ready (now image) (sought (now table) symbols) (kindOf 30) (id .0) count ⌝ }
+    ensures { λ r. ⌜ Appended («image-spec».nodes (now (image .entry))) (rowsIn (now (image .entry)) (sought (now (table .entry)) symbols) (id .0)) count (now (rows .entry)) r (now (rows .exit)) ⌝ }
+{
+    let lhs = NodeId(ast::field(image, id, 0));
+    let rhs = NodeId(ast::field(image, id, 1));
+    let after = collect_term(image, table, symbols, rows, count, lhs);
+    collect_term(image, table, symbols, rows, after, rhs)
+}
+
+fn collect_pred(
+    image: &[u8],
+    table: &[u32],
+    symbols: u32,
+    rows: &mut [u32],
+    count: u32,
+    id: NodeId,
+) -> u32
+    requires { ⌜ Ready (now image) (sought (now table) symbols) (kindOf 31) (id .0) count ⌝ }
+    ensures { λ r. ⌜ Appended («image-spec».nodes (now (image .entry))) (rowsIn (now (image .entry)) (sought (now (table .entry)) symbols) (id .0)) count (now (rows .entry)) r (now (rows .exit)) ⌝ }
+{
+    let pred = NodeId(ast::field(image, id, 0));
+    let args = NodeId(ast::field(image, id, 1));
+    let after = collect_pred_expr(image, table, symbols, rows, count, pred);
+    collect_term_list(image, table, symbols, rows, after, args)
+}
+
+// A defined-then: its variable, if it has one, before its term.
+fn collect_defined(
+    image: &[u8],
+    table: &[u32],
+    symbols: u32,
+    rows: &mut [u32],
+    count: u32,
+    id: NodeId,
+) -> u32
+    requires { ⌜ Ready (now image) (sought (now table) symbols) (kindOf 34) (id .0) count ⌝ }
+    ensures { λ r. ⌜ Appended («image-spec».nodes (now (image .entry))) (rowsIn (now (image .entry)) (sought (now (table .entry)) symbols) (id .0)) count (now (rows .entry)) r (now (rows .exit)) ⌝ }
+{
+    let var = ast::field(image, id, 0);
+    let term = NodeId(ast::field(image, id, 1));
+    if var == 0 {
+        return collect_term(image, table, symbols, rows, count, term);
+    }
+    let variable = NodeId(var - 1);
+    let after_var = collect_term(image, table, symbols, rows, count, variable);
+    collect_term(image, table, symbols, rows, after_var, term)
+}
+
+fn collect_if_atom(
+    image: &[u8],
+    table: &[u32],
+    symbols: u32,
+    rows: &mut [u32],
+    count: u32,
+    atom: NodeId,
+) -> u32
+    requires { ⌜ Ready (now image) (sought (now table) symbols) (kindOf 28) (atom .0) count ⌝ }
+    ensures { λ r. ⌜ Appended («image-spec».nodes (now (image .entry))) (rowsIn (now (image .entry)) (sought (now (table .entry)) symbols) (atom .0)) count (now (rows .entry)) r (now (rows .exit)) ⌝ }
+{
+    let case = ast::field(image, atom, 0);
+    let id = NodeId(ast::field(image, atom, 1));
+    match case {
+        0 => collect_equal(image, table, symbols, rows, count, id),
+        1 => {
+            let term = NodeId(ast::field(image, id, 0));
+            collect_term(image, table, symbols, rows, count, term)
+        }
+        2 => collect_pred(image, table, symbols, rows, count, id),
+        _ => {
+            let term = NodeId(ast::field(image, id, 0));
+            let typ = NodeId(ast::field(image, id, 1));
+            let after = collect_type_expr(image, table, symbols, rows, count, typ);
+            collect_term(image, table, symbols, rows, after, term)
+        }
+    }
+}
+
+fn collect_then_atom(
+    image: &[u8],
+    table: &[u32],
+    symbols: u32,
+    rows: &mut [u32],
+    count: u32,
+    atom: NodeId,
+) -> u32
+    requires { ⌜ Ready (now image) (sought (now table) symbols) (kindOf 29) (atom .0) count ⌝ }
+    ensures { λ r. ⌜ Appended («image-spec».nodes (now (image .entry))) (rowsIn (now (image .entry)) (sought (now (table .entry)) symbols) (atom .0)) count (now (rows .entry)) r (now (rows .exit)) ⌝ }
+{
+    let case = ast::field(image, atom, 0);
+    let id = NodeId(ast::field(image, atom, 1));
+    match case {
+        0 => collect_equal(image, table, symbols, rows, count, id),
+        1 => collect_defined(image, table, symbols, rows, count, id),
+        _ => collect_pred(image, table, symbols, rows, count, id),
+    }
+}
+
+// The `size` statements from the place `first` of the node's row on.
+fn collect_stmts(
+    image: &[u8],
+    table: &[u32],
+    symbols: u32,
+    rows: &mut [u32],
+    count: u32,
+    node: NodeId,
+    first: usize,
+    size: usize,
+) -> u32
+    requires { ⌜ Run (now image) (sought (now table) symbols) 36 (node .0) first size count ⌝ }
+    ensures { λ r. ⌜ Appended («image-spec».nodes (now (image .entry))) (rowsAt (now (image .entry)) (sought (now (table .entry)) symbols) (node .0) size first) count (now (rows .entry)) r (now (rows .exit)) ⌝ }
+{
+    let mut i = 0;
+    let mut after = count;
+    while i < size {
+        let stmt = NodeId(ast::field(image, node, first + i));
+        after = collect_stmt(image, table, symbols, rows, after, stmt);
+        i += 1;
+    }
+    after
+}
+
+fn collect_stmt(
+    image: &[u8],
+    table: &[u32],
+    symbols: u32,
+    rows: &mut [u32],
+    count: u32,
+    stmt: NodeId,
+) -> u32
+    requires { ⌜ Ready (now image) (sought (now table) symbols) (kindOf 36) (stmt .0) count ⌝ }
+    ensures { λ r. ⌜ Appended («image-spec».nodes (now (image .entry))) (rowsIn (now (image .entry)) (sought (now (table .entry)) symbols) (stmt .0)) count (now (rows .entry)) r (now (rows .exit)) ⌝ }
+{
+    let case = ast::field(image, stmt, 0);
+    let id = NodeId(ast::field(image, stmt, 1));
+    match case {
+        0 => {
+            let atom = NodeId(ast::field(image, id, 0));
+            collect_if_atom(image, table, symbols, rows, count, atom)
+        }
+        1 => {
+            let atom = NodeId(ast::field(image, id, 0));
+            collect_then_atom(image, table, symbols, rows, count, atom)
+        }
+        2 => collect_branch(image, table, symbols, rows, count, id),
+        _ => collect_match(image, table, symbols, rows, count, id),
+    }
+}
+
+// The statements of each block.
+fn collect_branch(
+    image: &[u8],
+    table: &[u32],
+    symbols: u32,
+    rows: &mut [u32],
+    count: u32,
+    id: NodeId,
+) -> u32
+    requires { ⌜ Ready (now image) (sought (now table) symbols) (kindOf 39) (id .0) count ⌝ }
+    ensures { λ r. ⌜ Appended («image-spec».nodes (now (image .entry))) (rowsIn (now (image .entry)) (sought (now (table .entry)) symbols) (id .0)) count (now (rows .entry)) r (now (rows .exit)) ⌝ }
+{
+    let blocks = ast::wide(ast::field(image, id, 0));
+    let mut i = 0;
+    let mut j = 1usize;
+    let mut after = count;
+    while i < blocks {
+        let size = ast::wide(ast::field(image, id, j));
+        after = collect_stmts(image, table, symbols, rows, after, id, j + 1, size);
+        j = j + 1 + size;
+        i += 1;
+    }
+    after
+}
+
+// The matched term, then each case.
+fn collect_match(
+    image: &[u8],
+    table: &[u32],
+    symbols: u32,
+    rows: &mut [u32],
+    count: u32,
+    id: NodeId,
+) -> u32
+    requires { ⌜ Ready (now image) (sought (now table) symbols) (kindOf 40) (id .0) count ⌝ }
+    ensures { λ r. ⌜ Appended («image-spec».nodes (now (image .entry))) (rowsIn (now (image .entry)) (sought (now (table .entry)) symbols) (id .0)) count (now (rows .entry)) r (now (rows .exit)) ⌝ }
+{
+    let term = NodeId(ast::field(image, id, 0));
+    let size = ast::wide(ast::field(image, id, 1));
+    let mut after = collect_term(image, table, symbols, rows, count, term);
+    let mut i = 0;
+    while i < size {
+        let case = NodeId(ast::field(image, id, 2 + i));
+        after = collect_case(image, table, symbols, rows, after, case);
+        i += 1;
+    }
+    after
+}
+
+// The pattern, then the statements.
+fn collect_case(
+    image: &[u8],
+    table: &[u32],
+    symbols: u32,
+    rows: &mut [u32],
+    count: u32,
+    id: NodeId,
+) -> u32
+    requires { ⌜ Ready (now image) (sought (now table) symbols) (kindOf 35) (id .0) count ⌝ }
+    ensures { λ r. ⌜ Appended («image-spec».nodes (now (image .entry))) (rowsIn (now (image .entry)) (sought (now (table .entry)) symbols) (id .0)) count (now (rows .entry)) r (now (rows .exit)) ⌝ }
+{
+    let pattern = NodeId(ast::field(image, id, 0));
+    let size = ast::wide(ast::field(image, id, 1));
+    let after = collect_term(image, table, symbols, rows, count, pattern);
+    collect_stmts(image, table, symbols, rows, after, id, 2, size)
+}
+
+fn collect_rule(
+    image: &[u8],
+    table: &[u32],
+    symbols: u32,
+    rows: &mut [u32],
+    count: u32,
+    rule: NodeId,
+) -> u32
+    requires { ⌜ Listing (now image) (sought (now table) symbols) (kindOf 6) (rule .0) count ⌝ }
+    ensures { λ r. ⌜ Appended («image-spec».nodes (now (image .entry))) (joined (listsIn (now (image .entry)) (sought (now (table .entry)) symbols) (rule .0))) count (now (rows .entry)) r (now (rows .exit)) ⌝ }
+{
+    let size = ast::wide(ast::field(image, rule, 1));
+    collect_stmts(image, table, symbols, rows, count, rule, 2, size)
+}
+
+fn collect_decl(
+    image: &[u8],
+    table: &[u32],
+    symbols: u32,
+    rows: &mut [u32],
+    count: u32,
+    decl: NodeId,
+) -> u32
+    requires { ⌜ Listing (now image) (sought (now table) symbols) (kindOf 1) (decl .0) count ⌝ }
+    ensures { λ r. ⌜ Appended («image-spec».nodes (now (image .entry))) (joined (listsIn (now (image .entry)) (sought (now (table .entry)) symbols) (decl .0))) count (now (rows .entry)) r (now (rows .exit)) ⌝ }
+{
+    let case = ast::field(image, decl, 0);
+    let id = NodeId(ast::field(image, decl, 1));
+    match case {
+        4 => collect_rule(image, table, symbols, rows, count, id),
+        6 => {
+            let size = ast::wide(ast::field(image, id, 1));
+            collect_decls(image, table, symbols, rows, count, id, 2, size)
+        }
+        _ => count,
+    }
+}
+
+// The `size` declarations from the place `first` of the node's row on.
+fn collect_decls(
+    image: &[u8],
+    table: &[u32],
+    symbols: u32,
+    rows: &mut [u32],
+    count: u32,
+    node: NodeId,
+    first: usize,
+    size: usize,
+) -> u32
+    requires { ⌜ ListingRun (now image) (sought (now table) symbols) (node .0) first size count ⌝ }
+    ensures { λ r. ⌜ Appended («image-spec».nodes (now (image .entry))) (joined (listsAt (now (image .entry)) (sought (now (table .entry)) symbols) (node .0) size first)) count (now (rows .entry)) r (now (rows .exit)) ⌝ }
+{
+    let mut i = 0;
+    let mut after = count;
+    while i < size {
+        let decl = NodeId(ast::field(image, node, first + i));
+        after = collect_decl(image, table, symbols, rows, after, decl);
+        i += 1;
+    }
+    after
+}
+
+// What the check of a rule or of declarations gives: no lone occurrence, or the first one with its binding.
+pub enum Checked {
+    Ok,
+    Lone(NodeId, NodeId),
+}
+
+// One more for the binding: 0, 1, or 2 for several.
+fn count_binding(counts: &mut [u32], binding: usize)
+    ensures { λ _. ⌜ now (counts .exit) ≡ set (now (counts .entry)) binding (bump (getD (now (counts .entry)) binding 0)) ⌝ }
+{
+    if table::get(counts, binding) == 0 {
+        table::put(counts, binding, 1);
+    } else {
+        table::put(counts, binding, 2);
+    }
+}
+
+// One more for the binding of each row.
+fn count_bindings(rows: &[u32], n: u32, count: u32, counts: &mut [u32])
+    ensures { λ _. ⌜ now (counts .exit) ≡ claimAll (rights (readRows n (now (rows .entry)) count 0)) (now (counts .entry)) ⌝ }
+{
+    let mut i = 0u32;
+    while i < count {
+        let binding = table::get(rows, 1 + ast::wide(n) + ast::wide(i));
+        count_binding(counts, ast::wide(binding));
+        i += 1;
+    }
+}
+
+// The first row whose binding is counted under two times.
+fn first_lone(rows: &[u32], n: u32, count: u32, counts: &[u32]) -> Checked
+    ensures { λ r. ⌜ loneOf r ≡ under (now (counts .entry)) (readRows n (now (rows .entry)) count 0) ⌝ }
+{
+    let mut i = 0u32;
+    while i < count {
+        let binding = table::get(rows, 1 + ast::wide(n) + ast::wide(i));
+        if table::get(counts, ast::wide(binding)) < 2 {
+            let node = table::get(rows, 1 + ast::wide(i));
+            return Checked::Lone(NodeId(node), NodeId(binding));
+        }
+        i += 1;
+    }
+    Checked::Ok
+}
+
+// The counts of the rows' bindings set back to 0.
+fn uncount(rows: &[u32], n: u32, count: u32, counts: &mut [u32])
+    ensures { λ _. ⌜ now (counts .exit) ≡ uncounted (rights (readRows n (now (rows .entry)) count 0)) (now (counts .entry)) ⌝ }
+{
+    let mut i = 0u32;
+    while i < count {
+        let binding = table::get(rows, 1 + ast::wide(n) + ast::wide(i));
+        table::put(counts, ast::wide(binding), 0);
+        i += 1;
+    }
+}
+
+// Counts are per binding and per rule: the rule's rows are collected, counted, and the first lone one is found.
+fn check_rule(
+    image: &[u8],
+    table: &[u32],
+    symbols: u32,
+    rows: &mut [u32],
+    counts: &mut [u32],
+    rule: NodeId,
+) -> Checked
+    requires { ⌜ (Listing (now image) (sought (now table) symbols) (kindOf 6) (rule .0) 0) × (Scratch (now image) (sought (now table) symbols) (now rows) (now counts)) ⌝ }
+    ensures { λ r. ⌜ Searched (listsIn (now (image .entry)) (sought (now (table .entry)) symbols) (rule .0)) (now (counts .entry)) r (now (counts .exit)) ⌝ }
+{
+    let n = ast::node_count(image);
+    let count = collect_rule(image, table, symbols, rows, 0, rule);
+    count_bindings(rows, n, count, counts);
+    let found = first_lone(rows, n, count, counts);
+    uncount(rows, n, count, counts);
+    found
+}
+
+fn check_decl(
+    image: &[u8],
+    table: &[u32],
+    symbols: u32,
+    rows: &mut [u32],
+    counts: &mut [u32],
+    decl: NodeId,
+) -> Checked
+    requires { ⌜ (Listing (now image) (sought (now table) symbols) (kindOf 1) (decl .0) 0) × (Scratch (now image) (sought (now table) symbols) (now rows) (now counts)) ⌝ }
+    ensures { λ r. ⌜ Searched (listsIn (now (image .entry)) (sought (now (table .entry)) symbols) (decl .0)) (now (counts .entry)) r (now (counts .exit)) ⌝ }
+{
+    let case = ast::field(image, decl, 0);
+    let id = NodeId(ast::field(image, decl, 1));
+    match case {
+        4 => check_rule(image, table, symbols, rows, counts, id),
+        6 => {
+            let size = ast::wide(ast::field(image, id, 1));
+            check_decls(image, table, symbols, rows, counts, id, 2, size)
+        }
+        _ => Checked::Ok,
+    }
+}
+
+fn check_decls(
+    image: &[u8],
+    table: &[u32],
+    symbols: u32,
+    rows: &mut [u32],
+    counts: &mut [u32],
+    node: NodeId,
+    first: usize,
+    size: usize,
+) -> Checked
+    requires { ⌜ (ListingRun (now image) (sought (now table) symbols) (node .0) first size 0) × (Scratch (now image) (sought (now table) symbols) (now rows) (now counts)) ⌝ }
+    ensures { λ r. ⌜ Searched (listsAt (now (image .entry)) (sought (now (table .entry)) symbols) (node .0) size first) (now (counts .entry)) r (now (counts .exit)) ⌝ }
+{
+    let mut i = 0;
+    while i < size {
+        let decl = NodeId(ast::field(image, node, first + i));
+        match check_decl(image, table, symbols, rows, counts, decl) {
+            Checked::Ok => {}
+            Checked::Lone(node, binding) => {
+                return Checked::Lone(node, binding);
+            }
+        }
+        i += 1;
+    }
+    Checked::Ok
+}
+
+// The rows of all rules, in the list's order.
+fn collect_module(image: &[u8], table: &[u32], symbols: u32, rows: &mut [u32]) -> u32
+    requires { ⌜ Whole (now image) (sought (now table) symbols) ⌝ }
+    ensures { λ r. ⌜ Appended («image-spec».nodes (now (image .entry))) (occurrenceRows (now (image .entry)) (sought (now (table .entry)) symbols)) 0 (now (rows .entry)) r (now (rows .exit)) ⌝ }
+{
+    let root = NodeId(ast::node_count(image) - 1);
+    let size = ast::wide(ast::field(image, root, 0));
+    collect_decls(image, table, symbols, rows, 0, root, 1, size)
+}
+
+// Works in local arrays: one for the rows of a rule, one for the counts of its bindings.
+fn check_module(image: &[u8], table: &[u32], symbols: u32) -> Checked
+    requires { ⌜ (Whole (now image) (sought (now table) symbols)) × (Nodes (now image) (sought (now table) symbols)) ⌝ }
+    ensures { λ r. ⌜ loneOf r ≡ lone (rowsByRule (now (image .entry)) (sought (now (table .entry)) symbols) (moduleRules (now (image .entry)))) ⌝ }
+{
+    let root = NodeId(ast::node_count(image) - 1);
+    let size = ast::wide(ast::field(image, root, 0));
+    let mut rows = [0u32; 4097];
+    let mut counts = [0u32; 2048];
+    check_decls(image, table, symbols, &mut rows, &mut counts, root, 1, size)
+}

@@ -1,16 +1,16 @@
 -- What the walk keeps of its table: the rows stand by rising scope, all below the count of scopes.
-use mathlib.Core.Path.{_≡_, refl, sym, ap, subst, _∙_}
+use mathlib.Core.Path.{_≡_, refl, ap, _∙_}
 use mathlib.Core.Logic.{⊎-elim}
 use mathlib.Core.List.{List}
-use Prim.Native.Nat.{ℕ, zero, suc, _+_, _*_, _-_, _<_, _≤_}
+use Prim.Native.Nat.{ℕ, suc, _+_, _*_, _-_, _<_, _≤_}
 use native.Mathlib.Omega.{arith}
 use native.Mathlib.Nat.{eq-or-lt-of-le}
-use lib.ListN.{length, getD, set, drop, length-set}
+use lib.ListN.{length, set, drop, length-set}
 use lib.Seq.{getD-set-same, getD-set-other, drop-set-lt}
 use Rattle.ast.specs.Image.{nodes}
 use Rattle.table.specs.Layout.{tableLength}
 use Rattle.table.specs.Rows.{scopeOf, Sorted}
-use Rattle.table.specs.Table.{Table, markWords, mark, newScope, newSymbol}
+use Rattle.table.specs.Table.{Table, mark, newScope, newSymbol}
 
 module _ (img : List ℕ) where
   -- the rows stand by rising scope, each of a scope that is there

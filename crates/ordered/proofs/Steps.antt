@@ -4,25 +4,25 @@ use mathlib.Core.Bool.{Bool, true, false}
 use mathlib.Core.Option.{Option}
 use mathlib.Core.Logic.{⊎-elim}
 use mathlib.Core.List.{List, [], _∷_}
-use Prim.Native.Nat.{ℕ, zero, suc, _+_, _-_, _<_, _≤_}
+use Prim.Native.Nat.{ℕ, suc, _-_, _<_, _≤_}
 use native.Mathlib.Omega.{arith}
-use native.Mathlib.Nat.{add-zero, sub-zero, eq-or-lt-of-le}
+use native.Mathlib.Nat.{eq-or-lt-of-le}
 use lib.Dec.{eqb}
-use lib.ListN.{length, getD}
+use lib.ListN.{getD}
 use Rattle.ast.specs.Image.{nodes, field, nameOf}
-use Rattle.ast.specs.Items.{items, below}
-use Rattle.ast.specs.Kinds.{Class, inner, plain, term, head, Field, child, list, cases, noChild, Kind, kindOf}
+use Rattle.ast.specs.Items.{below}
+use Rattle.ast.specs.Kinds.{Class, inner, plain, term, head, Field, child, cases, noChild, Kind, kindOf}
 use Rattle.ast.specs.Tree.{Tree, Trees, none, _◂_, ordered, treeAt}
 use Rattle.ast.specs.Is.{Is, kindBy}
 use Rattle.table.specs.Rows.{Sorted}
-use Rattle.table.specs.State.{Exit, introduce, marked, unmarked}
+use Rattle.table.specs.State.{Exit, introduce, marked}
 use Rattle.table.specs.Table.{climb, lookup, isValue}
-use Rattle.ast.proofs.Row.{append-none, Child, Items, FormedFields, next, ends, nodeOf}
-use Rattle.ast.proofs.Shapes.{termKinds, headKinds, formed-row, row, tree-of, child-is, case-kids, case-one, case-child, items-more}
-use Rattle.ast.proofs.Small.{tree-small, items-small}
+use Rattle.ast.proofs.Row.{Child, FormedFields, next, nodeOf}
+use Rattle.ast.proofs.Shapes.{termKinds, headKinds, row, tree-of, child-is, case-kids, case-one, case-child}
+use Rattle.ast.proofs.Small.{tree-small}
 use Rattle.ordered.specs.Walk.{Role, occurs, names, walkIdent, headRole, walk, walkSeq}
-use Rattle.ordered.specs.Walkers.{over, inside, rest, Room, Ready, Run}
-use Rattle.ordered.proofs.Grows.{Grows, few-below, sorted-below, stays, marked-grows, unmarked-grows, ident-grows, walk-grows, seq-grows}
+use Rattle.ordered.specs.Walkers.{over, inside, Room, Ready}
+use Rattle.ordered.proofs.Grows.{Grows, few-below, sorted-below, stays, marked-grows, ident-grows, walk-grows}
 
 pub room-below : {img : List ℕ} {e f : Exit} → Grows img e f → Room img f → Room img e
 room-below g r =

@@ -1,3 +1,4 @@
 pub mod Encode
 pub mod Starred
 pub mod Calls
+pub mod Printed

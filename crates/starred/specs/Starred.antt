@@ -310,7 +310,7 @@ domTerm =
     }
 
 -- ★A as the 277 bytes of document 01
-abbrev bytesA : List ℕ
+abbrev pub bytesA : List ℕ
 bytesA =
     11 ∷ 0 ∷ 0 ∷ 0 ∷ 42 ∷ 0 ∷ 0 ∷ 0 ∷ 1 ∷ 0 ∷ 0 ∷ 0 ∷ 1 ∷ 0 ∷ 0 ∷ 0 ∷ 13 ∷ 0 ∷ 0 ∷ 0 ∷ 12 ∷ 0 ∷ 0 ∷ 0 ∷ 13 ∷ 0 ∷ 0 ∷ 0 ∷ 12 ∷ 0 ∷ 0 ∷ 0 ∷ 30 ∷ 0 ∷ 0 ∷ 0 ∷ 28 ∷ 0 ∷ 0 ∷ 0 ∷ 37 ∷ 0 ∷ 0 ∷ 0 ∷ 36 ∷ 0 ∷ 0 ∷ 0 ∷ 6 ∷ 0 ∷ 0 ∷ 0 ∷ 1 ∷ 0 ∷ 0 ∷ 0 ∷ 0 ∷ 0 ∷ 0 ∷ 0 ∷ 0 ∷ 0 ∷ 0 ∷ 0 ∷ 3 ∷ 0 ∷ 0 ∷ 0 ∷ 7 ∷ 0 ∷ 0 ∷ 0 ∷ 10 ∷ 0 ∷ 0 ∷ 0 ∷ 14 ∷ 0 ∷ 0 ∷ 0 ∷ 18 ∷ 0 ∷ 0 ∷ 0 ∷ 22 ∷ 0 ∷ 0 ∷ 0 ∷ 25 ∷ 0 ∷ 0 ∷ 0 ∷ 29 ∷ 0 ∷ 0 ∷ 0 ∷ 34 ∷ 0 ∷ 0 ∷ 0 ∷ 38 ∷ 0 ∷ 0 ∷ 0 ∷ 0 ∷ 0 ∷ 0 ∷ 0 ∷ 0 ∷ 0 ∷ 0 ∷ 0 ∷ 0 ∷ 0 ∷ 0 ∷ 0 ∷ 0 ∷ 0 ∷ 0 ∷ 0 ∷ 0 ∷ 0 ∷ 0 ∷ 0 ∷ 0 ∷ 0 ∷ 0 ∷ 0 ∷ 0 ∷ 0 ∷ 0 ∷ 0 ∷ 0 ∷ 0 ∷ 0 ∷ 0 ∷ 0 ∷ 0 ∷ 0 ∷ 0 ∷ 0 ∷ 0 ∷ 0 ∷ 0 ∷ 0 ∷ 0 ∷ 0 ∷ 0 ∷ 0 ∷ 0 ∷ 0 ∷ 0 ∷ 0 ∷ 0 ∷ 0 ∷ 0 ∷ 2 ∷ 0 ∷ 0 ∷ 0 ∷ 0 ∷ 0 ∷ 0 ∷ 0 ∷ 0 ∷ 0 ∷ 0 ∷ 0 ∷ 1 ∷ 0 ∷ 0 ∷ 0 ∷ 3 ∷ 0 ∷ 0 ∷ 0 ∷ 0 ∷ 0 ∷ 0 ∷ 0 ∷ 0 ∷ 0 ∷ 0 ∷ 0 ∷ 0 ∷ 0 ∷ 0 ∷ 0 ∷ 4 ∷ 0 ∷ 0 ∷ 0 ∷ 0 ∷ 0 ∷ 0 ∷ 0 ∷ 0 ∷ 0 ∷ 0 ∷ 0 ∷ 5 ∷ 0 ∷ 0 ∷ 0 ∷ 0 ∷ 0 ∷ 0 ∷ 0 ∷ 0 ∷ 0 ∷ 0 ∷ 0 ∷ 0 ∷ 0 ∷ 0 ∷ 0 ∷ 6 ∷ 0 ∷ 0 ∷ 0 ∷ 0 ∷ 0 ∷ 0 ∷ 0 ∷ 0 ∷ 0 ∷ 0 ∷ 0 ∷ 0 ∷ 0 ∷ 0 ∷ 0 ∷ 1 ∷ 0 ∷ 0 ∷ 0 ∷ 7 ∷ 0 ∷ 0 ∷ 0 ∷ 0 ∷ 0 ∷ 0 ∷ 0 ∷ 0 ∷ 0 ∷ 0 ∷ 0 ∷ 4 ∷ 0 ∷ 0 ∷ 0 ∷ 8 ∷ 0 ∷ 0 ∷ 0 ∷ 0 ∷ 0 ∷ 0 ∷ 0 ∷ 0 ∷ 0 ∷ 0 ∷ 0 ∷ 1 ∷ 0 ∷ 0 ∷ 0 ∷ 9 ∷ 0 ∷ 0 ∷ 0 ∷ 1 ∷ 0 ∷ 0 ∷ 0 ∷ 120 ∷ []
 
@@ -349,6 +349,6 @@ abbrev pub AsExpected : List Case → Type 0
 AsExpected [] = Unit {0}
 AsExpected (c ∷ cs) = (report (c .image) ≡ c .lines) × AsExpected cs
 
-starred : AsExpected cases
+pub starred : AsExpected cases
 unfolding word nodes kindAt startAt opAt field nameOf operands names bytes last nameEnd nameStart nameBytes kindOf ones numbers opsFrom afterBlocks blockKids blockCounts after fieldKids fieldShape afterFields fieldsKids fieldsShape fieldsAt rowEnd kids shape kidsTo swap swaps ordered growAll grow classAt treeTo treeAt _▸_ need run is times same testSizes testNames inRow isChild childWord testBlocks testField testFields endBefore testNode testParents first isVar testVar testTree verdict markWords mark newScope newSymbol rowIs findFrom climb find lookup isKind isValue childScope ownSymbol introduce marked unmarked walkIdent headRole walkArg walk walkSeq walkFirst enterName enterRule andThen resolveTree enter enterAll visit visitAll testTable zeroed walked headed outcomeOf resolve lefts rights filled written testRows among when sameNode asked introduces introducedRow definedRow definedRows argRow argRows listRows isCtor appRows patternRows plainRows argsOf repeated repeatedIn repeatedTo strictFrom strictRows isStrict errorRows testErrors errorsOf errors rowsOf rowsSeq rowsFirst rowsDefined declRows declsRows add opened headSort rulePlaces ruleSpots own ruleOwn rulesOf moduleRules outerConst place placeSeq placeThen placeFirst spots spotsSeq spotsBack spotsFirst says saysAll rules rulesAll listed rowsFor ruleRows allRows occurrenceRows timesBound loneIn lone rowsByRule onceAnswer occurrencesOf occurrences onceOf once bytesOf kindsOf startsOf wordsOf endsOf joined encode zipped rowLines endLines bodyLines linesOf report
 starred = (refl, (refl, (refl, (refl, (refl, (refl, (refl, (refl, (refl, (refl, (refl, (refl, (refl, (refl, (refl, (refl, tt))))))))))))))))

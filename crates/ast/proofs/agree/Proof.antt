@@ -1,4 +1,3 @@
-use borrow.Author.Needs.{needs}
 use mathlib.Core.Path.{refl, sym, _∙_}
 use native.Mathlib.Omega.{arith}
 use Prim.Native.Nat.{_-_}
@@ -31,7 +30,7 @@ add-j : tie.Need-add-j Inv-loop μ-loop
 add-j c = omega arith
 
 loop-less : tie.Need-loop-less Inv-loop μ-loop
-loop-less c = search needs
+loop-less c = omega arith
 
 loop-again : tie.Need-loop-again Inv-loop μ-loop
 loop-again c = agree-next _ _ _ _ _ _ (c .before .before .before .before .loop .inv) (c .before .before .before .loop-test .taken) (c .before .before .before .before .before .before .pre .1) (c .before .before .before .before .before .before .pre .2) (sym (c .before .before .byte .ensures .0) ∙ c .if1 .left ∙ c .before .byte2 .ensures .0)

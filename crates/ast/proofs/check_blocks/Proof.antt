@@ -1,3 +1,4 @@
+use native.Mathlib.Omega.{arith}
 use borrow.Author.Needs.{needs}
 use mathlib.Core.Path.{refl}
 use Rattle.ast.proofs.Fields.{BlocksLeft, blocks-next, blocks-stop, blocks-end}
@@ -20,10 +21,10 @@ returns : tie.Need-returns Inv-loop μ-loop
 returns c = blocks-stop _ _ _ _ _ _ _ _ _ (c .before .before .before .before .before .loop .inv) (c .before .before .before .before .loop-test .taken) (c .before .before .check-list .ensures) (c .if1 .taken)
 
 sub-left : tie.Need-sub-left Inv-loop μ-loop
-sub-left c = search needs
+sub-left c = omega arith
 
 loop-less : tie.Need-loop-less Inv-loop μ-loop
-loop-less c = search needs
+loop-less c = omega arith
 
 loop-again : tie.Need-loop-again Inv-loop μ-loop
 loop-again c = blocks-next _ _ _ _ _ _ _ _ _ (c .before .before .before .before .before .loop .inv) (c .before .before .before .before .loop-test .taken) (c .before .before .check-list .ensures) (c .if1 .left)

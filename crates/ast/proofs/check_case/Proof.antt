@@ -16,19 +16,19 @@ returns-2 : tie.Need-returns-2
 returns-2 c = case-bad _ _ _ _ _ (omega arith) (c .before .op-at .ensures) _ (let q = case-count (c .before .before .before .before .before .args .from) (c .before .before .before .before .before .args .count) (c .before .before .before .before .before .pre .1) in omega arith) refl
 
 add-case-kind : tie.Need-add-case-kind
-add-case-kind c = search needs
+add-case-kind c = omega arith
 
 case-kind-requires : tie.Need-case-kind-requires
 case-kind-requires c κs = search needs
 
 add-next : tie.Need-add-next
-add-next c = search needs
+add-next c = omega arith
 
 returns-3 : tie.Need-returns-3
 returns-3 c = let q = case-count (c .before .before .before .before .before .before .before .args .from) (c .before .before .before .before .before .before .before .args .count) (c .before .before .before .before .before .before .before .pre .1) in case-none _ _ _ _ _ (omega arith) (c .before .before .before .op-at .ensures) refl refl (omega arith) _ (omega arith) (sym (case-at (c .before .before .before .before .before .before .before .args .from) (c .before .before .before .before .before .before .before .args .count) (c .before .before .before .before .before .before .before .pre .1) _ _ (omega arith)) ∙ sym (c .before .case-kind .ensures) ∙ c .if3 .taken)
 
 add-check-child : tie.Need-add-check-child
-add-check-child c = search needs
+add-check-child c = omega arith
 
 check-child-requires : tie.Need-check-child-requires
 check-child-requires c κs = search needs

@@ -12,7 +12,7 @@ op-at-requires : tie.Need-op-at-requires
 op-at-requires c κs = search needs
 
 add-check-one : tie.Need-add-check-one
-add-check-one c = search needs
+add-check-one c = omega arith
 
 check-one-requires : tie.Need-check-one-requires
 check-one-requires c κs = search needs

@@ -24,10 +24,10 @@ add-at : tie.Need-add-at Inv-loop μ-loop
 add-at c = let i = c .before .before .before .before .before .loop .inv .low in omega arith
 
 sub-left : tie.Need-sub-left Inv-loop μ-loop
-sub-left c = search needs
+sub-left c = omega arith
 
 loop-less : tie.Need-loop-less Inv-loop μ-loop
-loop-less c = search needs
+loop-less c = omega arith
 
 loop-again : tie.Need-loop-again Inv-loop μ-loop
 loop-again c = items-next _ _ _ _ _ _ _ _ _ (c .before .before .before .before .before .loop .inv) (c .before .before .before .before .loop-test .taken) (c .before .before .check-child .ensures) (c .if1 .left)

@@ -12,7 +12,7 @@ op-at-requires : tie.Need-op-at-requires
 op-at-requires c κs = search needs
 
 add-check-items : tie.Need-add-check-items
-add-check-items c = search needs
+add-check-items c = omega arith
 
 check-items-requires : tie.Need-check-items-requires
 check-items-requires c κs = search needs

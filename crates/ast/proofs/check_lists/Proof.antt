@@ -12,7 +12,7 @@ op-at-requires : tie.Need-op-at-requires
 op-at-requires c κs = search needs
 
 add-check-blocks : tie.Need-add-check-blocks
-add-check-blocks c = search needs
+add-check-blocks c = omega arith
 
 check-blocks-requires : tie.Need-check-blocks-requires
 check-blocks-requires c κs = search needs

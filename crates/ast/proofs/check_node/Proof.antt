@@ -6,7 +6,7 @@ use Rattle.ast.proofs.check_node.Statement.{statement}
 use Rattle.ast.proofs.check_node.Tie as tie
 
 kind-at-requires : tie.Need-kind-at-requires
-kind-at-requires c κs = search needs
+kind-at-requires c κs = tt
 
 returns : tie.Need-returns
 returns c = node-kind _ _ _ _ 0 (c .before .kind-at .ensures) (omega arith) refl
@@ -21,16 +21,16 @@ returns-3 : tie.Need-returns-3
 returns-3 c = node-out _ _ _ _ _ (c .before .before .before .before .before .kind-at .ensures) (omega arith) (c .before .before .before .start-at .ensures) (c .before .before .if2 .left ∙ c .before .before .before .before .before .before .before .pre .1) (omega arith) refl
 
 add-if4 : tie.Need-add-if4
-add-if4 c = search needs
+add-if4 c = omega arith
 
 returns-4 : tie.Need-returns-4
 returns-4 c = node-out-2 _ _ _ _ _ (c .before .before .before .before .before .before .before .kind-at .ensures) (omega arith) (c .before .before .before .before .before .start-at .ensures) (c .before .before .before .before .if2 .left ∙ c .before .before .before .before .before .before .before .before .before .pre .1) (omega arith) (omega arith) refl
 
 add-check-row : tie.Need-add-check-row
-add-check-row c = search needs
+add-check-row c = omega arith
 
 check-row-requires : tie.Need-check-row-requires
-check-row-requires c κs = (search needs, omega arith)
+check-row-requires c κs = (search needs, omega arith, c .before .before .before .before .before .before .before .before .before .before .pre .2)
 
 returns-5 : tie.Need-returns-5
 returns-5 c = node-in _ _ _ _ _ (c .before .before .before .before .before .before .before .before .before .kind-at .ensures) (omega arith) (c .before .before .before .before .before .before .before .start-at .ensures) (c .before .before .before .before .before .before .if2 .left ∙ c .before .before .before .before .before .before .before .before .before .before .before .pre .1) (omega arith) (c .check-row .ensures)

@@ -7,25 +7,25 @@ use Rattle.ast.proofs.check_nodes.Statement.{statement}
 use Rattle.ast.proofs.check_nodes.Tie as tie
 
 abbrev Inv-loop : tie.InvT-loop
-Inv-loop image s claims₀ n₀ end₀ claims n end = NodesLeft image claims₀ n end claims
+Inv-loop image s parts kinds claims₀ n₀ end₀ claims n end = NodesLeft image claims₀ n end claims
 
 abbrev μ-loop : tie.MeasureT-loop
-μ-loop image s claims₀ n₀ end₀ claims n end = s .nodes - n
+μ-loop image s parts kinds claims₀ n₀ end₀ claims n end = s .nodes - n
 
 loop-holds : tie.Need-loop-holds Inv-loop μ-loop
 loop-holds c = nodes-begin _ _
 
 check-node-requires : tie.Need-check-node-requires Inv-loop μ-loop
-check-node-requires c κs = (search needs, c .before .before .before .loop .inv .ended)
+check-node-requires c κs = (search needs, c .before .before .before .loop .inv .ended, c .before .before .before .before .before .pre .1)
 
 returns : tie.Need-returns Inv-loop μ-loop
 returns c = nodes-stop _ _ _ _ _ (c .before .before .before .before .before .before .loop .inv) (omega arith) (c .before .before .check-node .ensures) (c .if2 .taken)
 
 add-n : tie.Need-add-n Inv-loop μ-loop
-add-n c = search needs
+add-n c = omega arith
 
 loop-less : tie.Need-loop-less Inv-loop μ-loop
-loop-less c = search needs
+loop-less c = omega arith
 
 loop-again : tie.Need-loop-again Inv-loop μ-loop
 loop-again c = nodes-next _ _ _ _ _ (c .before .before .before .before .before .before .loop .inv) (omega arith) (c .before .before .check-node .ensures) (c .if2 .left)

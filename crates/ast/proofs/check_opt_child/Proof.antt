@@ -12,16 +12,16 @@ op-at-requires : tie.Need-op-at-requires
 op-at-requires c κs = search needs
 
 add-next : tie.Need-add-next
-add-next c = search needs
+add-next c = omega arith
 
 returns-2 : tie.Need-returns-2
 returns-2 c = optChild-none _ _ _ _ _ (omega arith) (c .before .op-at .ensures) refl refl (omega arith) _ (c .if2 .taken)
 
 sub-child : tie.Need-sub-child
-sub-child c = search needs
+sub-child c = omega arith
 
 add-check-one : tie.Need-add-check-one
-add-check-one c = search needs
+add-check-one c = omega arith
 
 check-one-requires : tie.Need-check-one-requires
 check-one-requires c κs = search needs

@@ -12,7 +12,7 @@ op-at-requires : tie.Need-op-at-requires
 op-at-requires c κs = search needs
 
 add-next : tie.Need-add-next
-add-next c = search needs
+add-next c = omega arith
 
 returns-2 : tie.Need-returns-2
 returns-2 c = λ n us. optName-in _ n _ _ _ (omega arith) (c .before .before .op-at .ensures) refl refl (omega arith) (omega arith)

@@ -45,7 +45,7 @@ returns-7 : tie.Need-returns-7
 returns-7 c = rw (part-lists _ (c .before .before .before .before .before .before .before .before .if1 .left) (c .before .before .before .before .before .before .before .if2 .left) (c .before .before .before .if6 .left) (c .before .before .if7 .taken)) (fields-one _ _ _ _ _ (c .check-lists .ensures))
 
 check-case-requires : tie.Need-check-case-requires
-check-case-requires c κs = (search needs, c .before .before .before .before .before .before .before .before .before .pre .1)
+check-case-requires c κs = (search needs, c .before .before .before .before .before .before .before .before .before .pre .1, c .before .before .before .before .before .before .before .before .before .pre .2)
 
 returns-8 : tie.Need-returns-8
 returns-8 c = rw (part-cases _ (c .before .before .before .before .before .before .before .before .if1 .left) (c .before .before .before .before .before .before .before .if2 .left) (c .before .before .if7 .left)) (fields-one _ _ _ _ _ (c .check-case .ensures))

@@ -4,7 +4,7 @@ use Rattle.ast.proofs.claim.Statement.{statement}
 use Rattle.ast.proofs.claim.Tie as tie
 
 wide-requires : tie.Need-wide-requires
-wide-requires c κs = search needs
+wide-requires c κs = tt
 
 element-copy-out-if1 : tie.Need-element-copy-out-if1
 element-copy-out-if1 c = search needs

@@ -1,7 +1,6 @@
 use mathlib.Core.Path.{sym, _∙_}
 use native.Mathlib.Omega.{arith}
 use Rattle.ast.proofs.Fields.{child-in, child-high, child-other}
-use borrow.Author.Needs.{needs}
 use Rattle.ast.proofs.is_child.Statement.{statement}
 use Rattle.ast.proofs.is_child.Tie as tie
 
@@ -9,7 +8,7 @@ returns : tie.Need-returns
 returns c = sym (child-high _ _ _ _ (c .if1 .taken))
 
 kind-at-requires : tie.Need-kind-at-requires
-kind-at-requires c κs = search needs
+kind-at-requires c κs = tt
 
 returns-2 : tie.Need-returns-2
 returns-2 c = sym (child-in _ _ _ _ (omega arith) (sym (c .before .kind-at .ensures) ∙ c .if2 .taken))

@@ -1,4 +1,3 @@
-use borrow.Author.Needs.{needs}
 use mathlib.Core.Path.{sym, _∙_}
 use native.Mathlib.Omega.{arith}
 use Prim.Native.Nat.{_-_}
@@ -16,7 +15,7 @@ loop-holds : tie.Need-loop-holds Inv-loop μ-loop
 loop-holds c = chain-begin _ _ _ _ (c .before .pre .low)
 
 sub-equal-names : tie.Need-sub-equal-names Inv-loop μ-loop
-sub-equal-names c = search needs
+sub-equal-names c = omega arith
 
 equal-names-requires : tie.Need-equal-names-requires Inv-loop μ-loop
 equal-names-requires c κs = (c .before .before .before .pre .at, let l = c .before .loop .inv .low in omega arith)
@@ -25,7 +24,7 @@ returns : tie.Need-returns Inv-loop μ-loop
 returns c = chain-found _ _ _ _ _ (c .before .before .before .loop .inv) (c .before .before .loop-test .taken) (sym (c .before .equal-names .ensures) ∙ c .if1 .taken)
 
 sub-j : tie.Need-sub-j Inv-loop μ-loop
-sub-j c = search needs
+sub-j c = omega arith
 
 cast-j : tie.Need-cast-j Inv-loop μ-loop
 cast-j c = let l = c .before .before .before .loop .inv .low in omega arith

@@ -5,13 +5,13 @@ use Rattle.ast.proofs.name.Statement.{statement}
 use Rattle.ast.proofs.name.Tie as tie
 
 name-place-requires : tie.Need-name-place-requires
-name-place-requires c κs = search needs
+name-place-requires c κs = tt
 
 add-end : tie.Need-add-end
 add-end c = let p = name-part _ _ _ (c .before .name-place .ensures) in omega arith
 
 sub-result : tie.Need-sub-result
-sub-result c = search needs
+sub-result c = omega arith
 
 part-result-start : tie.Need-part-result-start
 part-result-start c = search needs

@@ -9,13 +9,13 @@ use Rattle.ast.proofs.name_place.Statement.{statement}
 use Rattle.ast.proofs.name_place.Tie as tie
 
 verdict-requires : tie.Need-verdict-requires
-verdict-requires c κs = search needs
+verdict-requires c κs = tt
 
 returns : tie.Need-returns
 returns c = sym (place-refused _ _ (λ e. c .if1 .taken (c .before .verdict .ensures ∙ e)))
 
 sizes-of-requires : tie.Need-sizes-of-requires
-sizes-of-requires c κs = search needs
+sizes-of-requires c κs = tt
 
 returns-2 : tie.Need-returns-2
 returns-2 c = sym (place-beyond _ _ (sym (c .before .before .before .before .verdict .ensures) ∙ c .before .before .before .if1 .left) (let n = c .before .before .sizes-of .ensures .names-are in omega arith))

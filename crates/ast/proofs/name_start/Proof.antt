@@ -2,7 +2,6 @@ use mathlib.Core.Path.{_≡_, sym, ap, _∙_}
 use native.Mathlib.Omega.{arith}
 use Prim.Native.Nat.{suc, _-_}
 use Rattle.ast.specs.Image as image
-use Rattle.ast.specs.Tests as tests
 use borrow.Author.Needs.{needs}
 use Rattle.ast.proofs.name_start.Statement.{statement}
 use Rattle.ast.proofs.name_start.Tie as tie
@@ -12,7 +11,7 @@ unfolding image.nameStart
 returns c = sym (ap (image.nameStart (c .before .before .args .image .now)) (c .if1 .taken))
 
 sub-name-end : tie.Need-sub-name-end
-sub-name-end c = search needs
+sub-name-end c = omega arith
 
 name-end-requires : tie.Need-name-end-requires
 name-end-requires c κs = search needs

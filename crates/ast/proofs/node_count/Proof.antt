@@ -1,10 +1,9 @@
-use borrow.Author.Needs.{needs}
 use Rattle.ast.specs.Image.{nodes}
 use Rattle.ast.proofs.node_count.Statement.{statement}
 use Rattle.ast.proofs.node_count.Tie as tie
 
 word-requires : tie.Need-word-requires
-word-requires c κs = search needs
+word-requires c κs = tt
 
 returns : tie.Need-returns
 unfolding nodes

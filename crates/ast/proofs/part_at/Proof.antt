@@ -1,18 +1,17 @@
-use mathlib.Core.Path.{refl}
-use Rattle.ast.specs.Parts.{rowParts}
-use borrow.Author.Needs.{needs}
+use mathlib.Core.Path.{ap}
+use native.Mathlib.Omega.{arith}
+use lib.ListN.{getD}
 use Rattle.ast.proofs.part_at.Statement.{statement}
 use Rattle.ast.proofs.part_at.Tie as tie
 
 mul-result : tie.Need-mul-result
-mul-result c = search needs
+mul-result c = omega arith
 
-array-read-result : tie.Need-array-read-result
-array-read-result c = search needs
+element-copy-out-result : tie.Need-element-copy-out-result
+element-copy-out-result c = omega arith
 
 returns : tie.Need-returns
-unfolding rowParts
-returns c = refl
+returns c = ap (λ xs. getD xs (c .before .args .i) 0) (c .before .pre .0)
 
 pub part-at-spec : {M : Type 1} → statement M
-part-at-spec = tie.close (tie.spec mul-result array-read-result returns)
+part-at-spec = tie.close (tie.spec mul-result element-copy-out-result returns)

@@ -1,21 +1,19 @@
 use Rattle.ast.specs.Image.{nodes}
 use Rattle.ast.specs.Image as image
-use Rattle.ast.specs.Tests as tests
-use borrow.Author.Needs.{needs}
 use Rattle.ast.proofs.sizes_of.Statement.{statement}
 use Rattle.ast.proofs.sizes_of.Tie as tie
 
 word-requires : tie.Need-word-requires
-word-requires c κs = search needs
+word-requires c κs = tt
 
 word-requires-2 : tie.Need-word-requires-2
-word-requires-2 c κs = search needs
+word-requires-2 c κs = tt
 
 word-requires-3 : tie.Need-word-requires-3
-word-requires-3 c κs = search needs
+word-requires-3 c κs = tt
 
 word-requires-4 : tie.Need-word-requires-4
-word-requires-4 c κs = search needs
+word-requires-4 c κs = tt
 
 returns : tie.Need-returns
 unfolding nodes image.operands image.names image.bytes

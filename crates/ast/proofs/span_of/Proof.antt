@@ -1,49 +1,49 @@
+use native.Mathlib.Omega.{arith}
 use Rattle.ast.proofs.Names.{spans}
-use borrow.Author.Needs.{needs}
 use Rattle.ast.proofs.span_of.Statement.{statement}
 use Rattle.ast.proofs.span_of.Tie as tie
 
 wide-requires : tie.Need-wide-requires
-wide-requires c κs = search needs
+wide-requires c κs = tt
 
 mul-base : tie.Need-mul-base
-mul-base c = search needs
+mul-base c = omega arith
 
 add-base : tie.Need-add-base
-add-base c = search needs
+add-base c = omega arith
 
 wide-requires-2 : tie.Need-wide-requires-2
-wide-requires-2 c κs = search needs
+wide-requires-2 c κs = tt
 
 mul-base-2 : tie.Need-mul-base-2
-mul-base-2 c = search needs
+mul-base-2 c = omega arith
 
 add-base-2 : tie.Need-add-base-2
-add-base-2 c = search needs
+add-base-2 c = omega arith
 
 wide-requires-3 : tie.Need-wide-requires-3
-wide-requires-3 c κs = search needs
+wide-requires-3 c κs = tt
 
 mul-base-3 : tie.Need-mul-base-3
-mul-base-3 c = search needs
+mul-base-3 c = omega arith
 
 add-base-3 : tie.Need-add-base-3
-add-base-3 c = search needs
+add-base-3 c = omega arith
 
 name-end-requires : tie.Need-name-end-requires
 name-end-requires c κs = c .before .before .before .before .pre .within .head
 
 wide-requires-4 : tie.Need-wide-requires-4
-wide-requires-4 c κs = search needs
+wide-requires-4 c κs = tt
 
 add-from : tie.Need-add-from
-add-from c = search needs
+add-from c = omega arith
 
 wide-requires-5 : tie.Need-wide-requires-5
-wide-requires-5 c κs = search needs
+wide-requires-5 c κs = tt
 
 add-to : tie.Need-add-to
-add-to c = search needs
+add-to c = omega arith
 
 returns : tie.Need-returns
 returns c = (spans _ _ _ _ (c .before .before .before .before .before .before .before .pre) _ _ _ _ _ _ (c .before .before .before .before .before .wide .ensures) (c .before .before .before .before .wide2 .ensures) (c .before .before .before .wide3 .ensures) (c .before .wide4 .ensures) (c .wide5 .ensures) (c .before .before .name-end .ensures), c .before .before .name-end .ensures)

@@ -22,10 +22,10 @@ returns : tie.Need-returns Inv-loop μ-loop
 returns c = sym (ends-stop _ _ _ _ (c .before .before .before .before .loop .inv) (omega arith) (c .before .name-end .ensures) (c .if2 .taken))
 
 add-i : tie.Need-add-i Inv-loop μ-loop
-add-i c = search needs
+add-i c = omega arith
 
 loop-less : tie.Need-loop-less Inv-loop μ-loop
-loop-less c = search needs
+loop-less c = omega arith
 
 loop-again : tie.Need-loop-again Inv-loop μ-loop
 loop-again c = ends-next _ _ _ _ (c .before .before .before .before .loop .inv) (omega arith) (c .before .name-end .ensures) (c .if2 .left)

@@ -1,10 +1,9 @@
 use Rattle.ast.proofs.ImageAnswers.{answer-accepted, answer-refused}
-use borrow.Author.Needs.{needs}
 use Rattle.ast.proofs.test_image.Statement.{statement}
 use Rattle.ast.proofs.test_image.Tie as tie
 
 verdict-requires : tie.Need-verdict-requires
-verdict-requires c κs = search needs
+verdict-requires c κs = tt
 
 returns : tie.Need-returns
 returns c = answer-accepted _ _ (c .before .verdict .ensures) (c .if1 .taken)

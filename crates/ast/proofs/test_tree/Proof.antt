@@ -4,7 +4,6 @@ use Prim.Native.Nat.{_-_}
 use Rattle.ast.specs.Image.{kindAt}
 use Rattle.ast.proofs.Whole.{tree-open, tree-top, tree-parents, tree-vars}
 use Rattle.ast.specs.Image as image
-use Rattle.ast.specs.Tests as tests
 use borrow.Author.Needs.{needs}
 use Rattle.ast.proofs.test_tree.Statement.{statement}
 use Rattle.ast.proofs.test_tree.Tie as tie
@@ -13,10 +12,10 @@ returns : tie.Need-returns
 returns c = sym (tree-open _ _ (omega arith) (c .before .before .before .pre .1) (λ e. c .if1 .taken (e ∙ sym (c .before .before .before .pre .0 .head .operands-are))))
 
 sub-last : tie.Need-sub-last
-sub-last c = search needs
+sub-last c = omega arith
 
 kind-at-requires : tie.Need-kind-at-requires
-kind-at-requires c κs = search needs
+kind-at-requires c κs = tt
 
 returns-2 : tie.Need-returns-2
 unfolding image.last

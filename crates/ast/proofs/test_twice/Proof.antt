@@ -1,4 +1,3 @@
-use borrow.Author.Needs.{needs}
 use mathlib.Core.Path.{refl, sym}
 use native.Mathlib.Omega.{arith}
 use Prim.Native.Nat.{_-_}
@@ -23,7 +22,7 @@ bucket-requires : tie.Need-bucket-requires Inv-loop μ-loop
 bucket-requires c κs = name-fits _ _ _ _ _ (c .span-of .ensures .0)
 
 cast-h : tie.Need-cast-h Inv-loop μ-loop
-cast-h c = search needs
+cast-h c = omega arith
 
 mul-first : tie.Need-mul-first Inv-loop μ-loop
 mul-first c = let b = c .bucket .ensures .1 in let l = c .before .before .before .before .loop .inv .heads-long in let n = c .before .before .before .before .loop .inv .next-long in omega arith
@@ -47,7 +46,7 @@ array-write-next : tie.Need-array-write-next Inv-loop μ-loop
 array-write-next c = let b = c .before .before .before .bucket .ensures .1 in let l = c .before .before .before .before .before .before .before .loop .inv .heads-long in let n = c .before .before .before .before .before .before .before .loop .inv .next-long in omega arith
 
 add-heads : tie.Need-add-heads Inv-loop μ-loop
-add-heads c = search needs
+add-heads c = omega arith
 
 mul-heads : tie.Need-mul-heads Inv-loop μ-loop
 mul-heads c = let b = c .before .before .before .bucket .ensures .1 in let l = c .before .before .before .before .before .before .before .loop .inv .heads-long in let n = c .before .before .before .before .before .before .before .loop .inv .next-long in omega arith
@@ -56,10 +55,10 @@ array-write-heads : tie.Need-array-write-heads Inv-loop μ-loop
 array-write-heads c = let b = c .before .before .before .bucket .ensures .1 in let l = c .before .before .before .before .before .before .before .loop .inv .heads-long in let n = c .before .before .before .before .before .before .before .loop .inv .next-long in omega arith
 
 add-i : tie.Need-add-i Inv-loop μ-loop
-add-i c = search needs
+add-i c = omega arith
 
 loop-less : tie.Need-loop-less Inv-loop μ-loop
-loop-less c = search needs
+loop-less c = omega arith
 
 loop-again : tie.Need-loop-again Inv-loop μ-loop
 loop-again c = buckets-next _ _ _ _ _ _ _ _ (c .before .before .before .before .before .before .before .loop .inv) (omega arith) (omega arith) (c .before .before .before .before .span-of .ensures .1) (bucket-is _ _ _ _ _ _ (c .before .before .before .before .span-of .ensures .0) (c .before .before .before .bucket .ensures .0)) (c .before .before .before .bucket .ensures .1) refl (rw (c .if2 .left) at (c .before .meets .ensures))

@@ -7,7 +7,7 @@ use Rattle.ast.proofs.test_var.Statement.{statement}
 use Rattle.ast.proofs.test_var.Tie as tie
 
 kind-at-requires : tie.Need-kind-at-requires
-kind-at-requires c κs = search needs
+kind-at-requires c κs = tt
 
 first-word-requires : tie.Need-first-word-requires
 first-word-requires c κs = search needs
@@ -28,7 +28,7 @@ returns-3 : tie.Need-returns-3
 returns-3 c = sym (var-none _ _ _ (c .before .before .before .before .kind-at .ensures) (c .before .before .if2 .left) (sym (c .before .first-word2 .ensures) ∙ c .if3 .taken))
 
 sub-child : tie.Need-sub-child
-sub-child c = search needs
+sub-child c = omega arith
 
 test-term-requires-2 : tie.Need-test-term-requires-2
 test-term-requires-2 c κs = search needs

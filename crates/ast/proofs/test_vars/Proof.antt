@@ -24,10 +24,10 @@ returns : tie.Need-returns Inv-loop μ-loop
 returns c = sym (run-stop _ _ _ _ (c .before .before .before .before .loop .inv) (omega arith) (sym (c .before .test-var .ensures)) (c .if2 .taken))
 
 add-n : tie.Need-add-n Inv-loop μ-loop
-add-n c = search needs
+add-n c = omega arith
 
 loop-less : tie.Need-loop-less Inv-loop μ-loop
-loop-less c = search needs
+loop-less c = omega arith
 
 loop-again : tie.Need-loop-again Inv-loop μ-loop
 loop-again c = run-next _ _ _ (c .before .before .before .before .loop .inv) (omega arith) (sym (c .before .test-var .ensures) ∙ c .if2 .left)

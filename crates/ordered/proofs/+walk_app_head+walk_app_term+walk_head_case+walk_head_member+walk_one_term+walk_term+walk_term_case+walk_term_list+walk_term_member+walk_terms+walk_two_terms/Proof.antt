@@ -1,10 +1,10 @@
 use borrow.Author.Needs.{needs}
-use mathlib.Core.Path.{_≡_, refl, sym, ap, subst, _∙_}
+use mathlib.Core.Path.{refl, sym, ap, subst, _∙_}
 use native.Mathlib.Omega.{arith}
 use Rattle.ast.specs.Image.{field}
 use Rattle.ast.specs.Kinds.{kindOf}
 use Rattle.table.specs.State.{Exit, marked, unmarked}
-use Rattle.table.specs.Values.{exitOf, optionOf}
+use Rattle.table.specs.Values.{exitOf}
 use Rattle.ast.proofs.Shapes.{term-last, head-last}
 use Rattle.ordered.specs.Walk.{occurs, names}
 use Rattle.ordered.specs.Walkers.{Ready, over, rest}

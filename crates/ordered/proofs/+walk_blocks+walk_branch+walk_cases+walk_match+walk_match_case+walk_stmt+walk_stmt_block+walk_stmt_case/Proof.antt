@@ -1,10 +1,10 @@
 use borrow.Author.Needs.{needs}
-use mathlib.Core.Path.{_≡_, refl, sym, ap, subst, _∙_}
+use mathlib.Core.Path.{refl, sym, ap, subst, _∙_}
 use native.Mathlib.Omega.{arith}
 use Rattle.ast.specs.Image.{field}
 use Rattle.ast.specs.Kinds.{kindOf}
 use Rattle.table.specs.State.{Exit, marked, back}
-use Rattle.table.specs.Values.{exitOf, optionOf}
+use Rattle.table.specs.Values.{exitOf}
 use Rattle.ordered.specs.Walk.{occurs}
 use Rattle.ordered.specs.Walkers.{rest, Run}
 use Rattle.ordered.proofs.Atoms.{plain-wrapped, plain-last}

@@ -1,8 +1,8 @@
-use mathlib.Core.Path.{_≡_, refl, sym, ap, subst, _∙_}
+use mathlib.Core.Path.{sym, subst, _∙_}
 use native.Mathlib.Omega.{arith}
-use Rattle.table.specs.State.{Exit, introduce, childScope, ownSymbol}
-use Rattle.table.specs.Table.{isValue, newScope, newSymbol}
-use Rattle.table.specs.Values.{exitOf, optionOf}
+use Rattle.table.specs.State.{introduce, childScope, ownSymbol}
+use Rattle.table.specs.Table.{newScope, newSymbol}
+use Rattle.table.specs.Values.{exitOf}
 use Rattle.ordered.specs.Walkers.{Room}
 use Rattle.ordered.proofs.Steps.{ident-rising, ident-known, ident-new}
 use borrow.Author.Needs.{needs}

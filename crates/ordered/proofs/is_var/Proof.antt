@@ -1,7 +1,7 @@
-use mathlib.Core.Path.{_≡_, refl, sym, ap, subst, _∙_}
+use mathlib.Core.Path.{sym, ap, _∙_}
 use lib.Dec.{eqb}
 use Rattle.table.specs.Table.{isKind}
-use Rattle.table.specs.Values.{exitOf, optionOf}
+use Rattle.table.specs.Values.{optionOf}
 use borrow.Author.Needs.{needs}
 use Rattle.ordered.proofs.is_var.Statement.{statement}
 use Rattle.ordered.proofs.is_var.Tie as tie

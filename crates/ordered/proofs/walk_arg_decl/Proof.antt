@@ -1,4 +1,4 @@
-use mathlib.Core.Path.{_≡_, refl, sym, ap, subst, _∙_}
+use mathlib.Core.Path.{sym, ap, subst, _∙_}
 use native.Mathlib.Omega.{arith}
 use Rattle.table.specs.State.{Exit, introduce, childScope, ownSymbol, marked}
 use Rattle.table.specs.Table.{newScope, newSymbol}

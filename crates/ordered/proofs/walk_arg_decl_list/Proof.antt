@@ -1,8 +1,7 @@
-use mathlib.Core.Path.{_≡_, refl, sym, ap, subst, _∙_}
-use native.Mathlib.Omega.{arith}
+use mathlib.Core.Path.{sym, ap, _∙_}
 use Rattle.ast.specs.Kinds.{kindOf}
 use Rattle.table.specs.State.{marked}
-use Rattle.table.specs.Values.{exitOf, optionOf}
+use Rattle.table.specs.Values.{exitOf}
 use Rattle.ordered.specs.Walk.{occurs}
 use Rattle.ordered.specs.Walkers.{rest}
 use Rattle.ordered.proofs.Lists.{list-whole, list-run}

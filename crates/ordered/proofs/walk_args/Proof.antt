@@ -1,10 +1,9 @@
 use borrow.Author.Needs.{needs}
-use mathlib.Core.Path.{_≡_, refl, sym, ap, subst, _∙_}
+use mathlib.Core.Path.{refl, sym, ap, _∙_}
 use native.Mathlib.Omega.{arith}
-use Rattle.table.specs.State.{Exit}
-use Rattle.table.specs.Values.{exitOf, optionOf}
+use Rattle.table.specs.Values.{exitOf}
 use Rattle.ordered.specs.Walk.{occurs}
-use Rattle.ordered.specs.Walkers.{rest, Run}
+use Rattle.ordered.specs.Walkers.{rest}
 use Rattle.ordered.proofs.Lists.{Left, rest-end, runItem}
 use Prim.Native.Nat.{_-_}
 use Rattle.ordered.proofs.walk_args.Statement.{statement}

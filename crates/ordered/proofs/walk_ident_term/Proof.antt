@@ -1,8 +1,6 @@
-use mathlib.Core.Path.{_≡_, refl, sym, ap, subst, _∙_}
+use mathlib.Core.Path.{sym, ap, _∙_}
 use Rattle.table.specs.State.{marked}
-use Rattle.table.specs.Values.{exitOf, optionOf}
 use Rattle.ordered.specs.Walk.{occurs}
-use Rattle.ordered.specs.Walkers.{Room}
 use Rattle.ordered.proofs.Steps.{ident-step, ident-room}
 use borrow.Author.Needs.{needs}
 use Rattle.ordered.proofs.walk_ident_term.Statement.{statement}

@@ -1,8 +1,8 @@
 use borrow.Author.Needs.{needs}
-use mathlib.Core.Path.{_≡_, refl, sym, ap, subst, _∙_}
+use mathlib.Core.Path.{refl, sym, ap, _∙_}
 use native.Mathlib.Omega.{arith}
 use Rattle.ast.specs.Image.{field}
-use Rattle.table.specs.Values.{exitOf, optionOf}
+use Rattle.table.specs.Values.{exitOf}
 use Rattle.ordered.specs.Walk.{names}
 use Rattle.ordered.specs.Walkers.{rest}
 use Rattle.ordered.proofs.Lists.{Left, rest-end, name-more}

@@ -1,6 +1,5 @@
-use mathlib.Core.Path.{_≡_, sym, ap, subst, _∙_}
+use mathlib.Core.Path.{sym, ap, subst, _∙_}
 use borrow.Author.Needs.{needs}
-use Rattle.ast.specs.Tree.{treeAt}
 use Rattle.table.specs.State.{Exit, marked}
 use Rattle.ordered.specs.Walk.{declares, walk}
 use Rattle.ordered.specs.Walkers.{Variable}

@@ -1,0 +1,63 @@
+-- Laws of single rows: what is asked of a name, and a row that stands where a test says so.
+use mathlib.Core.Path.{_≡_, refl, sym, ap, ap₂, subst, _∙_}
+use mathlib.Core.Bool.{Bool, true, false, _&&_, not}
+use mathlib.Core.Option.{Option, none as nothing, some}
+use mathlib.Core.List.{List, [], _∷_}
+use Prim.Native.Nat.{ℕ, zero, suc, _+_, _<_, _^_}
+use lib.Dec.{eqb}
+use lib.ListN.{length}
+use borrow.Author.Tests.{eq-eqb, ne-eqb}
+use Rattle.ast.specs.Image.{nodes, kindAt, nameOf}
+use Rattle.table.specs.Table.{Table, lookup, climb, isKind, entryAt, exitAt}
+use Rattle.rows.specs.Rows.{Row, row}
+use Rattle.bindings.specs.Errors.{when, sameNode, atEntry, atExit, introduces, introducedRow}
+
+-- lookup from a scope, by what a search gives
+pub looked-up : (img : List ℕ) (t : Table) (s : ℕ) (x : ℕ) (i : ℕ) (o : Option ℕ) (z : ℕ) → s ≡ z → x ≡ nameOf img i
+    → o ≡ climb img (suc s) (t .words) (t .symbols) s x → o ≡ lookup img t z (nameOf img i)
+unfolding lookup
+looked-up img t s x i o z q p e = e ∙ ap₂ (λ (a b : ℕ). climb img (suc a) (t .words) (t .symbols) a b) q p
+
+module _ (img : List ℕ) (t : Table) (n i : ℕ) where
+  -- introduces, by what lookup gives at the exit
+  pub introduces-none : {o : Option ℕ} → o ≡ atExit img t n i → o ≡ nothing → introduces img t n i ≡ false
+  unfolding introduces isKind
+  introduces-none e z = ap (λ (o : Option ℕ). isKind img 13 o && not (sameNode o (atEntry img t n i))) (sym e ∙ z)
+
+  pub introduces-other : {o : Option ℕ} {b : ℕ} → o ≡ atExit img t n i → o ≡ some b → (kindAt img b ≡ 13 → ⊥) → introduces img t n i ≡ false
+  unfolding introduces isKind
+  introduces-other {o} {b} e z h =
+      ap (λ (u : Option ℕ). isKind img 13 u && not (sameNode u (atEntry img t n i))) (sym e ∙ z)
+      ∙ ap (λ (c : Bool). c && not (sameNode (some b) (atEntry img t n i))) (ne-eqb _ _ h)
+
+  pub introduces-var : {o : Option ℕ} {b : ℕ} {seen : Bool} → o ≡ atExit img t n i → o ≡ some b → kindAt img b ≡ 13
+      → seen ≡ sameNode (some b) (atEntry img t n i) → introduces img t n i ≡ not seen
+  unfolding introduces isKind
+  introduces-var {o} {b} {seen} e z h q =
+      ap (λ (u : Option ℕ). isKind img 13 u && not (sameNode u (atEntry img t n i))) (sym e ∙ z)
+      ∙ ap₂ (λ (c d : Bool). c && not d) (eq-eqb _ _ h) (sym q)
+
+-- a row where the test says so
+pub when-true : {b : Bool} (w : Row) → b ≡ true → when b w ≡ w ∷ []
+unfolding when
+when-true w e = ap (λ (c : Bool). when c w) e
+
+pub when-false : {b : Bool} (w : Row) → b ≡ false → when b w ≡ []
+unfolding when
+when-false w e = ap (λ (c : Bool). when c w) e
+
+-- room for rows that are equal
+pub fits-as : (c : ℕ) {l k : List Row} → l ≡ k → c + length l < 2 ^ 32 → c + length k < 2 ^ 32
+fits-as c e h = subst (λ (l : List Row). c + length l < 2 ^ 32) e h
+
+pub introduced-is : (img : List ℕ) (t : Table) (n i : ℕ) {b : Bool} → b ≡ introduces img t n i → introducedRow img t true n i ≡ when b (row 1 n)
+unfolding introducedRow
+introduced-is img t n i e = ap (λ (c : Bool). when c (row 1 n)) (sym e)
+
+-- the same row, by its number
+pub when-number : {k m : ℕ} (b : Bool) (n : ℕ) → k ≡ m → when b (row k n) ≡ when b (row m n)
+when-number b n e = ap (λ (k : ℕ). when b (row k n)) e
+
+-- rows that stand where a test says so, by what the code tests and the number that it has
+pub row-when : {l : List Row} {b c : Bool} {k m : ℕ} (n : ℕ) → l ≡ when c (row m n) → b ≡ c → k ≡ m → l ≡ when b (row k n)
+row-when {b = b} {m = m} n e p q = e ∙ ap (λ (x : Bool). when x (row m n)) (sym p) ∙ sym (when-number b n q)

@@ -1,0 +1,6 @@
+pub mod Leaves
+pub mod RowLaws
+pub mod Quiet
+pub mod Epic
+pub mod Bodies
+pub mod Marking

@@ -1,0 +1,125 @@
+-- The lines of what the calls hand back: rows that a call has left, its last answer, the whole report.
+use mathlib.Core.Path.{_≡_, refl, sym, ap, ap₂, _∙_}
+use mathlib.Core.List.{List, [], _∷_, _++_, append-nil, append-assoc}
+use Prim.Native.Nat.{ℕ, zero, suc, _+_, _*_, _-_, _<_, _≤_}
+use native.Mathlib.Nat.{add-zero}
+use native.Mathlib.Omega.{arith}
+use lib.Dec.{leb→le}
+use lib.ListN.{length, take, drop, length-append, length-replicate}
+use Rattle.ast.specs.Image.{nodes}
+use Rattle.ast.specs.Answer.{Answer, refused, twice as twiceAnswer, result, other}
+use Rattle.ast.proofs.Accepted.{both, needed, sized}
+use Rattle.rows.specs.Rows.{Row, rowsLength, written}
+use Rattle.scopes.specs.Walk.{Listed, done, twice}
+use Rattle.scopes.specs.Resolve.{testTable, zeroed, walked, headed, resolve}
+use Rattle.scopes.specs.Resolve as resolving
+use Rattle.scopes.specs.Rows.{testRows, Outcome}
+use Rattle.bindings.specs.Errors.{errorRows, testErrors, errorsOf, errors}
+use Rattle.occurrences.specs.Occurrences.{occurrenceRows, occurrencesOf, occurrences, once}
+use Rattle.lines.specs.Report.{Line, resolved, error, var, zipped, rowLines, errorLines, varLines, endLines, bodyLines, linesOf, report, lentTable, lentRows}
+use Rattle.lines.specs.Bytes.{text, numbers, lineBytes, linesBytes, reportBytes}
+use Rattle.lines.specs.Out.{Out, write, rowsFrom, Wrote}
+use Rattle.lines.proofs.Whole.{wrote-none, wrote-next, zipped-rows, written-few}
+
+-- how many rows a call has left at most
+pub record Few (img : List ℕ) (c : ℕ) : Type 0 where
+  pub few : c ≤ nodes img
+  pub small : nodes img ≤ 2048
+
+rows-few : (img tab rows : List ℕ) (l : List Row) → testRows img tab rows ≡ 0 → length (written (nodes img) l rows) ≡ length rows → Few img (length l)
+unfolding testRows testTable
+rows-few img tab rows l t e =
+    let a = both _ _ t in
+    let s = sized img (both _ _ (a .0) .0) in
+    record { few = written-few (nodes img) l rows (leb→le _ _ (needed 13 _ (a .1))) e; small = s .fewNodes }
+
+pub errors-few : (img tab rows : List ℕ) (mode a c : ℕ) → result a c ≡ (errors img tab rows mode) .answer → length ((errors img tab rows mode) .rows) ≡ length rows → Few img c
+unfolding errors errorsOf testErrors
+errors-few img tab rows mode a c p q = go (testErrors img tab rows mode) refl (walked img tab) p q
+  where
+    by : ℕ → Listed → Outcome
+    by t w = elim t [
+      | zero ↦ errorsOf img tab rows mode w
+      | suc r ↦ record { answer = refused (suc r); table = tab; rows = rows }
+    ]
+
+    go : (t : ℕ) → testErrors img tab rows mode ≡ t → (w : Listed) → result a c ≡ (by t w) .answer → length ((by t w) .rows) ≡ length rows → Few img c
+    go (suc r) e w p q = let z : _≡_ {A = ℕ} 0 1 = cc in absurd (omega arith)
+    go zero e (twice x y z) p q = let z : _≡_ {A = ℕ} 0 1 = cc in absurd (omega arith)
+    go zero e (done x) p q = let k : c ≡ length (errorRows img (x .table) mode) = cc in rw k (rows-few img tab rows (errorRows img (x .table) mode) (both _ _ e .0) q)
+
+pub occurrences-few : (img tab rows : List ℕ) (a c : ℕ) → result a c ≡ (occurrences img tab rows) .answer → length ((occurrences img tab rows) .rows) ≡ length rows → Few img c
+unfolding occurrences occurrencesOf
+occurrences-few img tab rows a c p q = go (testRows img tab rows) refl (walked img tab) p q
+  where
+    by : ℕ → Listed → Outcome
+    by t w = elim t [
+      | zero ↦ occurrencesOf img tab rows w
+      | suc r ↦ record { answer = refused (suc r); table = tab; rows = rows }
+    ]
+
+    go : (t : ℕ) → testRows img tab rows ≡ t → (w : Listed) → result a c ≡ (by t w) .answer → length ((by t w) .rows) ≡ length rows → Few img c
+    go (suc r) e w p q = let z : _≡_ {A = ℕ} 0 1 = cc in absurd (omega arith)
+    go zero e (twice x y z) p q = let z : _≡_ {A = ℕ} 0 1 = cc in absurd (omega arith)
+    go zero e (done x) p q = let k : c ≡ length (occurrenceRows img (x .table)) = cc in rw k (rows-few img tab rows (occurrenceRows img (x .table)) e q)
+
+-- lines ---------------------------------------------------------------------------------------------------------------
+lines-append : (l k : List Line) → linesBytes (l ++ k) ≡ linesBytes l ++ linesBytes k
+unfolding linesBytes
+lines-append [] k = refl
+lines-append (x ∷ l) k = ap (λ (r : List ℕ). lineBytes x ++ r) (lines-append l k) ∙ sym (append-assoc (lineBytes x) (linesBytes l) (linesBytes k))
+
+-- other words for the same bytes, and more room
+wrote-as : {bs cs : List ℕ} {m k : ℕ} {o p : Out} → bs ≡ cs → m ≤ k → Wrote bs m o p → Wrote cs k o p
+wrote-as {bs} {cs} {m} {k} {o} e h f =
+    record { out = f .out ∙ ap (λ (l : List ℕ). write l o) e; short = (let s = f .short in let d = ap length e in omega arith) }
+
+-- no line, one line, lines after lines
+pub lines-none : {l : List Line} (most : ℕ) (o : Out) → l ≡ [] → Wrote (linesBytes l) most o o
+unfolding linesBytes
+lines-none most o e = wrote-as (ap linesBytes (sym e)) (omega arith) (wrote-none o)
+
+pub lines-one : {l : List Line} {x : Line} {m : ℕ} {o p : Out} (most : ℕ) → l ≡ x ∷ [] → m ≤ most → Wrote (lineBytes x) m o p → Wrote (linesBytes l) most o p
+unfolding linesBytes
+lines-one {l} {x} most e h f = wrote-as (sym (append-nil (lineBytes x)) ∙ ap linesBytes (sym e)) h f
+
+pub lines-next : (l k : List Line) {m n : ℕ} {o p q : Out} → Wrote (linesBytes l) m o p → Wrote (linesBytes k) n p q → Wrote (linesBytes (l ++ k)) (m + n) o q
+lines-next l k f g = rw (lines-append l k) (wrote-next f g)
+
+pub lines-more : {l k : List Line} {x : Line} {m n : ℕ} {o p q : Out} (most : ℕ) → l ≡ x ∷ k → m + n ≤ most → Wrote (lineBytes x) m o p → Wrote (linesBytes k) n p q → Wrote (linesBytes l) most o q
+unfolding linesBytes
+lines-more most e h f g = wrote-as (ap linesBytes (sym e)) h (wrote-next f g)
+
+-- the rows of an answer
+rows-lines : (f : ℕ → ℕ → Line) (word : List ℕ) → ((a b : ℕ) → lineBytes (f a b) ≡ word ++ numbers (a ∷ b ∷ [])) → (img ws : List ℕ) (n c a : ℕ) (o p : Out) (ans : Answer)
+    → result a c ≡ ans → n ≡ nodes img → Few img c → length ws ≡ length lentRows → Wrote (rowsFrom word ws n c 0) (28 * c) o p → Wrote (linesBytes (rowLines f (nodes img) ans ws)) 57344 o p
+unfolding rowLines
+rows-lines f word same img ws n c a o p ans e k few long w =
+    let x = few .few in
+    let y = few .small in
+    let z = length-replicate {A = ℕ} (rowsLength 2048) 0 in
+    wrote-as
+    (sym (zipped-rows f word same ws n c 0 (omega arith))
+    ∙ ap (λ (j : ℕ). linesBytes (zipped f (take c (drop 1 ws)) (take c (drop j ws)))) (let q : 1 + n + 0 ≡ 1 + nodes img = omega arith in q)
+    ∙ ap (λ (t : Answer). linesBytes (rowLines f (nodes img) t ws)) e)
+    (omega arith)
+    w
+
+module _ (img : List ℕ) where
+  abbrev E : Outcome
+  E = errors img lentTable lentRows 1
+
+  abbrev O : Outcome
+  O = occurrences img lentTable lentRows
+
+  pub error-lines : (ws : List ℕ) (n c : ℕ) (o p : Out) → result 0 c ≡ E .answer → ws ≡ E .rows → length ws ≡ length lentRows → n ≡ nodes img
+      → Wrote (rowsFrom (text "error") ws n c 0) (28 * c) o p → Wrote (linesBytes (errorLines img)) 57344 o p
+  unfolding text lineBytes
+  error-lines ws n c o p e r h k w =
+      rw r at (rows-lines error (text "error") (λ a b. refl) img ws n c 0 o p (E .answer) e k (errors-few img lentTable lentRows 1 0 c e (ap length (sym r) ∙ h)) h w)
+
+  pub var-lines : (ws : List ℕ) (n c : ℕ) (o p : Out) → result 0 c ≡ O .answer → ws ≡ O .rows → length ws ≡ length lentRows → n ≡ nodes img
+      → Wrote (rowsFrom (text "var") ws n c 0) (28 * c) o p → Wrote (linesBytes (varLines img)) 57344 o p
+  unfolding text lineBytes
+  var-lines ws n c o p e r h k w =
+      rw r at (rows-lines var (text "var") (λ a b. refl) img ws n c 0 o p (O .answer) e k (occurrences-few img lentTable lentRows 0 c e (ap length (sym r) ∙ h)) h w)

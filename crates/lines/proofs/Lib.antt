@@ -1,0 +1,5 @@
+pub mod Puts
+pub mod RowLines
+pub mod Long
+pub mod Whole
+pub mod Calls

@@ -1,0 +1,385 @@
+-- The count of bindings in a rule, and the first lone occurrence.
+use mathlib.Core.Path.{_≡_, refl, sym, ap, ap₂, subst, _∙_}
+use mathlib.Core.Bool.{Bool, true, false}
+use mathlib.Core.List.{List, [], _∷_, _++_}
+use mathlib.Core.Option.{Option, none as nothing, some}
+use Prim.Native.Nat.{ℕ, zero, suc, _+_, _*_, _-_, _<_, _≤_}
+use native.Mathlib.Omega.{arith}
+use native.Mathlib.Nat.{sub-zero}
+use native.Mathlib.Decide.{decLt}
+use lib.Dec.{eqb, leb, ltb}
+use lib.ListN.{length, length-append, getD, set, replicate, length-set, length-replicate, getD-replicate}
+use lib.Seq.{getD-set-same, getD-set-other, ext-getD}
+use borrow.Author.Tests.{eq-eqb, ne-eqb, eqb-true, eqb-false, le-leb, lt-leb}
+use Rattle.ast.specs.Image.{nodes, kindAt, field, nameOf}
+use Rattle.ast.specs.Kinds.{kindOf}
+use Rattle.ast.specs.Items.{items}
+use Rattle.ast.specs.Scan.{bump, claimAll}
+use Rattle.ast.specs.declared.NodeId.{NodeId}
+use Rattle.ast.specs.Tests.{is, times}
+use Rattle.ast.proofs.Accepted.{sized}
+use Rattle.ast.proofs.Count.{is-same, is-other}
+use Rattle.ast.proofs.Runs.{sat, claimed-times}
+use Rattle.ast.proofs.Unfold.{All, nil, cons, All-map}
+use Rattle.table.specs.Layout.{nodePlace}
+use Rattle.table.specs.Table.{Table, rowIs, findFrom, climb, lookup, exitAt}
+use Rattle.table.specs.Rows.{nodeAt}
+use Rattle.rows.specs.Rows.{Row, row, rights, rowsLength, putRows, Appended}
+use Rattle.occurrences.specs.Sight.{Spot, spotsSeq}
+use Rattle.occurrences.specs.Occurrences.{found, listed, rowsFor, timesBound, loneIn, lone}
+use Rattle.occurrences.specs.Collect.{rowsAt, joined, listsIn, listsAt, Listing, ListingRun, readRows, under, uncounted, loneOf, Scratch, Searched}
+use Rattle.occurrences.specs.declared.Checked.{Checked}
+use Rattle.occurrences.specs.declared.Checked.the-variants.{Ok, Lone}
+use Rattle.occurrences.proofs.CollectRules.{joined-append, items-lists, items-done, items-all, RuleRun, ruleRun, DeclItem, declItem}
+
+-- rows read back ----------------------------------------------------------------------------------------------------------
+-- a place that no row takes
+put-keeps : (N c : ℕ) (l : List Row) (ws : List ℕ) (k : ℕ) → ((d : ℕ) → c ≤ d → d < c + length l → (k ≡ 1 + d → ⊥) × (k ≡ 1 + N + d → ⊥))
+    → getD (putRows N c l ws) k 0 ≡ getD ws k 0
+unfolding putRows
+put-keeps N c [] ws k h = refl
+put-keeps N c (w ∷ l) ws k h =
+    put-keeps N (c + 1) l (set (set ws (1 + c) (w .left)) (1 + N + c) (w .right)) k (λ d a b. h d (omega arith) (omega arith))
+    ∙ getD-set-other (set ws (1 + c) (w .left)) (1 + N + c) k (w .right) 0 ((h c (omega arith) (omega arith)) .1)
+    ∙ getD-set-other ws (1 + c) k (w .left) 0 ((h c (omega arith) (omega arith)) .0)
+
+read-back : (N c : ℕ) (l : List Row) (ws : List ℕ) → c + length l ≤ N → rowsLength N ≤ length ws → readRows N (putRows N c l ws) (length l) c ≡ l
+unfolding putRows readRows
+read-back N c [] ws f g = refl
+read-back N c (w ∷ l) ws f g =
+    ap₂ (λ (a b : ℕ). row a b ∷ readRows N (putRows N (c + 1) l us) (length l) (c + 1)) left right
+    ∙ ap (λ (k : List Row). w ∷ k) (read-back N (c + 1) l us (omega arith) (let a = length-set vs (1 + N + c) (w .right) in let b = length-set ws (1 + c) (w .left) in omega arith))
+  where
+    vs : List ℕ
+    vs = set ws (1 + c) (w .left)
+
+    us : List ℕ
+    us = set vs (1 + N + c) (w .right)
+
+    left : getD (putRows N (c + 1) l us) (1 + c) 0 ≡ w .left
+    left =
+        put-keeps N (c + 1) l us (1 + c) (λ d a b. (λ q. omega arith, λ q. omega arith))
+        ∙ getD-set-other vs (1 + N + c) (1 + c) (w .right) 0 (λ q. omega arith)
+        ∙ getD-set-same ws (1 + c) (w .left) 0 (omega arith)
+
+    right : getD (putRows N (c + 1) l us) (1 + N + c) 0 ≡ w .right
+    right =
+        put-keeps N (c + 1) l us (1 + N + c) (λ d a b. (λ q. omega arith, λ q. omega arith))
+        ∙ getD-set-same vs (1 + N + c) (w .right) 0 (let a = length-set ws (1 + c) (w .left) in omega arith)
+
+pub read-appended : {N r : ℕ} {l : List Row} {ws vs : List ℕ} → Appended N l 0 ws r vs → length l ≤ N → rowsLength N ≤ length ws → readRows N vs r 0 ≡ l
+read-appended {N} {r} {l} {ws} {vs} a f g =
+    ap₂ (λ (us : List ℕ) (c : ℕ). readRows N us c 0) (a .words) (a .count ∙ (let z : 0 + length l ≡ length l = omega arith in z)) ∙ read-back N 0 l ws (omega arith) g
+
+-- what is left to read after i rows
+pub read-more : (N : ℕ) (ws : List ℕ) (c i : ℕ) → i < c → readRows N ws (c - i) i ≡ row (getD ws (1 + i) 0) (getD ws (1 + N + i) 0) ∷ readRows N ws (c - (i + 1)) (i + 1)
+unfolding readRows
+read-more N ws c i h = ap (λ (x : ℕ). readRows N ws x i) (let z : c - i ≡ suc (c - (i + 1)) = omega arith in z)
+
+pub read-end : (N : ℕ) (ws : List ℕ) (c i : ℕ) → c ≤ i → readRows N ws (c - i) i ≡ []
+unfolding readRows
+read-end N ws c i h = ap (λ (x : ℕ). readRows N ws x i) (let z : c - i ≡ 0 = omega arith in z)
+
+pub read-all : (N : ℕ) (ws : List ℕ) (c : ℕ) → readRows N ws c 0 ≡ readRows N ws (c - 0) 0
+read-all N ws c = ap (λ (x : ℕ). readRows N ws x 0) (sym (sub-zero c))
+
+-- the loops -----------------------------------------------------------------------------------------------------------------
+module _ (N : ℕ) (ws : List ℕ) (c : ℕ) where
+  -- the bindings of the rows that are left after i
+  abbrev bindings : ℕ → List ℕ
+  bindings i = rights (readRows N ws (c - i) i)
+
+  bindings-more : (i : ℕ) → i < c → bindings i ≡ getD ws (1 + N + i) 0 ∷ bindings (i + 1)
+  unfolding rights
+  bindings-more i h = ap rights (read-more N ws c i h)
+
+  bindings-end : (i : ℕ) → c ≤ i → bindings i ≡ []
+  unfolding rights
+  bindings-end i h = ap rights (read-end N ws c i h)
+
+  pub record Counted (i : ℕ) (us vs : List ℕ) : Type 0 where
+    pub within : i ≤ c
+    pub long : length vs ≡ length us
+    pub left : claimAll (rights (readRows N ws c 0)) us ≡ claimAll (bindings i) vs
+
+  pub counted-start : (us : List ℕ) → Counted 0 us us
+  counted-start us = record { within = omega arith; long = refl; left = ap (λ (l : List Row). claimAll (rights l) us) (read-all N ws c) }
+
+  pub counted-next : {i b : ℕ} {us vs zs : List ℕ} → Counted i us vs → i < c → b ≡ getD ws (1 + N + i) 0 → zs ≡ set vs b (bump (getD vs b 0)) → Counted (i + 1) us zs
+  unfolding claimAll
+  counted-next {i} {b} {us} {vs} {zs} k h q e =
+      record {
+        within = omega arith;
+        long = ap length e ∙ length-set vs b (bump (getD vs b 0)) ∙ k .long;
+        left = k .left ∙ ap (λ (l : List ℕ). claimAll l vs) (bindings-more i h ∙ ap (λ (x : ℕ). x ∷ bindings (i + 1)) (sym q)) ∙ ap (claimAll (bindings (i + 1))) (sym e);
+      }
+
+  pub counted-end : {i : ℕ} {us vs : List ℕ} → Counted i us vs → c ≤ i → vs ≡ claimAll (rights (readRows N ws c 0)) us
+  unfolding claimAll
+  counted-end {i} {us} {vs} k h = sym (k .left ∙ ap (λ (l : List ℕ). claimAll l vs) (bindings-end i h))
+
+  pub record Uncounted (i : ℕ) (us vs : List ℕ) : Type 0 where
+    pub within : i ≤ c
+    pub long : length vs ≡ length us
+    pub left : uncounted (rights (readRows N ws c 0)) us ≡ uncounted (bindings i) vs
+
+  pub uncounted-start : (us : List ℕ) → Uncounted 0 us us
+  uncounted-start us = record { within = omega arith; long = refl; left = ap (λ (l : List Row). uncounted (rights l) us) (read-all N ws c) }
+
+  pub uncounted-next : {i b : ℕ} {us vs zs : List ℕ} → Uncounted i us vs → i < c → b ≡ getD ws (1 + N + i) 0 → zs ≡ set vs b 0 → Uncounted (i + 1) us zs
+  unfolding uncounted
+  uncounted-next {i} {b} {us} {vs} {zs} k h q e =
+      record {
+        within = omega arith;
+        long = ap length e ∙ length-set vs b 0 ∙ k .long;
+        left = k .left ∙ ap (λ (l : List ℕ). uncounted l vs) (bindings-more i h ∙ ap (λ (x : ℕ). x ∷ bindings (i + 1)) (sym q)) ∙ ap (uncounted (bindings (i + 1))) (sym e);
+      }
+
+  pub uncounted-end : {i : ℕ} {us vs : List ℕ} → Uncounted i us vs → c ≤ i → vs ≡ uncounted (rights (readRows N ws c 0)) us
+  unfolding uncounted
+  uncounted-end {i} {us} {vs} k h = sym (k .left ∙ ap (λ (l : List ℕ). uncounted l vs) (bindings-end i h))
+
+  module _ (us : List ℕ) where
+    -- what is left to search after i rows is the whole
+    pub record Under (i : ℕ) : Type 0 where
+      pub within : i ≤ c
+      pub left : under us (readRows N ws c 0) ≡ under us (readRows N ws (c - i) i)
+
+    pub under-start : Under 0
+    under-start = record { within = omega arith; left = ap (under us) (read-all N ws c) }
+
+    step : (i : ℕ) → i < c → (b : Bool) → leb 2 (getD us (getD ws (1 + N + i) 0) 0) ≡ b
+        → under us (readRows N ws (c - i) i) ≡ elim b [ true ↦ under us (readRows N ws (c - (i + 1)) (i + 1)) | false ↦ some (row (getD ws (1 + i) 0) (getD ws (1 + N + i) 0)) ]
+    unfolding under
+    step i h b e =
+        ap (under us) (read-more N ws c i h)
+        ∙ ap (λ (x : Bool). elim x as (λ _. Option Row) [ true ↦ under us (readRows N ws (c - (i + 1)) (i + 1)) | false ↦ some (row (getD ws (1 + i) 0) (getD ws (1 + N + i) 0)) ]) e
+
+    pub under-next : {i b k : ℕ} → Under i → i < c → b ≡ getD ws (1 + N + i) 0 → k ≡ getD us b 0 → 2 ≤ k → Under (i + 1)
+    under-next {i} {b} {k} u h q r l = record { within = omega arith; left = u .left ∙ step i h true (le-leb 2 _ (subst (λ (x : ℕ). 2 ≤ x) (r ∙ ap (λ (x : ℕ). getD us x 0) q) l)) }
+
+    pub under-here : {i a b k : ℕ} → Under i → i < c → a ≡ getD ws (1 + i) 0 → b ≡ getD ws (1 + N + i) 0 → k ≡ getD us b 0 → k < 2 → some (row a b) ≡ under us (readRows N ws c 0)
+    under-here {i} {a} {b} {k} u h p q r l =
+        ap₂ (λ (x y : ℕ). some (row x y)) p q
+        ∙ sym (u .left ∙ step i h false (lt-leb 2 _ (subst (λ (x : ℕ). x < 2) (r ∙ ap (λ (x : ℕ). getD us x 0) q) l)))
+
+    pub under-end : {i : ℕ} → Under i → c ≤ i → nothing ≡ under us (readRows N ws c 0)
+    unfolding under
+    under-end {i} u h = sym (u .left ∙ ap (under us) (read-end N ws c i h))
+
+-- bindings are nodes ----------------------------------------------------------------------------------------------------------
+module _ (img : List ℕ) (t : Table) (low : (j : ℕ) → j < t .symbols → nodeAt (nodes img) (t .words) j < nodes img) where
+  find-low : (c j s x m : ℕ) → j + c ≤ t .symbols → findFrom img c (t .words) j s x ≡ some m → m < nodes img
+  unfolding findFrom
+  find-low zero j s x m h e = absurd (let z : _≡_ {A = ℕ} 0 1 = cc in omega arith)
+  find-low (suc c) j s x m h e = go (rowIs img (t .words) j s x) e (find-low c (j + 1) s x m (omega arith))
+    where
+      go : (b : Bool) → _≡_ {A = Option ℕ} (elim b [ true ↦ some (nodeAt (nodes img) (t .words) j) | false ↦ findFrom img c (t .words) (j + 1) s x ]) (some m)
+          → (findFrom img c (t .words) (j + 1) s x ≡ some m → m < nodes img) → m < nodes img
+      go true q f = let z : nodeAt (nodes img) (t .words) j ≡ m = cc in let l = low j (omega arith) in omega arith
+      go false q f = f q
+
+  climb-low : (f s x m : ℕ) → climb img f (t .words) (t .symbols) s x ≡ some m → m < nodes img
+  unfolding climb
+  climb-low zero s x m e = absurd (let z : _≡_ {A = ℕ} 0 1 = cc in omega arith)
+  climb-low (suc f) s x m e = go (findFrom img (t .symbols) (t .words) 0 s x) refl e (λ q. climb-low f (getD (t .words) (3 + 2 * nodes img + s) 0) x m q)
+    where
+      p : ℕ
+      p = getD (t .words) (3 + 2 * nodes img + s) 0
+
+      up : (b : Bool) → _≡_ {A = Option ℕ} (elim b [ true ↦ climb img f (t .words) (t .symbols) p x | false ↦ nothing ]) (some m) → (climb img f (t .words) (t .symbols) p x ≡ some m → m < nodes img) → m < nodes img
+      up true q h = h q
+      up false q h = absurd (let z : _≡_ {A = ℕ} 0 1 = cc in omega arith)
+
+      go : (o : Option ℕ) → findFrom img (t .symbols) (t .words) 0 s x ≡ o
+          → _≡_ {A = Option ℕ} (elim o [ some n ↦ some n | nothing ↦ elim (ltb p s) [ true ↦ climb img f (t .words) (t .symbols) p x | false ↦ nothing ] ]) (some m) → (climb img f (t .words) (t .symbols) p x ≡ some m → m < nodes img) → m < nodes img
+      go (some n) q r h = find-low (t .symbols) 0 s x m (omega arith) (q ∙ r)
+      go nothing q r h = up (ltb p s) r h
+
+  listed-low : (n : ℕ) (o : Option ℕ) (l : List Row) → ((m : ℕ) → o ≡ some m → m < nodes img) → All (λ v. v < nodes img) (rights l) → All (λ v. v < nodes img) (rights (listed img t n o l))
+  unfolding listed rights
+  listed-low n nothing l h a = a
+  listed-low n (some i) l h a = go (eqb (kindAt img i) 13)
+    where
+      go : (b : Bool) → All (λ v. v < nodes img) (rights (elim b as (λ _. List Row) [ true ↦ row n i ∷ l | false ↦ l ]))
+      go true = cons (h i refl) a
+      go false = a
+
+  pub rights-low : (l : List Spot) → All (λ v. v < nodes img) (rights (rowsFor img t l))
+  unfolding rowsFor rights lookup
+  rights-low [] = nil
+  rights-low (s ∷ l) = listed-low (s .node) (found img t s) (rowsFor img t l) (λ m e. climb-low (suc (exitAt img (t .words) (s .node))) (exitAt img (t .words) (s .node)) (nameOf img (s .ident)) m e) (rights-low l)
+
+-- counts and lone rows ----------------------------------------------------------------------------------------------------------
+times-rights : (b : ℕ) (l : List Row) → timesBound b l ≡ times b (rights l)
+unfolding timesBound times rights
+times-rights b [] = refl
+times-rights b (w ∷ l) = go (eqb b (w .right)) refl (times-rights b l)
+  where
+    go : (c : Bool) → eqb b (w .right) ≡ c → timesBound b l ≡ times b (rights l) → _≡_ {A = ℕ} (elim c [ true ↦ suc (timesBound b l) | false ↦ timesBound b l ]) (is b (w .right) + times b (rights l))
+    go true e h = let z : is b (w .right) ≡ 1 = ap (is b) (sym (eqb-true _ _ e)) ∙ is-same b in omega arith
+    go false e h = let z = is-other b (w .right) (eqb-false _ _ e) in omega arith
+
+sat-two : (x : ℕ) → leb 2 (sat x) ≡ leb 2 x
+unfolding sat
+sat-two zero = refl
+sat-two (suc zero) = refl
+sat-two (suc (suc x)) = sym (le-leb 2 (suc (suc x)) (omega arith))
+
+-- the search by counts is the search of the definition
+under-lone : (all l : List Row) → All (λ v. v < 2048) (rights l) → under (claimAll (rights all) (replicate 2048 0)) l ≡ loneIn all l
+unfolding under loneIn rights
+under-lone all [] a = refl
+under-lone all (w ∷ l) (cons h a) =
+    ap₂ (λ (b : Bool) (o : Option Row). elim b as (λ _. Option Row) [ true ↦ o | false ↦ some w ])
+    (ap (leb 2) (claimed-times (w .right) (rights all) h ∙ ap sat (sym (times-rights (w .right) all))) ∙ sat-two (timesBound (w .right) all))
+    (under-lone all l a)
+
+same-or : (a b : ℕ) → Dec (a ≡ b)
+same-or a b = pick (decLt a b) (decLt b a)
+  where
+    pick : Dec (a < b) → Dec (b < a) → Dec (a ≡ b)
+    pick (yes l) q = no (λ e. omega arith)
+    pick (no l) (yes k) = no (λ e. omega arith)
+    pick (no l) (no k) = yes (omega arith)
+
+-- a count that is 0, or whose binding is still to come, ends as 0
+uncounted-at : (v : ℕ) (bs us : List ℕ) → v < length us → (times v bs ≡ 0 → getD us v 0 ≡ 0) → getD (uncounted bs us) v 0 ≡ 0
+unfolding uncounted times
+uncounted-at v [] us l h = h refl
+uncounted-at v (b ∷ bs) us l h = go (same-or v b) (uncounted-at v bs (set us b 0) (rw length-set l))
+  where
+    go : Dec (v ≡ b) → ((times v bs ≡ 0 → getD (set us b 0) v 0 ≡ 0) → getD (uncounted bs (set us b 0)) v 0 ≡ 0) → getD (uncounted bs (set us b 0)) v 0 ≡ 0
+    go (yes q) f = f (λ z. rw q (getD-set-same us b 0 0 (rw q at l)))
+    go (no q) f = f (λ z. getD-set-other us b v 0 0 q ∙ h (let o = is-other v b q in omega arith))
+
+claims-length : (bs us : List ℕ) → length (claimAll bs us) ≡ length us
+unfolding claimAll
+claims-length [] us = refl
+claims-length (b ∷ bs) us = claims-length bs (set us b (bump (getD us b 0))) ∙ length-set us b (bump (getD us b 0))
+
+uncounted-length : (bs us : List ℕ) → length (uncounted bs us) ≡ length us
+unfolding uncounted
+uncounted-length [] us = refl
+uncounted-length (b ∷ bs) us = uncounted-length bs (set us b 0) ∙ length-set us b 0
+
+-- counted and uncounted, nothing is counted
+back-to-zeros : (bs : List ℕ) → uncounted bs (claimAll bs (replicate 2048 0)) ≡ replicate 2048 0
+unfolding sat
+back-to-zeros bs =
+    ext-getD 0 _ _ (uncounted-length bs _ ∙ claims-length bs _)
+    (λ v l. let h : v < 2048 = subst (λ (x : ℕ). v < x) (uncounted-length bs _ ∙ claims-length bs _ ∙ length-replicate {A = ℕ} 2048 0) l in
+    uncounted-at v bs (claimAll bs (replicate 2048 0)) (subst (λ (x : ℕ). v < x) (uncounted-length bs _) l) (λ z. claimed-times v bs h ∙ ap sat z) ∙ sym (getD-replicate 2048 v 0 0 h))
+
+lone-single : (l : List Row) → lone (l ∷ []) ≡ loneIn l l
+unfolding lone
+lone-single l = go (loneIn l l)
+  where
+    go : (o : Option Row) → _≡_ {A = Option Row} (elim o [ nothing ↦ lone [] | some w ↦ some w ]) o
+    go nothing = refl
+    go (some w) = refl
+
+-- the checks --------------------------------------------------------------------------------------------------------------------
+lone-skip : (a b : List (List Row)) → lone a ≡ nothing → lone (a ++ b) ≡ lone b
+unfolding lone
+lone-skip [] b e = refl
+lone-skip (l ∷ a) b e = go (loneIn l l) e (lone-skip a b)
+  where
+    go : (o : Option Row) → _≡_ {A = Option Row} (elim o [ nothing ↦ lone a | some w ↦ some w ]) nothing → (lone a ≡ nothing → lone (a ++ b) ≡ lone b)
+        → _≡_ {A = Option Row} (elim o [ nothing ↦ lone (a ++ b) | some w ↦ some w ]) (lone b)
+    go nothing q f = f q
+    go (some w) q f = absurd (let z : _≡_ {A = ℕ} 0 1 = cc in omega arith)
+
+lone-hit : (a b : List (List Row)) (w : Row) → lone a ≡ some w → lone (a ++ b) ≡ some w
+unfolding lone
+lone-hit [] b w e = absurd (let z : _≡_ {A = ℕ} 0 1 = cc in omega arith)
+lone-hit (l ∷ a) b w e = go (loneIn l l) e (lone-hit a b w)
+  where
+    go : (o : Option Row) → _≡_ {A = Option Row} (elim o [ nothing ↦ lone a | some v ↦ some v ]) (some w) → (lone a ≡ some w → lone (a ++ b) ≡ some w)
+        → _≡_ {A = Option Row} (elim o [ nothing ↦ lone (a ++ b) | some v ↦ some v ]) (some w)
+    go nothing q f = f q
+    go (some v) q f = q
+
+lone-none : nothing ≡ lone []
+unfolding lone
+lone-none = refl
+
+pub searched-as : {a b : List (List Row)} {cs us : List ℕ} {r : Checked} → a ≡ b → Searched b cs r us → Searched a cs r us
+searched-as e f = record { lone-is = f .lone-is ∙ sym (ap lone e); clean = f .clean }
+
+pub searched-nothing : {a : List (List Row)} {cs : List ℕ} → a ≡ [] → Searched a cs Ok cs
+searched-nothing e = record { lone-is = lone-none ∙ sym (ap lone e); clean = refl }
+
+module _ (img : List ℕ) (t : Table) where
+  -- a rule: its rows collected, counted, searched, uncounted
+  pub searched : {rule n r : ℕ} {ws vs cs us zs : List ℕ} {x : Checked} → Listing img t (kindOf 6) rule 0 → Scratch img t ws cs → n ≡ nodes img
+      → Appended (nodes img) (joined (listsIn img t rule)) 0 ws r vs → us ≡ claimAll (rights (readRows n vs r 0)) cs → loneOf x ≡ under us (readRows n vs r 0)
+      → zs ≡ uncounted (rights (readRows n vs r 0)) us → Searched (listsIn img t rule) cs x zs
+  unfolding rowsAt
+  searched {rule} {n} {r} {ws} {vs} {cs} {us} {zs} {x} p s q a counts found cleared =
+      record {
+        lone-is = found ∙ ap₂ under by read ∙ under-lone l l few ∙ sym (lone-single l) ∙ sym (ap lone (u .single));
+        clean = cleared ∙ ap₂ (λ (k : List Row) (ys : List ℕ). uncounted (rights k) ys) read by ∙ back-to-zeros (rights l) ∙ sym (s .zeros);
+      }
+    where
+      u : RuleRun img t rule (field img rule 1) 0
+      u = ruleRun img t p refl
+
+      l : List Row
+      l = rowsAt img t rule (field img rule 1) 2
+
+      read : readRows n vs r 0 ≡ l
+      read =
+          ap (λ (m : ℕ). readRows m vs r 0) q
+          ∙ read-appended (subst (λ (k : List Row). Appended (nodes img) k 0 ws r vs) (u .whole) a)
+          (let f = subst (λ (k : List Row). 0 + length k ≤ nodes img) (u .whole) (p .few) in omega arith) (s .long)
+
+      by : us ≡ claimAll (rights l) (replicate 2048 0)
+      by = counts ∙ ap₂ (λ (k : List Row) (ys : List ℕ). claimAll (rights k) ys) read (s .zeros)
+
+      few : All (λ v. v < 2048) (rights l)
+      few = let z = (sized img (p .is .accepted)) .fewNodes in All-map (λ c h. omega arith) (rights-low img t (s .symbols) (spotsSeq rule (items img rule (field img rule 1) 2)))
+
+  -- a loop over declarations that found none yet
+  pub record ChecksLeft (n j count i : ℕ) (ws vs cs us : List ℕ) : Type 0 where
+    pub within : i ≤ count
+    pub few : 0 + length (joined (listsAt img t n (count - i) (j + i))) ≤ nodes img
+    pub same : lone (listsAt img t n count j) ≡ lone (listsAt img t n (count - i) (j + i))
+    pub long : length vs ≡ length ws
+    pub clean : us ≡ cs
+
+  pub checks-start : {n j count : ℕ} {ws cs : List ℕ} → ListingRun img t n j count 0 → ChecksLeft n j count 0 ws ws cs cs
+  checks-start {n} {j} {count} p =
+      let e = items-all img t n j count in
+      record { within = omega arith; few = subst (λ (l : List (List Row)). 0 + length (joined l) ≤ nodes img) e (p .few); same = ap lone e; long = refl; clean = refl }
+
+  pub checks-item : {n j count i x : ℕ} {ws vs cs us : List ℕ} → ListingRun img t n j count 0 → ChecksLeft n j count i ws vs cs us → i < count → x ≡ field img n (j + i) → DeclItem img t n j count i x 0
+  checks-item p k l q = declItem img t p l q (k .few)
+
+  pub checks-scratch : {n j count i : ℕ} {ws vs cs us : List ℕ} → Scratch img t ws cs → ChecksLeft n j count i ws vs cs us → Scratch img t vs us
+  checks-scratch s k = record { symbols = s .symbols; long = (let a = s .long in let b = k .long in omega arith); zeros = k .clean ∙ s .zeros }
+
+  pub checks-next : {n j count i x : ℕ} {ws vs zs cs us os : List ℕ} {r : Checked} → ChecksLeft n j count i ws vs cs us → i < count → DeclItem img t n j count i x 0 → Searched (listsIn img t x) us r os → r ≡ Ok → length zs ≡ length vs
+      → ChecksLeft n j count (i + 1) ws zs cs os
+  checks-next {n} {j} {count} {i} {x} {r = r} k l d f e long =
+      record {
+        within = omega arith;
+        few = (let g = k .few in let a = ap (λ (m : List (List Row)). length (joined m)) (d .more) ∙ ap length (joined-append (listsIn img t x) rest) ∙ length-append (joined (listsIn img t x)) (joined rest) in omega arith);
+        same = k .same ∙ ap lone (d .more) ∙ lone-skip (listsIn img t x) rest (sym (f .lone-is) ∙ ap loneOf e);
+        long = long ∙ k .long;
+        clean = f .clean ∙ k .clean;
+      }
+    where
+      rest : List (List Row)
+      rest = listsAt img t n (count - (i + 1)) (j + (i + 1))
+
+  pub checks-found : {n j count i x : ℕ} {ws vs cs us os : List ℕ} {r : Checked} {a b : NodeId} → ChecksLeft n j count i ws vs cs us → DeclItem img t n j count i x 0 → Searched (listsIn img t x) us r os → r ≡ Lone a b
+      → Searched (listsAt img t n count j) cs (Lone a b) os
+  checks-found {n} {j} {count} {i} {x} {a = a} {b} k d f e =
+      record {
+        lone-is = sym (k .same ∙ ap lone (d .more) ∙ lone-hit (listsIn img t x) (listsAt img t n (count - (i + 1)) (j + (i + 1))) (row (a .0) (b .0)) (sym (f .lone-is) ∙ ap loneOf e));
+        clean = f .clean ∙ k .clean;
+      }
+
+  pub checks-end : {n j count i : ℕ} {ws vs cs us : List ℕ} → ChecksLeft n j count i ws vs cs us → count ≤ i → Searched (listsAt img t n count j) cs Ok us
+  checks-end {n} {j} {count} {i} k h = record { lone-is = lone-none ∙ sym (k .same ∙ ap lone (items-done img t n j count i h)); clean = k .clean }

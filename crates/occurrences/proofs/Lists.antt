@@ -1,0 +1,266 @@
+-- Declaration lists: what entering and visiting them do to the table.
+use mathlib.Core.Path.{_≡_, refl, sym, _∙_, ap, subst}
+use mathlib.Core.Logic.{inl, _≢_}
+use mathlib.Core.Bool.{Bool, true, false}
+use mathlib.Core.List.{List, [], _∷_, _++_}
+use mathlib.Core.Option.{Option, none as nothing, some}
+use Prim.Native.Nat.{ℕ, zero, suc, _≤_, _<_}
+use native.Mathlib.Omega.{arith}
+use lib.Dec.{eqb}
+use Rattle.ast.specs.Image.{nodes, kindAt, nameOf}
+use Rattle.ast.specs.Kinds.{outer, inner, root, decl, signature, rule, enum, model}
+use Rattle.ast.specs.Tree.{Tree, node, block, Trees, none, _◂_}
+use Rattle.table.specs.State.{Exit, childScope, ownSymbol, marked, back}
+use Rattle.table.specs.Table.{Table, find, isKind, exitAt}
+use Rattle.table.proofs.Frames.{find-mark}
+use Rattle.ordered.specs.Walk.{occurs, walkSeq}
+use Rattle.scopes.specs.Walk.{Listed, done, twice, enterName, enterRule, andThen, enter, enterAll, visit, visitAll}
+use Rattle.occurrences.specs.Sight.{In, orElse, own, ruleOwn, Rule, says, saysAll, rules, rulesAll}
+use Rattle.occurrences.proofs.Members.{in-left, in-right}
+use Rattle.occurrences.proofs.Frame.{Sane, parentAt, orElse-none, name-find-other, name-find, name-parent, name-exit, name-sane, mark-parent, mark-exit, mark-sane}
+use Rattle.occurrences.proofs.Steps.{numbersSeq, Bodies}
+
+-- the nodes that entering marks
+unfoldable mutual
+  pub entered : Tree → List ℕ
+  entered (block ts) = []
+  entered (node n k (inner i) sh ts) = []
+  entered (node n k (outer root) sh ts) = []
+  entered (node n k (outer decl) sh ts) = n ∷ enteredAll ts
+  entered (node n k (outer signature) sh ts) = n ∷ []
+  entered (node n k (outer rule) sh ts) = n ∷ []
+  entered (node n k (outer enum) sh ts) = n ∷ enteredAll ts
+  entered (node n k (outer model) sh ts) = []
+
+  pub enteredAll : Trees → List ℕ
+  enteredAll none = []
+  enteredAll (u ◂ us) = entered u ++ enteredAll us
+
+-- those that visiting marks
+unfoldable mutual
+  unfolding enteredAll numbersSeq
+
+  pub visited : Tree → List ℕ
+  visited (block ts) = []
+  visited (node n k (inner i) sh ts) = []
+  visited (node n k (outer root) sh ts) = []
+  visited (node n k (outer decl) sh ts) = visitedAll ts
+  visited (node n k (outer signature) sh ts) = numbersSeq ts
+  visited (node n k (outer rule) sh ts) = numbersSeq ts
+  visited (node n k (outer enum) sh ts) = visitedAll ts
+  visited (node n k (outer model) sh ts) = n ∷ (enteredAll ts ++ visitedAll ts)
+
+  pub visitedAll : Trees → List ℕ
+  visitedAll none = []
+  visitedAll (u ◂ us) = visited u ++ visitedAll us
+
+pub done-done : (e f : Exit) → done e ≡ done f → e ≡ f
+done-done e f q = cc
+
+module _ (img : List ℕ) where
+  -- no declaration has the kind of an IdentTerm, and rules have bodies
+  abbrev pub NoVar : ℕ → Type 0
+  NoVar n = eqb (kindAt img n) 13 ≡ false
+
+  unfoldable mutual
+    unfolding Bodies
+
+    pub Decl : Tree → Type 0
+    Decl (block ts) = Unit {0}
+    Decl (node n k (inner i) sh ts) = Unit {0}
+    Decl (node n k (outer root) sh ts) = Unit {0}
+    Decl (node n k (outer decl) sh ts) = Decls ts
+    Decl (node n k (outer signature) sh ts) = NoVar n
+    Decl (node n k (outer rule) sh ts) = NoVar n × Bodies img ts
+    Decl (node n k (outer enum) sh ts) = NoVar n × Decls ts
+    Decl (node n k (outer model) sh ts) = NoVar n × Decls ts
+
+    pub Decls : Trees → Type 0
+    Decls none = Unit {0}
+    Decls (u ◂ us) = Decl u × Decls us
+
+  -- entering a list, with the nodes marked and what it says
+  pub data Enters : List ℕ → (ℕ → Option ℕ) → Exit → Exit → Type 0 where
+    stay : {e : Exit} → Enters [] (λ x. nothing) e e
+    next : {ns ms : List ℕ} {D E : ℕ → Option ℕ} {e e′ e″ : Exit} → Enters ns D e e′ → Enters ms E e′ e″
+        → Enters (ns ++ ms) (λ x. orElse (D x) (E x)) e e″
+    marks : {e : Exit} (n : ℕ) → Enters (n ∷ []) (λ x. nothing) e (marked img n (e .scope) e)
+    names : {e : Exit} (n : ℕ) → NoVar n → Enters [] (own img n) e (ownSymbol img n e)
+
+  pub andThen-done : (l : Listed) (f : Exit → Listed) (e′ : Exit) → andThen img l f ≡ done e′ → (e : Exit) × (l ≡ done e) × (f e ≡ done e′)
+  unfolding andThen
+  andThen-done (done e) f e′ q = (e, refl, q)
+  andThen-done (twice x a b) f e′ q = let z : _≡_ {A = ℕ} 0 1 = cc in absurd (omega arith)
+
+  pub name-done : (n : ℕ) (e e′ : Exit) → enterName img n e ≡ done e′ → ownSymbol img n e ≡ e′
+  unfolding enterName
+  name-done n e e′ q = go (find img (e .table) (e .scope) (nameOf img n)) q
+    where
+      go : (o : Option ℕ) → elim o [ nothing ↦ done (ownSymbol img n e) | some first ↦ twice (nameOf img n) first n ] ≡ done e′ → ownSymbol img n e ≡ e′
+      go nothing h = cc
+      go (some first) h = let z : _≡_ {A = ℕ} 0 1 = cc in absurd (omega arith)
+
+  entersName : (n : ℕ) (e e′ : Exit) → NoVar n → enterName img n e ≡ done e′ → Enters [] (own img n) e e′
+  entersName n e e′ v q = subst (Enters [] (own img n) e) (name-done n e e′ q) (names n v)
+
+  same-exit : {ns : List ℕ} {D : ℕ → Option ℕ} (e f g : Exit) → Enters ns D e f → done f ≡ done g → Enters ns D e g
+  same-exit {ns} {D} e f g h q = subst (Enters ns D e) (done-done f g q) h
+
+  entersRule : (sh : List ℕ) (n : ℕ) (e e′ : Exit) → NoVar n → enterRule img sh n e ≡ done e′ → Enters [] (ruleOwn img sh n) e e′
+  unfolding enterRule ruleOwn
+  entersRule [] n e e′ v q = same-exit e e e′ stay q
+  entersRule (zero ∷ sh) n e e′ v q = same-exit e e e′ stay q
+  entersRule (suc c ∷ sh) n e e′ v q = entersName n e e′ v q
+
+  mutual
+    unfolding enter entered says Decl
+
+    pub enters : (u : Tree) → Decl u → (e e′ : Exit) → enter img u e ≡ done e′ → Enters (entered u) (says img u) e e′
+    enters (block ts) d e e′ q = same-exit e e e′ stay q
+    enters (node n k (inner i) sh ts) d e e′ q = same-exit e e e′ stay q
+    enters (node n k (outer root) sh ts) d e e′ q = same-exit e e e′ stay q
+    enters (node n k (outer decl) sh ts) d e e′ q = next (marks n) (entersAll ts d (marked img n (e .scope) e) e′ q)
+    enters (node n k (outer signature) sh ts) d e e′ q = next (marks n) (entersName n (marked img n (e .scope) e) e′ d q)
+    enters (node n k (outer rule) sh ts) d e e′ q = next (marks n) (entersRule sh n (marked img n (e .scope) e) e′ (d .0) q)
+    enters (node n k (outer enum) sh ts) d e e′ q =
+        let h = andThen-done (enterName img n (marked img n (e .scope) e)) (λ f. enterAll img ts f) e′ q in
+        next (marks n) (next (entersName n (marked img n (e .scope) e) (h .0) (d .0) (h .1)) (entersAll ts (d .1) (h .0) e′ (h .2)))
+    enters (node n k (outer model) sh ts) d e e′ q = entersName n e e′ (d .0) q
+
+    pub entersAll : (us : Trees) → Decls us → (e e′ : Exit) → enterAll img us e ≡ done e′ → Enters (enteredAll us) (saysAll img us) e e′
+    entersAll none d e e′ q = same-exit e e e′ stay q
+    entersAll (u ◂ us) d e e′ q =
+        let h = andThen-done (enter img u e) (λ f. enterAll img us f) e′ q in
+        next (enters u (d .0) e (h .0) (h .1)) (entersAll us (d .1) (h .0) e′ (h .2))
+
+  -- entering keeps the scope, and makes none
+  pub record Stays (e e′ : Exit) : Type 0 where
+    pub scope : e′ .scope ≡ e .scope
+    pub scopes : e′ .table .scopes ≡ e .table .scopes
+    pub symbols : e .table .symbols ≤ e′ .table .symbols
+
+  pub stays : {ns : List ℕ} {D : ℕ → Option ℕ} {e e′ : Exit} → Enters ns D e e′ → Stays e e′
+  unfolding marked ownSymbol
+  stays stay = record { scope = refl; scopes = refl; symbols = omega arith }
+  stays (next v u) =
+      let f = stays v in
+      let g = stays u in
+      record { scope = g .scope ∙ f .scope; scopes = g .scopes ∙ f .scopes; symbols = omega arith }
+  stays (marks n) = record { scope = refl; scopes = refl; symbols = omega arith }
+  stays (names n v) = record { scope = refl; scopes = refl; symbols = omega arith }
+
+  orElse-assoc : (a b c : Option ℕ) → orElse (orElse a b) c ≡ orElse a (orElse b c)
+  orElse-assoc nothing b c = refl
+  orElse-assoc (some n) b c = refl
+
+  pub kind-orElse : (a b : Option ℕ) → isKind img 13 a ≡ false → isKind img 13 b ≡ false → isKind img 13 (orElse a b) ≡ false
+  kind-orElse nothing b f g = g
+  kind-orElse (some n) b f g = f
+
+  kind-own : (n x : ℕ) → NoVar n → isKind img 13 (own img n x) ≡ false
+  unfolding isKind own
+  kind-own n x v = go (eqb (nameOf img n) x)
+    where
+      go : (c : Bool) → isKind img 13 (elim c [ true ↦ some n | false ↦ nothing ]) ≡ false
+      go true = v
+      go false = refl
+
+  pub record Entered (s : ℕ) (ns : List ℕ) (D : ℕ → Option ℕ) (t t′ : Table) : Type 0 where
+    pub sane : Sane img t′
+    pub others : (r x : ℕ) → r ≢ s → find img t′ r x ≡ find img t r x
+    pub here : (x : ℕ) → find img t′ s x ≡ orElse (find img t s x) (D x)
+    pub parents : (r : ℕ) → r < nodes img → parentAt img (t′ .words) r ≡ parentAt img (t .words) r
+    pub exits : (m : ℕ) → m < nodes img → (In m ns → ⊥) → exitAt img (t′ .words) m ≡ exitAt img (t .words) m
+    pub novar : (x : ℕ) → isKind img 13 (D x) ≡ false
+
+  pub entering : {ns : List ℕ} {D : ℕ → Option ℕ} {e e′ : Exit} → Enters ns D e e′ → e′ .table .symbols ≤ nodes img → ((n : ℕ) → In n ns → n < nodes img)
+      → Sane img (e .table) → e .scope < e .table .scopes → Entered (e .scope) ns D (e .table) (e′ .table)
+  unfolding marked ownSymbol isKind
+  entering (stay {e = e}) b sm so i =
+      record {
+        sane = so;
+        others = λ r x f. refl;
+        here = λ x. sym (orElse-none (find img (e .table) (e .scope) x));
+        parents = λ r l. refl;
+        exits = λ m l f. refl;
+        novar = λ x. refl;
+      }
+  entering (next {ns = ns} {ms = ms} {D = D} {E = E} {e = e} {e′ = e′} {e″ = e″} v u) b sm so i =
+      let p = stays v in
+      let p₀ = p .scope in
+      let p₁ = p .scopes in
+      let q = stays u in
+      let f : Entered (e .scope) ns D (e .table) (e′ .table) = entering v (omega arith) (λ n j. sm n (in-left n ns ms j)) so i in
+      let g : Entered (e .scope) ms E (e′ .table) (e″ .table) =
+      subst (λ s. Entered s ms E (e′ .table) (e″ .table)) p₀ (entering u b (λ n j. sm n (in-right n ns ms j)) (f .sane) (omega arith)) in
+      record {
+        sane = g .sane;
+        others = λ r x h. g .others r x h ∙ f .others r x h;
+        here = λ x. g .here x ∙ ap (λ w. orElse w (E x)) (f .here x) ∙ orElse-assoc (find img (e .table) (e .scope) x) (D x) (E x);
+        parents = λ r l. g .parents r l ∙ f .parents r l;
+        exits = λ m l k. g .exits m l (λ j. k (in-right m ns ms j)) ∙ f .exits m l (λ j. k (in-left m ns ms j));
+        novar = λ x. kind-orElse (D x) (E x) (f .novar x) (g .novar x);
+      }
+  entering (marks {e = e} n) b sm so i =
+      let l = sm n (inl refl) in
+      let s = e .scope in
+      let t = e .table in
+      record {
+        sane = mark-sane img n s s t l so;
+        others = λ r x f. find-mark img n s s t l r x;
+        here = λ x. find-mark img n s s t l s x ∙ sym (orElse-none (find img t s x));
+        parents = λ r k. mark-parent img n s s t l r;
+        exits = λ m k f. mark-exit img n s s t l m k (λ q. f (inl q));
+        novar = λ x. refl;
+      }
+  entering (names {e = e} n v) b sm so i =
+      let s = e .scope in
+      let t = e .table in
+      record {
+        sane = name-sane img s n t so i (omega arith);
+        others = λ r x f. name-find-other img s n t so i (omega arith) r x f;
+        here = λ x. name-find img s n t so i (omega arith) x;
+        parents = λ r l. name-parent img s n t so i (omega arith) r l;
+        exits = λ m l f. name-exit img s n t so i (omega arith) m l;
+        novar = λ x. kind-own n x v;
+      }
+
+  -- visiting a list where names mean m, with the nodes marked and the rules met
+  pub data Visits : List ℕ → List Rule → (ℕ → Option ℕ) → Exit → Exit → Type 0 where
+    idle : {m : ℕ → Option ℕ} {e : Exit} → Visits [] [] m e e
+    after : {ns ms : List ℕ} {rs qs : List Rule} {m : ℕ → Option ℕ} {e e′ e″ : Exit}
+        → Visits ns rs m e e′ → Visits ms qs m e′ e″ → Visits (ns ++ ms) (rs ++ qs) m e e″
+    walks : {m : ℕ → Option ℕ} {e : Exit} (ts : Trees) → Visits (numbersSeq ts) [] m e (back img (e .scope) (walkSeq img occurs ts e))
+    ruled : {m : ℕ → Option ℕ} {e : Exit} (ts : Trees) → Bodies img ts
+        → Visits (numbersSeq ts) (record { statements = ts; meaning = m } ∷ []) m e (back img (e .scope) (walkSeq img occurs ts e))
+    nested : {es ns : List ℕ} {rs : List Rule} {D m : ℕ → Option ℕ} {e e′ e″ : Exit} (n : ℕ)
+        → Enters es D (marked img n (e .table .scopes) (childScope img e)) e′
+        → Visits ns rs (λ x. orElse (D x) (m x)) e′ e″ → Visits (n ∷ (es ++ ns)) rs m e (back img (e .scope) e″)
+
+  same-end : {ns : List ℕ} {rs : List Rule} {m : ℕ → Option ℕ} (e f g : Exit) → Visits ns rs m e f → done f ≡ done g → Visits ns rs m e g
+  same-end {ns} {rs} {m} e f g h q = subst (Visits ns rs m e) (done-done f g q) h
+
+  mutual
+    unfolding visit visited rules says Decl
+
+    pub visits : (u : Tree) → Decl u → (m : ℕ → Option ℕ) (e e′ : Exit) → visit img u e ≡ done e′ → Visits (visited u) (rules img m u) m e e′
+    visits (block ts) d m e e′ q = same-end e e e′ idle q
+    visits (node n k (inner i) sh ts) d m e e′ q = same-end e e e′ idle q
+    visits (node n k (outer root) sh ts) d m e e′ q = same-end e e e′ idle q
+    visits (node n k (outer decl) sh ts) d m e e′ q = visitsAll ts d m e e′ q
+    visits (node n k (outer signature) sh ts) d m e e′ q = same-end e (back img (e .scope) (walkSeq img occurs ts e)) e′ (walks ts) q
+    visits (node n k (outer rule) sh ts) d m e e′ q = same-end e (back img (e .scope) (walkSeq img occurs ts e)) e′ (ruled ts (d .1)) q
+    visits (node n k (outer enum) sh ts) d m e e′ q = visitsAll ts (d .1) m e e′ q
+    visits (node n k (outer model) sh ts) d m e e′ q =
+        let b = marked img n (e .table .scopes) (childScope img e) in
+        let g = andThen-done (andThen img (enterAll img ts b) (λ f. visitAll img ts f)) (λ f. done (back img (e .scope) f)) e′ q in
+        let h = andThen-done (enterAll img ts b) (λ f. visitAll img ts f) (g .0) (g .1) in
+        same-end e (back img (e .scope) (g .0)) e′
+        (nested n (entersAll ts (d .1) b (h .0) (h .1)) (visitsAll ts (d .1) (λ x. orElse (saysAll img ts x) (m x)) (h .0) (g .0) (h .2)))
+        (g .2)
+
+    pub visitsAll : (us : Trees) → Decls us → (m : ℕ → Option ℕ) (e e′ : Exit) → visitAll img us e ≡ done e′ → Visits (visitedAll us) (rulesAll img m us) m e e′
+    visitsAll none d m e e′ q = same-end e e e′ idle q
+    visitsAll (u ◂ us) d m e e′ q =
+        let h = andThen-done (visit img u e) (λ f. visitAll img us f) e′ q in
+        after (visits u (d .0) m e (h .0) (h .1)) (visitsAll us (d .1) m (h .0) e′ (h .2))

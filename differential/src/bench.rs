@@ -1,0 +1,358 @@
+//! The original Rust and this library on the same inputs, in one run: medians in microseconds.
+//!
+//! The Rust has its `Ast` built before the clock starts. The library tests the image and resolves in every call, into
+//! buffers that are reused and not cleared.
+
+use std::time::Instant;
+
+use differential::calls::{Answer, Calls};
+use differential::image::{Sketch, Word};
+use differential::inputs::{deep, pad, Deep};
+use differential::make::{Make, Style};
+use differential::random::Random;
+use differential::reading::tests::{sizes, verdict};
+use original::Built;
+use Word::{Child, MaybeName, Name, Plain};
+
+/// Rows of rule files as a person writes them.
+#[derive(Default)]
+struct File {
+    s: Sketch,
+    decls: Vec<usize>,
+}
+
+impl File {
+    fn name(&mut self, text: &str) -> u32 {
+        if let Some(i) = self.s.names.iter().position(|n| n == text.as_bytes()) {
+            return i as u32;
+        }
+        self.s.names.push(text.as_bytes().to_vec());
+        self.s.names.len() as u32 - 1
+    }
+
+    fn list(&mut self, kind: u32, mut words: Vec<Word>, items: &[usize]) -> usize {
+        words.push(Plain(items.len() as u32));
+        words.extend(items.iter().map(|&i| Child(i)));
+        self.s.push(kind, words)
+    }
+
+    fn decl(&mut self, case: u32, child: usize) {
+        let decl = self.s.push(1, vec![Plain(case), Child(child)]);
+        self.decls.push(decl);
+    }
+
+    fn type_expr(&mut self, name: &str) -> usize {
+        let name = self.name(name);
+        let child = self.s.push(24, vec![Name(name)]);
+        self.s.push(23, vec![Plain(0), Child(child)])
+    }
+
+    fn args(&mut self, types: &[&str]) -> usize {
+        let args: Vec<usize> = types
+            .iter()
+            .map(|t| {
+                let typ = self.type_expr(t);
+                self.s.push(10, vec![MaybeName(None), Child(typ)])
+            })
+            .collect();
+        self.list(11, Vec::new(), &args)
+    }
+
+    fn type_decl(&mut self, name: &str) {
+        let name = self.name(name);
+        let child = self.s.push(2, vec![Name(name)]);
+        self.decl(0, child);
+    }
+
+    fn pred_decl(&mut self, name: &str, types: &[&str]) {
+        let name = self.name(name);
+        let args = self.args(types);
+        let child = self.s.push(3, vec![Name(name), Child(args)]);
+        self.decl(1, child);
+    }
+
+    fn func_decl(&mut self, name: &str, types: &[&str], result: &str) {
+        let name = self.name(name);
+        let args = self.args(types);
+        let result = self.type_expr(result);
+        let child = self.s.push(4, vec![Name(name), Child(args), Child(result)]);
+        self.decl(2, child);
+    }
+
+    fn ident(&mut self, name: &str) -> usize {
+        let name = self.name(name);
+        let ident = self.s.push(13, vec![Name(name)]);
+        self.s.push(12, vec![Plain(0), Child(ident)])
+    }
+
+    fn terms(&mut self, names: &[&str]) -> usize {
+        let terms: Vec<usize> = names.iter().map(|n| self.ident(n)).collect();
+        self.list(22, Vec::new(), &terms)
+    }
+
+    fn app(&mut self, head: &str, args: &[&str]) -> usize {
+        let name = self.name(head);
+        let ident = self.s.push(13, vec![Name(name)]);
+        let head = self.s.push(15, vec![Plain(0), Child(ident)]);
+        let args = self.terms(args);
+        let app = self.s.push(14, vec![Child(head), Child(args)]);
+        self.s.push(12, vec![Plain(2), Child(app)])
+    }
+
+    fn pred(&mut self, name: &str, args: &[&str]) -> usize {
+        let name = self.name(name);
+        let child = self.s.push(27, vec![Name(name)]);
+        let pred = self.s.push(26, vec![Plain(0), Child(child)]);
+        let args = self.terms(args);
+        self.s.push(31, vec![Child(pred), Child(args)])
+    }
+
+    fn if_stmt(&mut self, case: u32, atom: usize) -> usize {
+        let atom = self.s.push(28, vec![Plain(case), Child(atom)]);
+        let stmt = self.s.push(37, vec![Child(atom)]);
+        self.s.push(36, vec![Plain(0), Child(stmt)])
+    }
+
+    fn then_stmt(&mut self, case: u32, atom: usize) -> usize {
+        let atom = self.s.push(29, vec![Plain(case), Child(atom)]);
+        let stmt = self.s.push(38, vec![Child(atom)]);
+        self.s.push(36, vec![Plain(1), Child(stmt)])
+    }
+
+    fn if_pred(&mut self, name: &str, args: &[&str]) -> usize {
+        let atom = self.pred(name, args);
+        self.if_stmt(2, atom)
+    }
+
+    fn if_equal(&mut self, lhs: usize, rhs: usize) -> usize {
+        let atom = self.s.push(30, vec![Child(lhs), Child(rhs)]);
+        self.if_stmt(0, atom)
+    }
+
+    fn rule(&mut self, body: &[usize]) {
+        let rule = self.list(6, vec![MaybeName(None)], body);
+        self.decl(4, rule);
+    }
+
+    /// The whole file, with declarations that fill it up to so many nodes.
+    fn done(mut self, nodes: usize) -> Vec<u8> {
+        let decls = std::mem::take(&mut self.decls);
+        self.list(0, Vec::new(), &decls);
+        if nodes > self.s.rows.len() + 1 {
+            pad(&mut self.s, nodes);
+        }
+        let image = self.s.parts(&self.s.natural()).encode();
+        assert_eq!(verdict(&image), None, "{} nodes, {} operands", self.s.rows.len(), self.s.operands());
+        image
+    }
+}
+
+/// Sharing rules: some types, predicates and functions, then rules of 5 to 10 variables each, every variable used twice.
+fn typical(rules: usize, nodes: usize) -> Vec<u8> {
+    let mut f = File::default();
+    for t in ["Person", "Vault", "Login"] {
+        f.type_decl(t);
+    }
+    f.pred_decl("shares", &["Person", "Vault", "Person"]);
+    f.func_decl("owner", &["Vault"], "Person");
+    let vars: Vec<String> = (0..10).map(|i| format!("v{i}")).collect();
+    for made in 0..rules {
+        let count: usize = [5, 6, 5, 7, 5, 8, 6, 10, 5, 9][made % 10];
+        let statements = (2 * count).div_ceil(3);
+        if f.s.rows.len() + 13 * statements + 4 > nodes {
+            break;
+        }
+        let var = |i: usize| vars[i % count].as_str();
+        let body: Vec<usize> = (0..statements)
+            .map(|i| match i {
+                1 => {
+                    let lhs = f.app("owner", &[var(3)]);
+                    let rhs = f.ident(var(4));
+                    f.if_equal(lhs, rhs)
+                }
+                _ if i + 1 == statements => {
+                    let atom = f.pred("shares", &[var(3 * i), var(3 * i + 1), var(5)]);
+                    f.then_stmt(2, atom)
+                }
+                _ => f.if_pred("shares", &[var(3 * i), var(3 * i + 1), var(3 * i + 2)]),
+            })
+            .collect();
+        f.rule(&body);
+    }
+    f.done(nodes)
+}
+
+/// One rule of so many statements `if a = b`, over so many variables, each used at least twice.
+fn long_rule(statements: usize, variables: usize, nodes: usize) -> Vec<u8> {
+    let mut f = File::default();
+    let names: Vec<String> = (0..variables).map(|i| format!("v{i}")).collect();
+    let body: Vec<usize> = (0..statements)
+        .map(|i| {
+            let lhs = f.ident(&names[i % variables]);
+            let rhs = f.ident(&names[(i * 7 + 1) % variables]);
+            f.if_equal(lhs, rhs)
+        })
+        .collect();
+    f.rule(&body);
+    f.done(nodes)
+}
+
+/// Branches in branches, each of which introduces a variable and uses it.
+fn deep_branches(levels: usize, nodes: usize) -> Vec<u8> {
+    let mut f = File::default();
+    let names: Vec<String> = (0..levels).map(|i| format!("v{i}")).collect();
+    let mut inner: Option<usize> = None;
+    for name in names.iter().rev() {
+        let lhs = f.ident(name);
+        let rhs = f.ident(name);
+        let mut block = vec![f.if_equal(lhs, rhs)];
+        block.extend(inner);
+        let branch = f.list(39, vec![Plain(1)], &block);
+        inner = Some(f.s.push(36, vec![Plain(2), Child(branch)]));
+    }
+    f.rule(&[inner.expect("a level")]);
+    f.done(nodes)
+}
+
+fn declarations(count: usize) -> Vec<u8> {
+    let mut f = File::default();
+    for i in 0..count {
+        f.type_decl(&format!("t{i}"));
+    }
+    f.done(0)
+}
+
+fn mixed(nodes: usize) -> Vec<u8> {
+    let mut r = Random::new(7, 7);
+    let mut style = Style::even();
+    style.clash = 0;
+    style.long = 12;
+    let mut m = Make::new(&mut r, style, nodes - 100);
+    m.module();
+    m.name_all(differential::make::Letters::Short, 0);
+    let mut s = m.sketch;
+    pad(&mut s, nodes);
+    let image = s.parts(&s.natural()).encode();
+    assert_eq!(verdict(&image), None);
+    image
+}
+
+fn deep_terms(nodes: usize) -> Vec<u8> {
+    let mut r = Random::new(1, 1);
+    let s = deep(Deep::Terms, nodes, &mut r);
+    s.parts(&s.natural()).encode()
+}
+
+const ROUNDS: usize = 101;
+
+/// The median of some rounds, in microseconds.
+fn median(times: &mut [f64]) -> f64 {
+    times.sort_by(f64::total_cmp);
+    times[times.len() / 2]
+}
+
+fn clock(mut f: impl FnMut()) -> f64 {
+    let started = Instant::now();
+    f();
+    started.elapsed().as_secs_f64() * 1e6
+}
+
+fn sink(value: usize) {
+    std::hint::black_box(value);
+}
+
+struct Line {
+    name: String,
+    nodes: usize,
+    rust: [f64; 4],
+    here: [f64; 4],
+}
+
+fn time(name: &str, image: &[u8], subject: &dyn Calls) -> Line {
+    let n = sizes(image).n;
+    let built = Built::new(image).expect("the original sources");
+    let mut table = vec![0u32; 3 + 5 * n];
+    let mut rows = vec![0u32; 1 + 2 * n];
+    let mut rust = vec![Vec::new(); 4];
+    let mut here = vec![Vec::new(); 4];
+    let mut sum = 0usize;
+    let mut count = |answer: Answer| match answer {
+        Answer::Result(a, b) | Answer::Other(a, b) => sum += (a + b) as usize,
+        other => panic!("{name}: {other:?}"),
+    };
+    for _ in 0..ROUNDS {
+        rust[0].push(clock(|| sink(built.resolve())));
+        here[0].push(clock(|| count(subject.resolve(image, &mut table))));
+        rust[1].push(clock(|| sink(built.errors())));
+        here[1].push(clock(|| count(subject.errors(image, &mut table, &mut rows, 1))));
+        rust[2].push(clock(|| sink(built.once())));
+        here[2].push(clock(|| count(subject.once(image, &mut table))));
+        rust[3].push(clock(|| sink(built.all())));
+        here[3].push(clock(|| count(subject.occurrences(image, &mut table, &mut rows))));
+    }
+    std::hint::black_box(sum);
+    let medians = |times: &mut Vec<Vec<f64>>| [0, 1, 2, 3].map(|i| median(&mut times[i]));
+    Line { name: name.to_string(), nodes: n, rust: medians(&mut rust), here: medians(&mut here) }
+}
+
+#[cfg(feature = "library")]
+fn subject() -> impl Calls {
+    differential::calls::Library
+}
+
+#[cfg(not(feature = "library"))]
+fn subject() -> impl Calls {
+    println!("built without the library: the times are those of the plain reading in Rust");
+    differential::reading::Reading
+}
+
+fn run() {
+    if !original::PRESENT {
+        println!("no benchmark: the original sources were not there when this was built (EQLOG_SRC)");
+        return;
+    }
+    let mut inputs: Vec<(String, Vec<u8>)> = vec![
+        ("typical, 30 rules".into(), typical(30, 2047)),
+        ("long rule, 200 statements, 10 variables".into(), long_rule(200, 10, 0)),
+        ("long rule, 200 statements, 190 variables".into(), long_rule(200, 190, 0)),
+        ("largest, one rule of 255 statements".into(), long_rule(255, 40, 2048)),
+        ("largest, mixed".into(), mixed(2048)),
+        ("deep, 195 branches with a variable each".into(), deep_branches(195, 0)),
+        ("deep, 1,000 terms".into(), deep_terms(2047)),
+        ("1,000 declarations".into(), declarations(1000)),
+    ];
+    for n in [128, 256, 512, 1024, 2048] {
+        inputs.push((format!("growth, typical of {n} nodes"), typical(1000, n)));
+    }
+    for n in [128, 256, 512, 1024, 2048] {
+        inputs.push((format!("growth, long rule of {n} nodes"), long_rule((n - 8) / 8, 10, n)));
+    }
+    let subject = subject();
+    println!("median of {ROUNDS}, microseconds; R the Rust with its Ast built, L this library from the image's bytes");
+    println!("R all: resolve_scopes, check_bindings, check_occurrences. L both: eqlog_errors (mode 1) and eqlog_once.");
+    println!();
+    println!("| input | N | R resolve | L resolve | L occurrences | R all | L errors | L once | L both | R all / L both |");
+    println!("|---|---|---|---|---|---|---|---|---|---|");
+    for (name, image) in &inputs {
+        let line = time(name, image, &subject);
+        let both = line.here[1] + line.here[2];
+        println!(
+            "| {} | {} | {:.0} | {:.0} | {:.0} | {:.0} | {:.0} | {:.0} | {:.0} | {:.1} |",
+            line.name,
+            line.nodes,
+            line.rust[0],
+            line.here[0],
+            line.here[3],
+            line.rust[3],
+            line.here[1],
+            line.here[2],
+            both,
+            line.rust[3] / both
+        );
+    }
+}
+
+fn main() {
+    let child = std::thread::Builder::new().stack_size(256 << 20).spawn(run).expect("a thread");
+    child.join().expect("the benchmark");
+}
