@@ -358,7 +358,7 @@ fn walk_decls(
 }
 
 // The whole module, in a table with no scope and no symbol.
-fn walk_module(image: &[u8], table: &mut [u32]) -> Declared
+pub fn walk_module(image: &[u8], table: &mut [u32]) -> Declared
     requires { ⌜ Lent (now image) (now table) ⌝ }
     ensures { λ r. ⌜ Visits (now (image .entry)) (resolveTree (now (image .entry)) (treeAt (now (image .entry)) («image-spec».last (now (image .entry)))) (record { words = now (table .entry); scopes = 0; symbols = 0 })) (now (table .entry)) r (now (table .exit)) ⌝ }
 {
@@ -377,7 +377,7 @@ fn walk_module(image: &[u8], table: &mut [u32]) -> Declared
 }
 
 // The first `count` words zero.
-fn clear(table: &mut [u32], count: usize)
+pub fn clear(table: &mut [u32], count: usize)
     requires { ⌜ count ≤ length (now table) ⌝ }
     ensures { λ _. ⌜ now (table .exit) ≡ replicate count 0 ++ drop count (now (table .entry)) ⌝ }
 {
@@ -389,7 +389,7 @@ fn clear(table: &mut [u32], count: usize)
 }
 
 // N, K and Y, in front.
-fn insert_counts(image: &[u8], table: &mut [u32], w: Walked)
+pub fn insert_counts(image: &[u8], table: &mut [u32], w: Walked)
     ensures { λ _. ⌜ now (table .exit) ≡ headed (now (image .entry)) (tableOf w (now (table .entry))) ⌝ }
 {
     table::put(table, 0, ast::node_count(image));
