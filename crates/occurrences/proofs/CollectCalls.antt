@@ -207,8 +207,8 @@ module _ (img tab rows : List ℕ) where
       made n us = record { answer = result 0 n; table = vs; rows = us }
 
 -- words cleared, filled with the rows, with their count in front
-pub rows-written : {N r n : ℕ} {l : List Row} {old ws vs zs : List ℕ} → length l ≤ N → n ≡ rowsLength N → ws ≡ cleared n old → Appended N l 0 ws r vs → zs ≡ set vs 0 r
+pub rows-written : (old : List ℕ) {N r n : ℕ} {l : List Row} {ws vs zs : List ℕ} → length l ≤ N → n ≡ rowsLength N → ws ≡ cleared n old → Appended N l 0 ws r vs → zs ≡ set vs 0 r
     → (r ≡ length l) × (zs ≡ written N l old)
-rows-written {N} {r} {n} {l} {old} {ws} {vs} {zs} f q c a w =
+rows-written old {N} {r} {n} {l} {ws} {vs} {zs} f q c a w =
     let e : r ≡ length l = (let z = a .count in omega arith) in
     (e, w ∙ ap₂ (λ (us : List ℕ) (k : ℕ). set us 0 k) (a .words ∙ ap (putRows N 0 l) (c ∙ ap (λ (k : ℕ). cleared k old) q)) e ∙ sym (written-is N l old f))

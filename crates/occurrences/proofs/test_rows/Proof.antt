@@ -1,3 +1,8 @@
+use mathlib.Core.Path.{_≡_, refl, sym, ap, subst, _∙_}
+use native.Mathlib.Omega.{arith}
+use Prim.Native.Nat.{ℕ, _+_, _*_, _-_, _≤_}
+use Rattle.ast.specs.Image.{nodes}
+use Rattle.occurrences.proofs.CollectCalls.{rows-table, rows-short, rows-fit}
 use borrow.Author.Needs.{needs}
 use Rattle.occurrences.proofs.test_rows.Statement.{statement}
 use Rattle.occurrences.proofs.test_rows.Tie as tie
@@ -13,7 +18,7 @@ test-table-requires c κs = search needs
 
 -- src/lib.rt:632:9
 returns : tie.Need-returns
-returns c = ?
+returns c = rows-table _ _ _ _ (c .before .test-table .ensures) (c .if1 .taken)
 
 -- src/lib.rt:634:39
 node-count-requires : tie.Need-node-count-requires
@@ -33,11 +38,11 @@ add-if2 c = search needs
 
 -- src/lib.rt:635:9
 returns-2 : tie.Need-returns-2
-returns-2 c = ?
+returns-2 c = rows-short _ _ _ (sym (c .before .before .before .if1 .left) ∙ c .before .before .before .before .test-table .ensures) (let z = (let z : 1 + 2 * c .before .wide .result ≡ 1 + 2 * nodes (c .before .before .before .before .before .before .before .before .args .image .now) = cc (c .before .wide .ensures, c .before .before .node-count .ensures) in z) in omega arith)
 
 -- src/lib.rt:627:1
 returns-3 : tie.Need-returns-3
-returns-3 c = ?
+returns-3 c = rows-fit _ _ _ (sym (c .before .before .before .if1 .left) ∙ c .before .before .before .before .test-table .ensures) (let z = (let z : 1 + 2 * c .before .wide .result ≡ 1 + 2 * nodes (c .before .before .before .before .before .before .before .before .args .image .now) = cc (c .before .wide .ensures, c .before .before .node-count .ensures) in z) in omega arith)
 
 pub test-rows-spec : {M : Type 1} → statement M
 test-rows-spec =

@@ -1,3 +1,8 @@
+use mathlib.Core.Path.{_≡_, refl, sym, ap, subst, _∙_}
+use native.Mathlib.Omega.{arith}
+use Prim.Native.Nat.{ℕ, _+_, _*_, _-_, _≤_}
+use Rattle.ast.specs.Image.{nodes}
+use Rattle.occurrences.proofs.CollectCalls.{rows-written}
 use borrow.Author.Needs.{needs}
 use Rattle.occurrences.proofs.write_rows.Statement.{statement}
 use Rattle.occurrences.proofs.write_rows.Tie as tie
@@ -43,7 +48,7 @@ same-length c = search needs
 
 -- src/lib.rt:616:1
 returns : tie.Need-returns
-returns c = ?
+returns c = rows-written _ (c .before .before .before .before .before .before .before .before .before .before .before .before .before .before .before .before .before .pre .0 .few) (let z : 1 + 2 * c .before .before .before .before .before .before .before .before .before .before .before .wide .result ≡ 1 + 2 * nodes (c .before .before .before .before .before .before .before .before .before .before .before .before .before .before .before .before .before .args .image .now) = cc (c .before .before .before .before .before .before .before .before .before .before .before .wide .ensures, c .before .before .before .before .before .before .before .before .before .before .before .before .node-count .ensures) in z) (c .before .before .before .before .before .before .before .before .before .before .clear .ensures) (c .before .before .before .before .before .before .collect-module .ensures) (c .before .before .put .ensures)
 
 pub write-rows-spec : {M : Type 1} → statement M
 write-rows-spec =
