@@ -46,10 +46,10 @@ headed-sorted img t s =
       within = s .within;
       long = (let a = headed-length img t in let b = s .long in omega arith);
       rises = λ i j l k.
-        let a = headed-word img t (scopePlace (nodes img) i) (omega arith) in
-        let b = headed-word img t (scopePlace (nodes img) j) (omega arith) in
-        let c = s .rises i j l k in
-        omega arith;
+          let a = headed-word img t (scopePlace (nodes img) i) (omega arith) in
+          let b = headed-word img t (scopePlace (nodes img) j) (omega arith) in
+          let c = s .rises i j l k in
+          omega arith;
     }
 
 module _ (img tab : List ℕ) where
