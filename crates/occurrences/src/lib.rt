@@ -480,13 +480,20 @@ fn count_binding(counts: &mut [u32], binding: usize)
     }
 }
 
+// The binding of row i.
+fn binding_at(rows: &[u32], n: u32, i: u32) -> u32
+    ensures { λ r. ⌜ r ≡ getD (now (rows .entry)) (1 + n + i) 0 ⌝ }
+{
+    table::get(rows, 1 + ast::wide(n) + ast::wide(i))
+}
+
 // One more for the binding of each row.
 fn count_bindings(rows: &[u32], n: u32, count: u32, counts: &mut [u32])
     ensures { λ _. ⌜ now (counts .exit) ≡ claimAll (rights (readRows n (now (rows .entry)) count 0)) (now (counts .entry)) ⌝ }
 {
     let mut i = 0u32;
     while i < count {
-        let binding = table::get(rows, 1 + ast::wide(n) + ast::wide(i));
+        let binding = binding_at(rows, n, i);
         count_binding(counts, ast::wide(binding));
         i += 1;
     }
@@ -498,7 +505,7 @@ fn first_lone(rows: &[u32], n: u32, count: u32, counts: &[u32]) -> Checked
 {
     let mut i = 0u32;
     while i < count {
-        let binding = table::get(rows, 1 + ast::wide(n) + ast::wide(i));
+        let binding = binding_at(rows, n, i);
         if table::get(counts, ast::wide(binding)) < 2 {
             let node = table::get(rows, 1 + ast::wide(i));
             return Checked::Lone(NodeId(node), NodeId(binding));
@@ -514,7 +521,7 @@ fn uncount(rows: &[u32], n: u32, count: u32, counts: &mut [u32])
 {
     let mut i = 0u32;
     while i < count {
-        let binding = table::get(rows, 1 + ast::wide(n) + ast::wide(i));
+        let binding = binding_at(rows, n, i);
         table::put(counts, ast::wide(binding), 0);
         i += 1;
     }
