@@ -53,7 +53,7 @@ is-other v c h = go (eqb v c) (λ t. h (eqb→eq v c t))
     go true t = absurd (t tt)
     go false t = refl
 
-sumOf-append : (w : ℕ → ℕ) (cs ds : List ℕ) → sumOf w (cs ++ ds) ≡ sumOf w cs + sumOf w ds
+pub sumOf-append : (w : ℕ → ℕ) (cs ds : List ℕ) → sumOf w (cs ++ ds) ≡ sumOf w cs + sumOf w ds
 unfolding sumOf
 sumOf-append w [] ds = omega arith
 sumOf-append w (c ∷ cs) ds = let h = sumOf-append w cs ds in omega arith
@@ -109,7 +109,7 @@ module _ (w : ℕ → ℕ) where
         omega arith
 
 module _ (f g : ℕ → ℕ) where
-  sumTo-add : (m : ℕ) → sumTo (λ v. f v + g v) m ≡ sumTo f m + sumTo g m
+  pub sumTo-add : (m : ℕ) → sumTo (λ v. f v + g v) m ≡ sumTo f m + sumTo g m
   unfolding sumTo
   sumTo-add zero = refl
   sumTo-add (suc m) = let h = sumTo-add m in omega arith
@@ -119,7 +119,7 @@ module _ (f g : ℕ → ℕ) where
   sumTo-same zero h = refl
   sumTo-same (suc m) h = let r = sumTo-same m (λ v l. h v (omega arith)) in let z = h m (omega arith) in omega arith
 
-times-sum : (v : ℕ) (cs : List ℕ) → times v cs ≡ sumOf (is v) cs
+pub times-sum : (v : ℕ) (cs : List ℕ) → times v cs ≡ sumOf (is v) cs
 unfolding times sumOf
 times-sum v [] = refl
 times-sum v (c ∷ cs) = ap (λ x. is v c + x) (times-sum v cs)
@@ -127,12 +127,12 @@ times-sum v (c ∷ cs) = ap (λ x. is v c + x) (times-sum v cs)
 pub times-append : (v : ℕ) (cs ds : List ℕ) → times v (cs ++ ds) ≡ times v cs + times v ds
 times-append v cs ds = simp times-sum (sumOf-append (is v) cs ds)
 
-length-sum : (cs : List ℕ) → length cs ≡ sumOf (λ c. 1) cs
+pub length-sum : (cs : List ℕ) → length cs ≡ sumOf (λ c. 1) cs
 unfolding sumOf
 length-sum [] = refl
 length-sum (c ∷ cs) = let h = length-sum cs in omega arith
 
-sumTo-ones : (m : ℕ) → sumTo (λ c. 1) m ≡ m
+pub sumTo-ones : (m : ℕ) → sumTo (λ c. 1) m ≡ m
 unfolding sumTo
 sumTo-ones zero = refl
 sumTo-ones (suc m) = let h = sumTo-ones m in omega arith

@@ -18,3 +18,4 @@ pub mod Names
 pub mod NameParts
 pub mod ImageAnswers
 pub mod TestCases
+pub mod Kids

@@ -25,10 +25,10 @@ use Rattle.bindings.proofs.Quiet.{quiet}
 use Rattle.bindings.proofs.Epic.{Down, Item, listed-start, listed-more, listed-end}
 
 -- the kinds of the children of a ThenAtom's cases, and of a Stmt's
-abbrev atomKinds : List ℕ
+abbrev pub atomKinds : List ℕ
 atomKinds = 30 ∷ 34 ∷ 31 ∷ []
 
-abbrev stmtKinds : List ℕ
+abbrev pub stmtKinds : List ℕ
 stmtKinds = 37 ∷ 38 ∷ 39 ∷ 40 ∷ []
 
 -- the first word of a node's shape

@@ -1,6 +1,9 @@
+pub mod Bools
 pub mod Leaves
 pub mod RowLaws
 pub mod Quiet
 pub mod Epic
 pub mod Bodies
 pub mod Marking
+pub mod Fine
+pub mod Standing

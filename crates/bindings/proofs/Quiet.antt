@@ -19,6 +19,7 @@ use Rattle.ast.proofs.Accepted.{formed}
 use Rattle.ast.proofs.Vars.{every-kind, Each}
 use Rattle.table.specs.Table.{Table}
 use Rattle.rows.specs.Rows.{Row}
+use Rattle.bindings.proofs.Bools.{and-both, not-or, is-false}
 use Rattle.bindings.specs.Errors.{asked, introducedRow, rowsOf, rowsSeq, rowsFirst}
 
 -- the kinds from Term to IfAtom, the atoms but DefinedThenAtom, and IfStmt
@@ -67,18 +68,6 @@ closed k kd = not (quietKind k) || (not (asked k false) && (quietClass (kd .clas
 closed-kinds : (k : ℕ) → k ≤ 40 → T (closed k (kindOf k))
 unfolding kinds asked
 closed-kinds k l = every-kind closed tt k l
-
-and-both : (a b : Bool) → T (a && b) → T a × T b
-and-both true b t = (tt, t)
-and-both false b t = absurd t
-
-not-or : (a b : Bool) → T a → T (not a || b) → T b
-not-or true b s t = t
-not-or false b s t = absurd s
-
-is-false : (a : Bool) → T (not a) → a ≡ false
-is-false true t = absurd t
-is-false false t = refl
 
 quiet-at : (ks : List ℕ) (c : ℕ) → T (quietCases ks) → c < length ks → T (quietCase (getD ks c noChild))
 quiet-at [] c t l = absurd (omega arith)

@@ -201,9 +201,9 @@ fn enter_decls(
 fn dropped(at: Walked, w: Walked) -> Walked
     ensures { λ r. ⌜ (r .scope ≡ at .scope) × (r .scopes ≡ w .scopes) × (r .symbols ≡ w .symbols) ⌝ }
 {
-    let scope = at.scope;
+    let outer = at.scope;
     Walked {
-        scope,
+        scope: outer,
         scopes: w.scopes,
         symbols: w.symbols,
     }
@@ -441,9 +441,9 @@ pub fn test_table(image: &[u8], table: &[u32]) -> u32
 pub fn resolve_scopes(image: &[u8], table: &mut [u32]) -> Resolved
     ensures { λ r. ⌜ (resolvedAnswer r ≡ (resolve (now (image .entry)) (now (table .entry))) .answer) × (now (table .exit) ≡ (resolve (now (image .entry)) (now (table .entry))) .table) ⌝ }
 {
-    let code = test_table(image, table);
-    if code != 0 {
-        return Resolved::Refused(code);
+    let refusal = test_table(image, table);
+    if refusal != 0 {
+        return Resolved::Refused(refusal);
     }
     resolve_into(image, table)
 }
