@@ -7,3 +7,5 @@ pub mod Bodies
 pub mod Marking
 pub mod Fine
 pub mod Standing
+pub mod Reached
+pub mod Sentences
