@@ -9,3 +9,4 @@ pub mod Fine
 pub mod Standing
 pub mod Reached
 pub mod Sentences
+pub mod Few

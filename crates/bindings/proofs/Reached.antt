@@ -295,7 +295,7 @@ asked-keeps k p q r = go (eqb k 29) (eqb k 18) (eqb k 19) (eqb k 26) (ne-eqb k 1
     go false false false false x y z = refl
 
 -- where a number of some operands stands
-ops-mem : (img : List ℕ) (c p : ℕ) {x : ℕ} → List·Memᴰ x (opsFrom img c p) → (j : ℕ) × (j < c) × (x ≡ opAt img (p + j))
+pub ops-mem : (img : List ℕ) (c p : ℕ) {x : ℕ} → List·Memᴰ x (opsFrom img c p) → (j : ℕ) × (j < c) × (x ≡ opAt img (p + j))
 unfolding opsFrom
 ops-mem img zero p m = absurd (List·Memᴰ·not-nil m)
 ops-mem img (suc c) p {x} m = go (ops-mem img c (p + 1)) (List·Memᴰ·cases-cons m)
