@@ -7,3 +7,6 @@ pub mod Bodies
 pub mod Marking
 pub mod Fine
 pub mod Standing
+pub mod Reached
+pub mod Sentences
+pub mod Few

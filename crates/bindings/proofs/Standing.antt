@@ -64,7 +64,7 @@ unfolding kinds
 sequences k c l m = every-pair sequence tt k c l m
 
 -- the kinds that stand in a then-atom
-abbrev thenKind : ℕ → Bool
+abbrev pub thenKind : ℕ → Bool
 thenKind k = (leb 12 k && leb k 22) || ((leb 26 k && leb k 27) || (leb 29 k && (leb k 31 || eqb k 34)))
 
 abbrev thenClosed : ℕ → Kind → ℕ → Bool
@@ -75,7 +75,7 @@ unfolding kinds
 then-closed k c l m = every-pair thenClosed tt k c l m
 
 -- the one kind of each class but plain and those of declarations
-abbrev kindFor : Class → ℕ → Bool
+abbrev pub kindFor : Class → ℕ → Bool
 kindFor (outer o) k = true
 kindFor (inner plain) k = true
 kindFor (inner term) k = eqb k 12
@@ -90,7 +90,7 @@ kindFor (inner ifVar) k = eqb k 33
 kindFor (inner definedThen) k = eqb k 34
 kindFor (inner arg) k = eqb k 10
 
-kinds-for : (k : ℕ) → k ≤ 40 → T (kindFor ((kindOf k) .class) k)
+pub kinds-for : (k : ℕ) → k ≤ 40 → T (kindFor ((kindOf k) .class) k)
 unfolding kinds
 kinds-for k l = every-kind (λ x xd. kindFor (xd .class) x) tt k l
 
@@ -109,7 +109,7 @@ asked-on k a h e = go (eqb k 29) (eqb k 18) (eqb k 19) (eqb k 26) refl refl refl
     go false false false false p q r s z = (z, (eqb-false k 18 q, (eqb-false k 19 r, eqb-false k 26 s)))
 
 module _ (img : List ℕ) (accepted : verdict img ≡ 0) where
-  low-kind : (n : ℕ) → n < nodes img → kindAt img n ≤ 40
+  pub low-kind : (n : ℕ) → n < nodes img → kindAt img n ≤ 40
   low-kind n l = (formed img accepted) .each n l .kind
 
   -- what stands in a then-atom is a node, of such a kind
@@ -165,18 +165,18 @@ module _ (img : List ℕ) (Q : Tree → Type 0) where
 
 module _ (img : List ℕ) where
   -- the trees below a node are those of its children
-  below-is : {kd : Kind} {n : ℕ} → Is img kd n → ((ts : Trees) → ordered (kd .class) ts ≡ ts) → below (treeAt img n) ≡ grow (treeAt img) (kids img n)
+  pub below-is : {kd : Kind} {n : ℕ} → Is img kd n → ((ts : Trees) → ordered (kd .class) ts ≡ ts) → below (treeAt img n) ≡ grow (treeAt img) (kids img n)
   unfolding classAt
   below-is {kd} {n} is straight =
       ap below (treeAt-is img (formed img (is .accepted)) n (is .below))
       ∙ ap (λ (k : Kind). ordered (k .class) (grow (treeAt img) (kids img n))) (is .kind)
       ∙ straight (grow (treeAt img) (kids img n))
 
-  kids-at : {kd : Kind} {n : ℕ} → Is img kd n → kids img n ≡ fieldsKids img (kd .fields) (startAt img n + 2)
+  pub kids-at : {kd : Kind} {n : ℕ} → Is img kd n → kids img n ≡ fieldsKids img (kd .fields) (startAt img n + 2)
   unfolding kids fieldsAt
   kids-at {kd} {n} is = ap (λ (k : Kind). fieldsKids img (k .fields) (startAt img n + 2)) (is .kind)
 
-  field-zero : (n : ℕ) → field img n 0 ≡ opAt img (startAt img n + 2)
+  pub field-zero : (n : ℕ) → field img n 0 ≡ opAt img (startAt img n + 2)
   unfolding field
   field-zero n = ap (opAt img) (add-zero (startAt img n + 2))
 
