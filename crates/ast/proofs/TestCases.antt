@@ -7,7 +7,7 @@ use Rattle.ast.specs.Image.{nodes, word, kindAt, startAt, opAt, nameByte
 use Rattle.ast.specs.Kinds.{kindOf}
 use Rattle.ast.specs.Name.{hasName, nameCall}
 use Rattle.ast.specs.Rows.{kidsTo, kids, fieldsKids, fieldKids, blockKids, opsFrom, ones, numbers, after, afterBlocks, afterFields, fieldsAt, rowEnd}
-use Rattle.ast.specs.Tests.{verdict, testSizes, testNames, testEnds, testTwice, testNode, testTree, testParents, testVar, isVar, first, endBefore, testFields, testField, testBlocks, childWord, isChild, inRow, same, times, is, run, need, _▸_}
+use Rattle.ast.specs.Tests.{verdict, testSizes, testNames, testNode, testTree, testParents, testVar, isVar, first, endBefore, testFields, testField, testBlocks, childWord, isChild, inRow, same, times, is, run, need, _▸_}
 
 -- words as bytes, then the name bytes
 image : List ℕ → List ℕ → List ℕ
@@ -62,7 +62,7 @@ verdicts =
     ∷ named wordsDom ∷ []  -- an if-var's term of case Dom
 
 computed : verdicts ≡ 0 ∷ 0 ∷ 1 ∷ 2 ∷ 2 ∷ 3 ∷ 4 ∷ 4 ∷ 5 ∷ 6 ∷ 7 ∷ 7 ∷ 7 ∷ 7 ∷ 7 ∷ 8 ∷ 8 ∷ 8 ∷ 9 ∷ 9 ∷ 9 ∷ 9 ∷ 10 ∷ 10 ∷ 11 ∷ 12 ∷ []
-unfolding image wordsA wordsDom plain named damaged verdicts verdict testSizes testNames testEnds testTwice testNode testTree testParents testVar isVar first endBefore testFields testField testBlocks childWord isChild inRow nameBytes nameStart nameEnd last bytes names operands same times is run need _▸_ kidsTo kids fieldsKids fieldKids blockKids opsFrom ones numbers after afterBlocks afterFields fieldsAt rowEnd kindOf nodes word kindAt startAt opAt
+unfolding image wordsA wordsDom plain named damaged verdicts verdict testSizes testNames testNode testTree testParents testVar isVar first endBefore testFields testField testBlocks childWord isChild inRow nameBytes nameStart nameEnd last bytes names operands same times is run need _▸_ kidsTo kids fieldsKids fieldKids blockKids opsFrom ones numbers after afterBlocks afterFields fieldsAt rowEnd kindOf nodes word kindAt startAt opAt
 computed = refl
 
 -- Name of case A: the name 0, the number S, and an image that 12 refuses
@@ -70,5 +70,5 @@ nameOfA : List ℕ → ℕ → List ℕ
 nameOfA ws x = nameCall (image ws (120 ∷ [])) x
 
 names-computed : nameOfA wordsA 0 ∷ nameOfA wordsA 1 ∷ nameOfA wordsDom 0 ∷ [] ≡ (120 ∷ []) ∷ [] ∷ [] ∷ []
-unfolding image wordsA wordsDom plain named damaged verdicts verdict testSizes testNames testEnds testTwice testNode testTree testParents testVar isVar first endBefore testFields testField testBlocks childWord isChild inRow nameBytes nameStart nameEnd last bytes names operands same times is run need _▸_ kidsTo kids fieldsKids fieldKids blockKids opsFrom ones numbers after afterBlocks afterFields fieldsAt rowEnd kindOf nodes word kindAt startAt opAt nameOfA nameCall hasName
+unfolding image wordsA wordsDom plain named damaged verdicts verdict testSizes testNames testNode testTree testParents testVar isVar first endBefore testFields testField testBlocks childWord isChild inRow nameBytes nameStart nameEnd last bytes names operands same times is run need _▸_ kidsTo kids fieldsKids fieldKids blockKids opsFrom ones numbers after afterBlocks afterFields fieldsAt rowEnd kindOf nodes word kindAt startAt opAt nameOfA nameCall hasName
 names-computed = refl

@@ -68,6 +68,7 @@ module _ (img : List ℕ) where
 
   -- names: 4 before 5
   unfoldable pub testNames : ℕ
+  unfolding testEnds testTwice
   testNames = testEnds ▸ testTwice
 
   -- 7: a word of a row lies at or past C

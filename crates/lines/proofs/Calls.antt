@@ -10,6 +10,7 @@ use Rattle.ast.specs.Image.{nodes}
 use Rattle.ast.specs.Answer.{Answer, refused, twice as twiceAnswer, result, other}
 use Rattle.ast.proofs.Accepted.{both, needed, sized}
 use Rattle.rows.specs.Rows.{Row, rowsLength, written}
+use Rattle.table.specs.State.{Exit}
 use Rattle.scopes.specs.Walk.{Listed, done, twice}
 use Rattle.scopes.specs.Resolve.{testTable, zeroed, walked, headed, resolve}
 use Rattle.scopes.specs.Resolve as resolving
@@ -33,35 +34,30 @@ rows-few img tab rows l t e =
     let s = sized img (both _ _ (a .0) .0) in
     record { few = written-few (nodes img) l rows (leb→le _ _ (needed 13 _ (a .1))) e; small = s .fewNodes }
 
-pub errors-few : (img tab rows : List ℕ) (mode a c : ℕ) → result a c ≡ (errors img tab rows mode) .answer → length ((errors img tab rows mode) .rows) ≡ length rows → Few img c
+-- what a call leaves after its refusals, from a walk
+module _ (img tab rows : List ℕ) (of : Listed → Outcome) (l : Exit → List Row) where
+  abbrev after : ℕ → Listed → Outcome
+  after t w = elim t [ zero ↦ of w | suc r ↦ record { answer = refused (suc r); table = tab; rows = rows } ]
+
+  call-few : ((e : Exit) → of (done e) ≡ record { answer = result 0 (length (l e)); table = headed img (e .table); rows = written (nodes img) (l e) rows })
+      → ((x a b : ℕ) → (of (twice x a b)) .answer ≡ twiceAnswer x a b)
+      → (t : ℕ) → (t ≡ 0 → testRows img tab rows ≡ 0) → (w : Listed) (a c : ℕ) → result a c ≡ (after t w) .answer → length ((after t w) .rows) ≡ length rows → Few img c
+  call-few whole clash (suc r) passed w a c p q = let z : _≡_ {A = ℕ} 0 1 = cc in absurd (omega arith)
+  call-few whole clash zero passed (twice x y u) a c p q = let h = clash x y u in let z : _≡_ {A = ℕ} 0 1 = cc in absurd (omega arith)
+  call-few whole clash zero passed (done e) a c p q =
+      let f = p ∙ ap (λ (o : Outcome). o .answer) (whole e) in
+      let k : c ≡ length (l e) = cc in
+      rw k (rows-few img tab rows (l e) (passed refl) (ap (λ (o : Outcome). length (o .rows)) (sym (whole e)) ∙ q))
+
+errors-few : (img tab rows : List ℕ) (mode a c : ℕ) → result a c ≡ (errors img tab rows mode) .answer → length ((errors img tab rows mode) .rows) ≡ length rows → Few img c
 unfolding errors errorsOf testErrors
-errors-few img tab rows mode a c p q = go (testErrors img tab rows mode) refl (walked img tab) p q
-  where
-    by : ℕ → Listed → Outcome
-    by t w = elim t [
-      | zero ↦ errorsOf img tab rows mode w
-      | suc r ↦ record { answer = refused (suc r); table = tab; rows = rows }
-    ]
+errors-few img tab rows mode =
+    call-few img tab rows (errorsOf img tab rows mode) (λ e. errorRows img (e .table) mode) (λ e. refl) (λ x a b. refl) (testErrors img tab rows mode) (λ e. both _ _ e .0) (walked img tab)
 
-    go : (t : ℕ) → testErrors img tab rows mode ≡ t → (w : Listed) → result a c ≡ (by t w) .answer → length ((by t w) .rows) ≡ length rows → Few img c
-    go (suc r) e w p q = let z : _≡_ {A = ℕ} 0 1 = cc in absurd (omega arith)
-    go zero e (twice x y z) p q = let z : _≡_ {A = ℕ} 0 1 = cc in absurd (omega arith)
-    go zero e (done x) p q = let k : c ≡ length (errorRows img (x .table) mode) = cc in rw k (rows-few img tab rows (errorRows img (x .table) mode) (both _ _ e .0) q)
-
-pub occurrences-few : (img tab rows : List ℕ) (a c : ℕ) → result a c ≡ (occurrences img tab rows) .answer → length ((occurrences img tab rows) .rows) ≡ length rows → Few img c
+occurrences-few : (img tab rows : List ℕ) (a c : ℕ) → result a c ≡ (occurrences img tab rows) .answer → length ((occurrences img tab rows) .rows) ≡ length rows → Few img c
 unfolding occurrences occurrencesOf
-occurrences-few img tab rows a c p q = go (testRows img tab rows) refl (walked img tab) p q
-  where
-    by : ℕ → Listed → Outcome
-    by t w = elim t [
-      | zero ↦ occurrencesOf img tab rows w
-      | suc r ↦ record { answer = refused (suc r); table = tab; rows = rows }
-    ]
-
-    go : (t : ℕ) → testRows img tab rows ≡ t → (w : Listed) → result a c ≡ (by t w) .answer → length ((by t w) .rows) ≡ length rows → Few img c
-    go (suc r) e w p q = let z : _≡_ {A = ℕ} 0 1 = cc in absurd (omega arith)
-    go zero e (twice x y z) p q = let z : _≡_ {A = ℕ} 0 1 = cc in absurd (omega arith)
-    go zero e (done x) p q = let k : c ≡ length (occurrenceRows img (x .table)) = cc in rw k (rows-few img tab rows (occurrenceRows img (x .table)) e q)
+occurrences-few img tab rows =
+    call-few img tab rows (occurrencesOf img tab rows) (λ e. occurrenceRows img (e .table)) (λ e. refl) (λ x a b. refl) (testRows img tab rows) (λ e. e) (walked img tab)
 
 -- lines ---------------------------------------------------------------------------------------------------------------
 lines-append : (l k : List Line) → linesBytes (l ++ k) ≡ linesBytes l ++ linesBytes k

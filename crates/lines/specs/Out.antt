@@ -4,7 +4,7 @@ use mathlib.Core.Bool.{true, false}
 use mathlib.Core.List.{List, [], _∷_, _++_}
 use Prim.Native.Nat.{ℕ, zero, suc, _+_, _*_, _≤_}
 use lib.Dec.{ltb}
-use lib.ListN.{length, getD, set}
+use lib.ListN.{length, getD, set, take}
 use Rattle.lines.specs.Bytes.{numbers}
 
 -- the next place, and the buffer
@@ -32,3 +32,9 @@ rowsFrom word rows n (suc c) i = (word ++ numbers (getD rows (1 + i) 0 ∷ getD 
 pub record Wrote (bs : List ℕ) (most : ℕ) (before after : Out) : Type 0 where
   pub out : after ≡ write bs before
   pub short : length bs ≤ most
+
+-- the first r bytes of a buffer are `bs`; `counted` follows from `within`, and is there for callers that lend those bytes on
+pub record Printed (bs : List ℕ) (r : ℕ) (buffer : List ℕ) : Type 0 where
+  pub within : r ≤ length buffer
+  pub counted : r ≡ length (take r buffer)
+  pub bytes : take r buffer ≡ bs

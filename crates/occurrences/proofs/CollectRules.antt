@@ -19,7 +19,7 @@ use Rattle.ast.proofs.Row.{append, append-none, Child, Items, FormedFields, all
 use Rattle.ast.proofs.Shapes.{tree-of, formed-row, row, child-is, items-more, case-kids, case-one, case-child, case-last}
 use Rattle.ast.proofs.Accepted.{sized, formed, last-below}
 use Rattle.ast.proofs.Formed.{Formed}
-use Rattle.table.specs.Table.{Table, lookup}
+use Rattle.table.specs.Table.{Table}
 use Rattle.table.specs.Rows.{Sorted}
 use Rattle.rows.specs.Rows.{Row, row as rowOf, Appended}
 use Rattle.occurrences.specs.Sight.{Spot, spots, spotsSeq, spotsBack, spotsFirst, ruleSpots, orElse, Rule, saysAll, rules, rulesAll, rulesOf, moduleRules}
@@ -306,15 +306,12 @@ module _ (img : List ℕ) (t : Table) where
       w : occurrenceRows img t ≡ joined (listsAt img t (last img) (field img (last img) 0) 1)
       w = all-joined img t (moduleRules img) ∙ ap joined b
 
--- how many scopes there are does not matter -------------------------------------------------------------------------------------
-module _ (img : List ℕ) (t : Table) where
-  abbrev u : Table
-  u = sought (t .words) (t .symbols)
-
+-- tables in which lookup finds the same ----------------------------------------------------------------------------------------
+module _ (img : List ℕ) (t u : Table) (same : (s : Spot) → found img t s ≡ found img u s) where
   same-rows : (l : List Spot) → rowsFor img t l ≡ rowsFor img u l
-  unfolding rowsFor lookup listed
+  unfolding rowsFor listed
   same-rows [] = refl
-  same-rows (s ∷ l) = ap (listed img t (s .node) (found img t s)) (same-rows l)
+  same-rows (s ∷ l) = ap₂ (listed img t (s .node)) (same s) (same-rows l)
 
   pub same-lists : (rs : List Rule) → rowsByRule img t rs ≡ rowsByRule img u rs
   unfolding rowsByRule ruleRows

@@ -4,7 +4,7 @@
 -- What a place is, which places are in sight, which are naming, which definitions are fresh, which places are variable
 -- occurrences and which two are `Same` is told in specs/Sight.antt by order and nesting alone: that file imports the image and
 -- its tree, and nothing that knows scopes or tables. The list's order and "these rows list these occurrences" are told in
--- Listing.antt. `exactly` is the theorem twice-exactly of scopes/proofs at this image and table.
+-- Listing.antt.
 use mathlib.Core.Path.{_≡_}
 use mathlib.Core.Logic.{_⊎_, _↔_}
 use mathlib.Core.Bool.{false}
@@ -20,6 +20,7 @@ use Rattle.scopes.specs.Rows.{testRows, Outcome}
 use Rattle.scopes.specs.Twice.{declaredTwice}
 use Rattle.scopes.specs.Walk.{done}
 use Rattle.ast.proofs.Accepted.{both}
+use Rattle.scopes.proofs.Declaring.{twice-exactly}
 use Rattle.table.specs.State.{Exit}
 use Rattle.table.specs.Table.{lookup, exitAt}
 use Rattle.occurrences.specs.Occurrences.{occurrences}
@@ -29,7 +30,7 @@ use Rattle.occurrences.proofs.Listing.{placesOf, Occurs, AllRows}
 use Rattle.occurrences.proofs.Members.{Distinct}
 use Rattle.occurrences.proofs.Resolving.{tableOf}
 use Rattle.occurrences.proofs.Written.{rowsIn}
-use Rattle.occurrences.proofs.Single.{TwiceExactly, single-done}
+use Rattle.occurrences.proofs.Single.{single-done}
 
 module _ (img tab rows : List ℕ) where
   -- what the call leaves: its answer, the table's words and the rows' words
@@ -44,11 +45,11 @@ module _ (img tab rows : List ℕ) where
   abbrev pub binding : Place → Option ℕ
   binding p = lookup img (tableOf img (left .table)) (exitAt img (left .table) (p .node)) (nameOf img (p .ident))
 
-  module _ (unrefused : testRows img tab rows ≡ 0) (once : declaredTwice img ≡ false) (exactly : TwiceExactly img tab) where
+  module _ (unrefused : testRows img tab rows ≡ 0) (once : declaredTwice img ≡ false) where
     -- the walk comes to its end
     ended : (e : Exit) × (walked img tab ≡ done e)
     unfolding testRows
-    ended = single-done img tab ((both _ _ unrefused) .0) exactly once
+    ended = let p = (both _ _ unrefused) .0 in single-done img tab p (twice-exactly img tab p) once
 
     -- the call hands back how long the list is; there is room for all of it
     pub count : left .answer ≡ result 0 (length list)

@@ -24,3 +24,4 @@ pub mod CollectRows
 pub mod CollectSteps
 pub mod CollectRules
 pub mod CollectLone
+pub mod CollectCalls

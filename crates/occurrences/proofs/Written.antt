@@ -5,17 +5,13 @@ use Prim.Native.Nat.{ℕ, zero, suc, _+_, _-_, _≤_, _<_}
 use native.Mathlib.Omega.{arith}
 use lib.ListN.{length, getD, drop, replicate, length-append, length-replicate, List·getD-append}
 use lib.Seq.{getD-append-add}
+use Rattle.occurrences.specs.Collect.{readRows}
 use Rattle.rows.specs.Rows.{Row, row, lefts, rights, rowsLength, filled, written}
 use Rattle.rows.proofs.Appends.{lefts-length, rights-length}
 
--- the c rows from j on
-unfoldable pub rowsFrom : ℕ → List ℕ → ℕ → ℕ → List Row
-rowsFrom N ws zero j = []
-rowsFrom N ws (suc c) j = row (getD ws (1 + j) 0) (getD ws (1 + N + j) 0) ∷ rowsFrom N ws c (j + 1)
-
 -- as many as the count says
 abbrev pub rowsIn : ℕ → List ℕ → List Row
-rowsIn N ws = rowsFrom N ws (getD ws 0 0) 0
+rowsIn N ws = readRows N ws (getD ws 0 0) 0
 
 filled-length : (N : ℕ) (xs : List ℕ) → length xs ≤ N → length (filled N xs) ≡ N
 unfolding filled
@@ -36,8 +32,8 @@ past-filled N xs rest j l =
 
 -- words that hold the rows k from place j on
 rows-at : (N : ℕ) (ws : List ℕ) (k : List Row) (j : ℕ) → ((i : ℕ) → i < length k → getD ws (1 + (j + i)) 0 ≡ getD (lefts k) i 0)
-    → ((i : ℕ) → i < length k → getD ws (1 + N + (j + i)) 0 ≡ getD (rights k) i 0) → rowsFrom N ws (length k) j ≡ k
-unfolding rowsFrom lefts rights
+    → ((i : ℕ) → i < length k → getD ws (1 + N + (j + i)) 0 ≡ getD (rights k) i 0) → readRows N ws (length k) j ≡ k
+unfolding readRows lefts rights
 rows-at N ws [] j f g = refl
 rows-at N ws (w ∷ k) j f g =
     let q : j ≡ j + 0 = omega arith in

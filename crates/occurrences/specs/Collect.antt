@@ -113,10 +113,14 @@ abbrev pub loneOf : Checked → Option Row
 loneOf Ok = nothing
 loneOf (Lone n b) = some (row (n .0) (b .0))
 
+-- every symbol is a node
+abbrev pub Nodes : List ℕ → Table → Type 0
+Nodes img t = (j : ℕ) → j < t .symbols → nodeAt (nodes img) (t .words) j < nodes img
+
 -- what the check asks of the table and of the words that it works in: symbols are nodes, there is room for N rows, and
 -- nothing is counted
 pub record Scratch (img : List ℕ) (t : Table) (rows counts : List ℕ) : Type 0 where
-  pub symbols : (j : ℕ) → j < t .symbols → nodeAt (nodes img) (t .words) j < nodes img
+  pub symbols : Nodes img t
   pub long : rowsLength (nodes img) ≤ length rows
   pub zeros : counts ≡ replicate 2048 0
 

@@ -1,3 +1,4 @@
 pub mod Sight
 pub mod Occurrences
 pub mod Collect
+pub mod Answers

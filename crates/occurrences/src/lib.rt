@@ -2,16 +2,21 @@
 ghost use mathlib.Core.Path.{_≡_};
 ghost use mathlib.Core.List.{[], _∷_};
 ghost use Prim.Native.Nat.{_+_, _<_, _≤_, _^_};
-ghost use lib.ListN.{getD, set};
+ghost use lib.ListN.{length, getD, set};
 ghost use Rattle.ast.specs.Scan.{bump, claimAll};
 ghost use Rattle.ast.specs.Image as «image-spec»;
 ghost use Rattle.ast.specs.Kinds.{kindOf};
 ghost use Rattle.table.specs.Rows.{Sorted};
 ghost use Rattle.table.specs.Values.{optionOf};
-ghost use Rattle.rows.specs.Rows.{rights, Appended};
-ghost use Rattle.occurrences.specs.Occurrences.{found};
-ghost use Rattle.occurrences.specs.Collect.{sought, spot, identRows, rowsIn, rowsAt, Room, Ready, Run, joined, listsIn, listsAt, Listing, ListingRun, readRows, under, uncounted, loneOf, Scratch, Searched};
+ghost use Rattle.rows.specs.Rows.{rights, rowsLength, written, Appended};
+ghost use Rattle.scopes.specs.Rows.{testRows};
+ghost use Rattle.occurrences.specs.Sight.{moduleRules};
+ghost use Rattle.occurrences.specs.Answers.{listedAnswer, checkedAnswer};
+ghost use Rattle.occurrences.specs.Occurrences as «occurrences-spec»;
+ghost use Rattle.occurrences.specs.Occurrences.{found, occurrenceRows, lone, rowsByRule};
+ghost use Rattle.occurrences.specs.Collect.{sought, spot, identRows, rowsIn, rowsAt, Room, Ready, Run, joined, listsIn, listsAt, Listing, ListingRun, Whole, Nodes, readRows, under, uncounted, loneOf, Scratch, Searched};
 use ast::NodeId;
+use scopes::Resolved;
 use table::Found;
 use table::ScopeId;
 
@@ -224,8 +229,9 @@ fn collect_defined(
     if var == 0 {
         return collect_term(image, table, symbols, rows, count, term);
     }
-    let after = collect_term(image, table, symbols, rows, count, NodeId(var - 1));
-    collect_term(image, table, symbols, rows, after, term)
+    let variable = NodeId(var - 1);
+    let after_var = collect_term(image, table, symbols, rows, count, variable);
+    collect_term(image, table, symbols, rows, after_var, term)
 }
 
 fn collect_if_atom(
@@ -474,13 +480,20 @@ fn count_binding(counts: &mut [u32], binding: usize)
     }
 }
 
+// The binding of row i.
+fn binding_at(rows: &[u32], n: u32, i: u32) -> u32
+    ensures { λ r. ⌜ r ≡ getD (now (rows .entry)) (1 + n + i) 0 ⌝ }
+{
+    table::get(rows, 1 + ast::wide(n) + ast::wide(i))
+}
+
 // One more for the binding of each row.
 fn count_bindings(rows: &[u32], n: u32, count: u32, counts: &mut [u32])
     ensures { λ _. ⌜ now (counts .exit) ≡ claimAll (rights (readRows n (now (rows .entry)) count 0)) (now (counts .entry)) ⌝ }
 {
     let mut i = 0u32;
     while i < count {
-        let binding = table::get(rows, 1 + ast::wide(n) + ast::wide(i));
+        let binding = binding_at(rows, n, i);
         count_binding(counts, ast::wide(binding));
         i += 1;
     }
@@ -492,7 +505,7 @@ fn first_lone(rows: &[u32], n: u32, count: u32, counts: &[u32]) -> Checked
 {
     let mut i = 0u32;
     while i < count {
-        let binding = table::get(rows, 1 + ast::wide(n) + ast::wide(i));
+        let binding = binding_at(rows, n, i);
         if table::get(counts, ast::wide(binding)) < 2 {
             let node = table::get(rows, 1 + ast::wide(i));
             return Checked::Lone(NodeId(node), NodeId(binding));
@@ -508,7 +521,7 @@ fn uncount(rows: &[u32], n: u32, count: u32, counts: &mut [u32])
 {
     let mut i = 0u32;
     while i < count {
-        let binding = table::get(rows, 1 + ast::wide(n) + ast::wide(i));
+        let binding = binding_at(rows, n, i);
         table::put(counts, ast::wide(binding), 0);
         i += 1;
     }
@@ -582,4 +595,100 @@ fn check_decls(
         i += 1;
     }
     Checked::Ok
+}
+
+// The rows of all rules, in the list's order.
+fn collect_module(image: &[u8], table: &[u32], symbols: u32, rows: &mut [u32]) -> u32
+    requires { ⌜ Whole (now image) (sought (now table) symbols) ⌝ }
+    ensures { λ r. ⌜ Appended («image-spec».nodes (now (image .entry))) (occurrenceRows (now (image .entry)) (sought (now (table .entry)) symbols)) 0 (now (rows .entry)) r (now (rows .exit)) ⌝ }
+{
+    let root = NodeId(ast::node_count(image) - 1);
+    let size = ast::wide(ast::field(image, root, 0));
+    collect_decls(image, table, symbols, rows, 0, root, 1, size)
+}
+
+// Works in local arrays: one for the rows of a rule, one for the counts of its bindings.
+fn check_module(image: &[u8], table: &[u32], symbols: u32) -> Checked
+    requires { ⌜ (Whole (now image) (sought (now table) symbols)) × (Nodes (now image) (sought (now table) symbols)) ⌝ }
+    ensures { λ r. ⌜ loneOf r ≡ lone (rowsByRule (now (image .entry)) (sought (now (table .entry)) symbols) (moduleRules (now (image .entry)))) ⌝ }
+{
+    let root = NodeId(ast::node_count(image) - 1);
+    let size = ast::wide(ast::field(image, root, 0));
+    let mut rows = [0u32; 4097];
+    let mut counts = [0u32; 2048];
+    check_decls(image, table, symbols, &mut rows, &mut counts, root, 1, size)
+}
+
+// The rows of all rules in the lent words: a count, then two arrays of N words, unused places 0.
+fn write_rows(image: &[u8], table: &[u32], symbols: u32, rows: &mut [u32]) -> u32
+    requires { ⌜ (Whole (now image) (sought (now table) symbols)) × (rowsLength («image-spec».nodes (now image)) ≤ length (now rows)) ⌝ }
+    ensures { λ r. ⌜ (r ≡ length (occurrenceRows (now (image .entry)) (sought (now (table .entry)) symbols))) × (now (rows .exit) ≡ written («image-spec».nodes (now (image .entry))) (occurrenceRows (now (image .entry)) (sought (now (table .entry)) symbols)) (now (rows .entry))) ⌝ }
+{
+    rows::clear(rows, 1 + 2 * ast::wide(ast::node_count(image)));
+    let count = collect_module(image, table, symbols, rows);
+    table::put(rows, 0, count);
+    count
+}
+
+// The refusals of a call that is lent rows too: 1 to 14.
+fn test_rows(image: &[u8], table: &[u32], rows: &[u32]) -> u32
+    ensures { λ r. ⌜ r ≡ testRows (now (image .entry)) (now (table .entry)) (now (rows .entry)) ⌝ }
+{
+    let code = scopes::test_table(image, table);
+    if code != 0 {
+        return code;
+    }
+    if rows.len() < 1 + 2 * ast::wide(ast::node_count(image)) {
+        return 14;
+    }
+    0
+}
+
+// What Occurrences hands back: a refusal, a name that is declared twice with its two nodes, or the count of rows.
+pub enum Listed {
+    Refused(u32),
+    Twice(u32, NodeId, NodeId),
+    Rows(u32),
+}
+
+// Occurrences: resolves, then lists every variable occurrence with its binding.
+pub fn occurrences(image: &[u8], table: &mut [u32], rows: &mut [u32]) -> Listed
+    ensures { λ r. ⌜ «occurrences-spec».occurrences (now (image .entry)) (now (table .entry)) (now (rows .entry)) ≡ record { answer = listedAnswer r; table = now (table .exit); rows = now (rows .exit) } ⌝ }
+{
+    let code = test_rows(image, table, rows);
+    if code != 0 {
+        return Listed::Refused(code);
+    }
+    match scopes::resolve_into(image, table) {
+        Resolved::Refused(number) => Listed::Refused(number),
+        Resolved::Twice(name, first, second) => Listed::Twice(name, first, second),
+        Resolved::Scopes(_, symbols) => Listed::Rows(write_rows(image, table, symbols, rows)),
+    }
+}
+
+// What Once hands back: a refusal, a name that is declared twice with its two nodes, "ok", or the first lone occurrence with
+// its binding.
+pub enum Once {
+    Refused(u32),
+    Twice(u32, NodeId, NodeId),
+    Ok,
+    Lone(NodeId, NodeId),
+}
+
+// Once: resolves, then looks for the first lone occurrence.
+pub fn check_occurrences(image: &[u8], table: &mut [u32]) -> Once
+    ensures { λ r. ⌜ «occurrences-spec».once (now (image .entry)) (now (table .entry)) ≡ record { answer = checkedAnswer r; table = now (table .exit) } ⌝ }
+{
+    let code = scopes::test_table(image, table);
+    if code != 0 {
+        return Once::Refused(code);
+    }
+    match scopes::resolve_into(image, table) {
+        Resolved::Refused(number) => Once::Refused(number),
+        Resolved::Twice(name, first, second) => Once::Twice(name, first, second),
+        Resolved::Scopes(_, symbols) => match check_module(image, table, symbols) {
+            Checked::Ok => Once::Ok,
+            Checked::Lone(node, binding) => Once::Lone(node, binding),
+        },
+    }
 }

@@ -1,1 +1,11 @@
 pub mod Lookups
+pub mod Adds
+pub mod Clashes
+pub mod Namings
+pub mod Moves
+pub mod Resolving
+pub mod Declaring
+pub mod Stamps
+pub mod Entries
+pub mod Visiting
+pub mod Rooting

@@ -4,8 +4,16 @@ use Prim.Native.Nat.{ℕ}
 use Rattle.ast.specs.Answer.{Answer, refused, twice, result, other}
 use Rattle.scopes.specs.declared.Looked.{Looked}
 use Rattle.scopes.specs.declared.Looked.the-variants as looked
+use Rattle.scopes.specs.declared.Resolved.{Resolved}
+use Rattle.scopes.specs.declared.Resolved.the-variants as resolved
 use Rattle.scopes.specs.declared.Numbered.{Numbered}
 use Rattle.scopes.specs.declared.Numbered.the-variants as numbered
+
+-- Resolve: K and Y, or a name that is declared twice with its two nodes
+abbrev pub resolvedAnswer : Resolved → Answer
+resolvedAnswer (resolved.Refused number) = refused number
+resolvedAnswer (resolved.Twice name first second) = twice name (first .0) (second .0)
+resolvedAnswer (resolved.Scopes k y) = result k y
 
 -- Lookup: a symbol number with its node, or none
 abbrev pub lookedAnswer : Looked → Answer

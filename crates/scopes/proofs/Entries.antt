@@ -1,0 +1,444 @@
+-- Entering the names of a declaration list: what each function over it is handed, and hands on.
+use mathlib.Core.Path.{_≡_, refl, sym, ap, subst, _∙_, fun-ext}
+use mathlib.Core.Bool.{Bool, true, false}
+use mathlib.Core.List.{List, [], _∷_}
+use mathlib.Core.Option.{Option, none as nothing, some}
+use Prim.Native.Nat.{ℕ, zero, suc, _+_, _-_, _<_, _≤_}
+use native.Mathlib.Omega.{arith}
+use native.Mathlib.Nat.{sub-zero, add-zero}
+use lib.Dec.{eqb}
+use lib.ListN.{length, getD, set, drop}
+use lib.Seq.{getD-set-same}
+use Rattle.ast.specs.Image.{nodes, kindAt, field, nameOf}
+use Rattle.ast.specs.Is.{Is, kindBy}
+use Rattle.ast.specs.Items.{items, below}
+use Rattle.ast.specs.Kinds.{Class, outer, decl, signature, Field, name, child, noChild, Kind, kindOf}
+use Rattle.ast.specs.Tree.{Tree, node, Trees, none, _◂_, ordered, treeAt}
+use Rattle.ast.proofs.Accepted.{sized}
+use Rattle.ast.proofs.Row.{append, append-none, Child, FormedFields, next, nodeOf}
+use Rattle.ast.proofs.Shapes.{row, tree-of, child-is, case-kids, case-one, case-child, case-last, items-more}
+use Rattle.ast.proofs.Small.{tree-small}
+use Rattle.table.specs.Layout.{tableLength}
+use Rattle.table.specs.State.{Exit, ownSymbol, marked}
+use Rattle.table.specs.Table.{find, findFrom, mark}
+use Rattle.table.specs.Values.{exitOf}
+use Rattle.table.specs.declared.Walked.{Walked}
+use Rattle.ast.specs.declared.NodeId.{NodeId}
+use Rattle.ordered.proofs.Size.{size}
+use Rattle.ordered.proofs.Kept.{past, mark-past, mark-length, symbol-past}
+use Rattle.scopes.specs.Walk.{Listed, done, twice, enterName, enterRule, andThen, enter, enterAll, visit}
+use Rattle.scopes.specs.Lists.{listedOf, ent, ents, vis, restEnter, Seen, Entering, Enters, Signature, Lists, Stamped}
+use Rattle.scopes.specs.declared.Declared.{Declared}
+use Rattle.scopes.specs.declared.Declared.the-variants.{Done, Twice}
+use Rattle.scopes.proofs.Adds.{Went, done-same, twice-done, name-in, enter-in}
+use Rattle.scopes.proofs.Stamps.{seen-none, seen-stamp, seen-symbol, seen-marked}
+
+-- the last case is the one left
+pub last-case : (x : ℕ) → x < 7 → (x ≡ 0 → ⊥) → (x ≡ 1 → ⊥) → (x ≡ 2 → ⊥) → (x ≡ 3 → ⊥) → (x ≡ 4 → ⊥) → (x ≡ 5 → ⊥) → 6 ≡ x
+last-case zero l a b c d e f = absurd (a refl)
+last-case (suc zero) l a b c d e f = absurd (b refl)
+last-case (suc (suc zero)) l a b c d e f = absurd (c refl)
+last-case (suc (suc (suc zero))) l a b c d e f = absurd (d refl)
+last-case (suc (suc (suc (suc zero)))) l a b c d e f = absurd (e refl)
+last-case (suc (suc (suc (suc (suc zero))))) l a b c d e f = absurd (f refl)
+last-case (suc (suc (suc (suc (suc (suc x)))))) l a b c d e f = omega arith
+
+module _ (img : List ℕ) where
+  -- before a call --------------------------------------------------------------------------------------------------------
+  pub entering-less : {seen : List ℕ} {a m : ℕ} {e : Exit} → a ≤ m → Entering img seen m e → Entering img seen a e
+  entering-less h p = record { accepted = p .accepted; live = p .live; room = (let r = p .room in omega arith); long = p .long; stamps = p .stamps }
+
+  pub entering-marked : {seen : List ℕ} {n m : ℕ} {e f : Exit} → f ≡ marked img n (e .scope) e → n < nodes img → Entering img seen m e → Entering img seen m f
+  unfolding marked mark
+  entering-marked {seen} {n} {m} {e} {f} q l p =
+      subst (Entering img seen m) (sym q)
+      (record {
+        accepted = p .accepted;
+        live = p .live;
+        room = p .room;
+        long = (let y = mark-length img n (e .scope) (e .scope) (e .table) in let z = p .long in omega arith);
+        stamps = seen-marked img (e .scope) e l (p .stamps);
+      })
+
+  pub entering-next : {Q : Exit → Type 0} {seen vs : List ℕ} {a m : ℕ} {e f : Exit} → Entering img seen (a + m) e → Went img Q 0 a e f → Seen img vs f → Entering img vs m f
+  entering-next p w s =
+      record {
+        accepted = p .accepted;
+        live = (let y = w .same in let z = p .live in omega arith);
+        room = (let y = w .symbols in let z = p .room in omega arith);
+        long = (let y = w .long in let z = p .long in omega arith);
+        stamps = s;
+      }
+
+  -- a word has room for what is counted
+  pub few-words : {seen : List ℕ} {m : ℕ} {e : Exit} → Entering img seen m e → nodes img ≤ 2048
+  few-words p = (sized img (p .accepted)) .fewNodes
+
+  -- after a call ---------------------------------------------------------------------------------------------------------
+  pub past-marked : (n cur : ℕ) (e : Exit) {f : Exit} → f ≡ marked img n cur e → n < nodes img → past img (f .table) ≡ past img (e .table)
+  unfolding marked
+  past-marked n cur e q l = ap (λ (g : Exit). past img (g .table)) q ∙ mark-past img n cur (e .scope) (e .table) l
+
+  -- the same, told of another list and from an earlier table
+  pub enters-as : {l k : Listed} {us ws seen vs : List ℕ} {r : Declared} → l ≡ k → drop (tableLength (nodes img)) us ≡ drop (tableLength (nodes img)) ws
+      → Enters img l us r seen vs → Enters img k ws r seen vs
+  enters-as q h p = record { same = p .same ∙ q; stamps = λ f d. p .stamps f (q ∙ d); passed = p .passed ∙ h }
+
+  -- one name -------------------------------------------------------------------------------------------------------------
+  found-here : (n : ℕ) (e : Exit) (x : ℕ) (o : Option ℕ) → x ≡ nameOf img n → o ≡ findFrom img (e .table .symbols) (e .table .words) 0 (e .scope) x
+      → find img (e .table) (e .scope) (nameOf img n) ≡ o
+  unfolding find
+  found-here n e x o q p = sym (p ∙ ap (findFrom img (e .table .symbols) (e .table .words) 0 (e .scope)) q)
+
+  named : ℕ → Exit → Option ℕ → Listed
+  named n e o = elim o [ nothing ↦ done (ownSymbol img n e) | some first ↦ twice (nameOf img n) first n ]
+
+  enter-new : (n : ℕ) (e : Exit) (x : ℕ) → x ≡ nameOf img n → nothing ≡ findFrom img (e .table .symbols) (e .table .words) 0 (e .scope) x
+      → enterName img n e ≡ done (ownSymbol img n e)
+  unfolding enterName named
+  enter-new n e x q p = ap (named n e) (found-here n e x nothing q p)
+
+  enter-twice : (n : ℕ) (e : Exit) (x a : ℕ) → x ≡ nameOf img n → some a ≡ findFrom img (e .table .symbols) (e .table .words) 0 (e .scope) x
+      → enterName img n e ≡ twice x a n
+  unfolding enterName named
+  enter-twice n e x a q p = ap (named n e) (found-here n e x (some a) q p) ∙ ap (λ (y : ℕ). twice y a n) (sym q)
+
+  module _ {seen : List ℕ} {e : Exit} (p : Entering img seen 1 e) (n x : ℕ) (name-is : x ≡ nameOf img n) where
+    entered : {us vs : List ℕ} (w : Walked) → nothing ≡ findFrom img (e .table .symbols) (e .table .words) 0 (e .scope) x → exitOf w vs ≡ ownSymbol img n e
+        → Seen img us (ownSymbol img n e) → Enters img (enterName img n e) (e .table .words) (Done w) us vs
+    unfolding ownSymbol
+    entered {us} {vs} w h q s =
+        let g = enter-new n e x name-is h in
+        record {
+          same = ap done q ∙ sym g;
+          stamps = λ f d. subst (Seen img us) (done-same (ownSymbol img n e) f (sym g ∙ d)) s;
+          passed = ap (λ (f : Exit). past img (f .table)) q ∙ symbol-past img (e .scope) n (e .table) (let z = p .room in omega arith);
+        }
+
+    few : e .table .symbols < nodes img
+    few = let z = p .room in omega arith
+
+    -- its stamp was not there
+    pub enters-new : {us vs : List ℕ} {b : Bool} (w : Walked) → Stamped seen x (e .scope) b us → b ≡ true → exitOf w vs ≡ ownSymbol img n e
+        → Enters img (enterName img n e) (e .table .words) (Done w) us vs
+    enters-new {us} {vs} {b} w t q h =
+        let (a, l, d) = t .new q in
+        entered w (sym (seen-none img x (p .stamps) l a)) h
+        (subst (λ (vs : List ℕ). Seen img vs (ownSymbol img n e)) (sym d)
+        (seen-symbol img n e few (p .long) (λ k. ap (λ (y : ℕ). getD (set seen x (suc (e .scope))) y 0) (sym name-is) ∙ getD-set-same seen x (suc (e .scope)) 0 l) (seen-stamp img x (p .stamps))))
+
+    -- it was there, but the scope does not have the name
+    pub enters-old : {us vs : List ℕ} {b : Bool} (w : Walked) → Stamped seen x (e .scope) b us → b ≡ false
+        → nothing ≡ findFrom img (e .table .symbols) (e .table .words) 0 (e .scope) x → exitOf w vs ≡ ownSymbol img n e
+        → Enters img (enterName img n e) (e .table .words) (Done w) us vs
+    enters-old {us} {vs} {b} w t q o h =
+        let (a, d) = t .old q in
+        entered w o h
+        (subst (λ (vs : List ℕ). Seen img vs (ownSymbol img n e)) (sym d)
+        (seen-symbol img n e few (p .long) (λ k. ap (λ (y : ℕ). getD seen y 0) (sym name-is) ∙ a (subst (λ (y : ℕ). y < length seen) (sym name-is) k)) (p .stamps)))
+
+    -- the scope has it
+    pub enters-twice : {us : List ℕ} (a b : NodeId) → some (a .0) ≡ findFrom img (e .table .symbols) (e .table .words) 0 (e .scope) x → b .0 ≡ n
+        → Enters img (enterName img n e) (e .table .words) (Twice x a b) us (e .table .words)
+    enters-twice a b o q =
+        let g = enter-twice n e x (a .0) name-is o in
+        record { same = ap (twice x (a .0)) q ∙ sym g; stamps = λ f d. absurd (twice-done x (a .0) n f (sym g ∙ d)); passed = refl }
+
+  -- what follows a name, or a declaration -----------------------------------------------------------------------------------
+  pub and-done : (f : Exit) (g : Exit → Listed) (l : Listed) → l ≡ done f → andThen img l g ≡ g f
+  unfolding andThen
+  and-done f g l h = ap (λ (m : Listed). andThen img m g) h
+
+  pub and-stop : (x a b : ℕ) (g : Exit → Listed) (l : Listed) → l ≡ twice x a b → andThen img l g ≡ twice x a b
+  unfolding andThen
+  and-stop x a b g l h = ap (λ (m : Listed). andThen img m g) h
+
+  and-nothing : (l : Listed) → andThen img l (λ f. done f) ≡ l
+  unfolding andThen
+  and-nothing (done e) = refl
+  and-nothing (twice x a b) = refl
+
+  -- a declaration by its kind ------------------------------------------------------------------------------------------------
+  pub signed : {fs : List Field} {n : ℕ} → Is img (kindBy (outer signature) fs) n → Signature img n
+  signed is = record { accepted = is .accepted; below = is .below; class = ap (λ (k : Kind). k .class) (is .kind) }
+
+  pub sig-enter : {n : ℕ} (e : Exit) → Signature img n → (enter img (treeAt img n) e ≡ enterName img n (marked img n (e .scope) e)) × (ent (treeAt img n) ≡ 1)
+  unfolding enter ent nodeOf
+  sig-enter {n} e s =
+      let is : Is img (kindBy (outer signature) ((kindOf (kindAt img n)) .fields)) n = record { accepted = s .accepted; below = s .below; kind = ap (λ (c : Class). kindBy c ((kindOf (kindAt img n)) .fields)) (s .class) } in
+      subst (λ (u : Tree). (enter img u e ≡ enterName img n (marked img n (e .scope) e)) × (ent u ≡ 1)) (sym (tree-of img is)) (refl, refl)
+
+  pub model-enter : {n : ℕ} (e : Exit) → Is img (kindOf 8) n → (enter img (treeAt img n) e ≡ enterName img n e) × (ent (treeAt img n) ≡ 1)
+  unfolding enter ent nodeOf kindOf
+  model-enter {n} e is = subst (λ (u : Tree). (enter img u e ≡ enterName img n e) × (ent u ≡ 1)) (sym (tree-of img is)) (refl, refl)
+
+  ruled : ℕ → ℕ → Exit → Listed
+  ruled n x e = enterRule img (elim x [ zero ↦ 0 | suc m ↦ 1 ] ∷ field img n 1 ∷ []) n e
+
+  rule-enter : {n : ℕ} (e : Exit) → Is img (kindOf 6) n → (enter img (treeAt img n) e ≡ ruled n (field img n 0) (marked img n (e .scope) e)) × (ent (treeAt img n) ≡ 1)
+  unfolding enter ent nodeOf kindOf ruled
+  rule-enter {n} e is = subst (λ (u : Tree). (enter img u e ≡ ruled n (field img n 0) (marked img n (e .scope) e)) × (ent u ≡ 1)) (sym (tree-of img is)) (refl, refl)
+
+  ruled-none : (n : ℕ) (e : Exit) → ruled n 0 e ≡ done e
+  unfolding ruled enterRule
+  ruled-none n e = refl
+
+  ruled-some : (n m : ℕ) (e : Exit) → ruled n (suc m) e ≡ enterName img n e
+  unfolding ruled enterRule
+  ruled-some n m e = refl
+
+  pub rule-unnamed : {n : ℕ} (e : Exit) → Is img (kindOf 6) n → field img n 0 ≡ 0 → enter img (treeAt img n) e ≡ done (marked img n (e .scope) e)
+  rule-unnamed {n} e is z = (rule-enter e is) .0 ∙ ap (λ (x : ℕ). ruled n x (marked img n (e .scope) e)) z ∙ ruled-none n _
+
+  pub rule-named : {n : ℕ} (e : Exit) → Is img (kindOf 6) n → (field img n 0 ≡ 0 → ⊥) → enter img (treeAt img n) e ≡ enterName img n (marked img n (e .scope) e)
+  rule-named {n} e is z = (rule-enter e is) .0 ∙ go (field img n 0) z
+    where
+      go : (x : ℕ) → (x ≡ 0 → ⊥) → ruled n x (marked img n (e .scope) e) ≡ enterName img n (marked img n (e .scope) e)
+      go zero y = absurd (y refl)
+      go (suc m) y = ruled-some n m _
+
+  -- how many names they may add
+  abbrev nowhere : Exit
+  nowhere = record { scope = 0; table = record { words = []; scopes = 0; symbols = 0 } }
+
+  pub rule-ent : {n : ℕ} → Is img (kindOf 6) n → ent (treeAt img n) ≡ 1
+  rule-ent is = (rule-enter nowhere is) .1
+
+  pub model-ent : {n : ℕ} → Is img (kindOf 8) n → ent (treeAt img n) ≡ 1
+  model-ent is = (model-enter nowhere is) .1
+
+  -- an unnamed rule is only marked
+  pub rule-passes : {seen : List ℕ} {m n : ℕ} {e : Exit} {vs : List ℕ} (w : Walked) → Is img (kindOf 6) n → Entering img seen m e → field img n 0 ≡ 0
+      → exitOf w vs ≡ marked img n (e .scope) e → Enters img (enter img (treeAt img n) e) (e .table .words) (Done w) seen vs
+  rule-passes {seen} {m} {n} {e} w is p z q =
+      let g = rule-unnamed e is z in
+      record {
+        same = ap done q ∙ sym g;
+        stamps = λ f d. subst (Seen img seen) (done-same (marked img n (e .scope) e) f (sym g ∙ d)) (seen-marked img (e .scope) e (is .below) (p .stamps));
+        passed = past-marked n (e .scope) e q (is .below);
+      }
+
+  -- a list of items: what is left of it -----------------------------------------------------------------------------------
+  enter-more : (n j count i : ℕ) (e : Exit) → i < count → restEnter img n j count i e ≡ andThen img (enter img (treeAt img (field img n (j + i))) e) (restEnter img n j count (i + 1))
+  unfolding restEnter enter
+  enter-more n j count i e h = ap (λ (us : Trees). enterAll img us e) (items-more img n j count i h)
+
+  enter-end : (n j count i : ℕ) (e : Exit) → count ≤ i → restEnter img n j count i e ≡ done e
+  unfolding restEnter enter items
+  enter-end n j count i e h = let z : count - i ≡ 0 = omega arith in ap (λ (c : ℕ). enterAll img (items img n c (j + i)) e) z
+
+  pub same-items : (n j count : ℕ) → items img n count j ≡ items img n (count - 0) (j + 0)
+  same-items n j count = ap (λ (c : ℕ). items img n c j) (sym (sub-zero count)) ∙ ap (items img n (count - 0)) (sym (add-zero j))
+
+  pub enter-start : (n j count : ℕ) (e : Exit) → enterAll img (items img n count j) e ≡ restEnter img n j count 0 e
+  unfolding restEnter
+  enter-start n j count e = ap (λ (us : Trees). enterAll img us e) (same-items n j count)
+
+  ents-more : (n j count i : ℕ) → i < count → ents (items img n (count - i) (j + i)) ≡ ent (treeAt img (field img n (j + i))) + ents (items img n (count - (i + 1)) (j + (i + 1)))
+  unfolding ent
+  ents-more n j count i h = ap ents (items-more img n j count i h)
+
+  -- a loop over the items: after i of them it stands at f
+  pub record EnterLeft (seen : List ℕ) (n j count i : ℕ) (e f : Exit) : Type 0 where
+    pub within : i ≤ count
+    pub long : length (f .table .words) ≡ length (e .table .words)
+    pub entering : Entering img seen (ents (items img n (count - i) (j + i))) f
+    pub passed : past img (f .table) ≡ past img (e .table)
+    pub left : restEnter img n j count 0 e ≡ restEnter img n j count i f
+
+  pub enter-begin : {seen : List ℕ} {n j count : ℕ} {e : Exit} → Entering img seen (ents (items img n count j)) e → EnterLeft seen n j count 0 e e
+  enter-begin {seen} {n} {j} {count} {e} p =
+      record { within = omega arith; long = refl; entering = subst (λ (us : Trees). Entering img seen (ents us) e) (same-items n j count) p; passed = refl; left = refl }
+
+  pub record EnterItem (seen : List ℕ) (n j count i c : ℕ) (e f : Exit) : Type 0 where
+    pub entering : Entering img seen (ent (treeAt img c)) f
+    pub more : {us : List ℕ} {r : Declared} {vs : List ℕ} (w : Walked) → r ≡ Done w → Enters img (enter img (treeAt img c) f) (f .table .words) r us vs → EnterLeft us n j count (i + 1) e (exitOf w vs)
+    pub stop : {us : List ℕ} {r : Declared} {vs : List ℕ} (x : ℕ) (a b : NodeId) → r ≡ Twice x a b → Enters img (enter img (treeAt img c) f) (f .table .words) r us vs
+        → Enters img (restEnter img n j count 0 e) (e .table .words) (Twice x a b) us vs
+
+  pub enterItem : {seen : List ℕ} {n j count i c : ℕ} {e f : Exit} → EnterLeft seen n j count i e f → i < count → c ≡ field img n (j + i) → EnterItem seen n j count i c e f
+  enterItem {seen} {n} {j} {count} {i} {c} {e} {f} b l q =
+      subst (λ (x : ℕ). EnterItem seen n j count i x e f) (sym q)
+      (record {
+        entering = entering-less (let s = ents-more n j count i l in omega arith) (b .entering);
+        more = λ {us} {r} {vs} w d p. after w d p;
+        stop = λ {us} {r} {vs} x a z d p.
+            let h : enter img (treeAt img m) f ≡ twice x (a .0) (z .0) = sym (p .same) ∙ ap (λ (o : Declared). listedOf o vs) d in
+            let g = b .left ∙ enter-more n j count i f l ∙ and-stop x (a .0) (z .0) (restEnter img n j count (i + 1)) _ h in
+            record { same = sym g; stamps = λ k t. absurd (twice-done x (a .0) (z .0) k (sym g ∙ t)); passed = p .passed ∙ b .passed };
+      })
+    where
+      m : ℕ
+      m = field img n (j + i)
+
+      after : {us : List ℕ} {r : Declared} {vs : List ℕ} (w : Walked) → r ≡ Done w → Enters img (enter img (treeAt img m) f) (f .table .words) r us vs → EnterLeft us n j count (i + 1) e (exitOf w vs)
+      after {us} {r} {vs} w d p =
+          let h : enter img (treeAt img m) f ≡ done (exitOf w vs) = sym (p .same) ∙ ap (λ (o : Declared). listedOf o vs) d in
+          let t = (enter-in img (treeAt img m) (tree-small img m) f) .went (exitOf w vs) h in
+          record {
+            within = omega arith;
+            long = t .long ∙ b .long;
+            entering = entering-next (subst (λ (y : ℕ). Entering img seen y f) (ents-more n j count i l) (b .entering)) t (p .stamps (exitOf w vs) h);
+            passed = p .passed ∙ b .passed;
+            left = b .left ∙ enter-more n j count i f l ∙ and-done (exitOf w vs) (restEnter img n j count (i + 1)) _ h;
+          }
+
+  pub enter-ended : {seen : List ℕ} {n j count i : ℕ} {e : Exit} {vs : List ℕ} (w : Walked) → EnterLeft seen n j count i e (exitOf w vs) → count ≤ i
+      → Enters img (restEnter img n j count 0 e) (e .table .words) (Done w) seen vs
+  enter-ended {seen} {n} {j} {count} {i} {e} {vs} w b l =
+      let g = b .left ∙ enter-end n j count i (exitOf w vs) l in
+      record { same = sym g; stamps = λ f d. subst (Seen img seen) (done-same (exitOf w vs) f (sym g ∙ d)) (b .entering .stamps); passed = b .passed }
+
+  -- an enum: its own name, then its constructors' -----------------------------------------------------------------------------
+  pub ctor-is : {n i c : ℕ} → Is img (kindOf 7) n → i < field img n 1 → c ≡ field img n (2 + i) → Is img (kindBy (outer signature) (name ∷ child 11 ∷ [])) c
+  unfolding FormedFields next kindOf
+  ctor-is {n} {i} {c} is l q =
+      let h : Child img n 9 (field img n (2 + i)) = (row img is) .1 .0 i l in
+      subst (Is img (kindBy (outer signature) (name ∷ child 11 ∷ []))) (sym q) (child-is img is h)
+
+  enum-enter : {n : ℕ} (e : Exit) → Is img (kindOf 7) n
+      → (enter img (treeAt img n) e ≡ andThen img (enterName img n (marked img n (e .scope) e)) (λ f. enterAll img (append (items img n (field img n 1) 2) none) f)) × (ent (treeAt img n) ≡ 1 + ents (append (items img n (field img n 1) 2) none))
+  unfolding enter ent nodeOf kindOf
+  enum-enter {n} e is =
+      subst (λ (u : Tree). (enter img u e ≡ andThen img (enterName img n (marked img n (e .scope) e)) (λ f. enterAll img (append (items img n (field img n 1) 2) none) f)) × (ent u ≡ 1 + ents (append (items img n (field img n 1) 2) none)))
+      (sym (tree-of img is)) (refl, refl)
+
+  sig-ents : (n c j : ℕ) → ((i : ℕ) → i < c → Signature img (field img n (j + i))) → ents (items img n c j) ≡ c
+  unfolding ent items
+  sig-ents n zero j h = refl
+  sig-ents n (suc c) j h =
+      let a : ent (treeAt img (field img n j)) ≡ 1 = (sig-enter nowhere (subst (λ (x : ℕ). Signature img (field img n x)) (add-zero j) (h 0 (omega arith)))) .1 in
+      let b = sig-ents n c (j + 1) (λ i l. subst (λ (x : ℕ). Signature img (field img n x)) (let q : j + suc i ≡ j + 1 + i = omega arith in q) (h (suc i) (omega arith))) in
+      omega arith
+
+  pub ctor-ents : {n : ℕ} → Is img (kindOf 7) n → ents (items img n (field img n 1) 2) ≡ field img n 1
+  ctor-ents {n} is = sig-ents n (field img n 1) 2 (λ i l. signed (ctor-is {i = i} is l refl))
+
+  -- a constructor's name, of its enum's list
+  pub ctor-begin : {seen : List ℕ} {n : ℕ} {e : Exit} → Is img (kindOf 7) n → Entering img seen (field img n 1) e → EnterLeft seen n 2 (field img n 1) 0 e e
+  ctor-begin {seen} {n} {e} is p = enter-begin (subst (λ (m : ℕ). Entering img seen m e) (sym (ctor-ents is)) p)
+
+  pub sig-entering : {seen : List ℕ} {n : ℕ} {e : Exit} → Signature img n → Entering img seen (ent (treeAt img n)) e → Entering img seen 1 e
+  sig-entering {seen} {n} {e} s p = entering-less (let z = (sig-enter e s) .1 in omega arith) p
+
+  pub enum-whole : {n : ℕ} (e : Exit) → Is img (kindOf 7) n → enter img (treeAt img n) e ≡ andThen img (enterName img n (marked img n (e .scope) e)) (restEnter img n 2 (field img n 1) 0)
+  enum-whole {n} e is =
+      (enum-enter e is) .0
+      ∙ ap (andThen img (enterName img n (marked img n (e .scope) e))) (fun-ext (λ f. ap (λ (us : Trees). enterAll img us f) (append-none (items img n (field img n 1) 2)) ∙ enter-start n 2 (field img n 1) f))
+
+  pub enum-ent : {n : ℕ} → Is img (kindOf 7) n → ent (treeAt img n) ≡ 1 + field img n 1
+  enum-ent {n} is = (enum-enter nowhere is) .1 ∙ ap (λ (us : Trees). 1 + ents us) (append-none (items img n (field img n 1) 2)) ∙ ap (λ (x : ℕ). 1 + x) (ctor-ents is)
+
+  pub record EnumEnter (seen : List ℕ) (n : ℕ) (e f : Exit) : Type 0 where
+    pub own : Entering img seen 1 f
+    pub ctors : {us vs : List ℕ} {r : Declared} (w : Walked) → r ≡ Done w → Enters img (enterName img n f) (f .table .words) r us vs → Entering img us (field img n 1) (exitOf w vs)
+    pub enters : {us vs qs ws : List ℕ} {r o : Declared} (w : Walked) → r ≡ Done w → Enters img (enterName img n f) (f .table .words) r us vs
+        → Enters img (restEnter img n 2 (field img n 1) 0 (exitOf w vs)) vs o qs ws → Enters img (enter img (treeAt img n) e) (e .table .words) o qs ws
+    pub stop : {us vs : List ℕ} {r : Declared} (x : ℕ) (a b : NodeId) → r ≡ Twice x a b → Enters img (enterName img n f) (f .table .words) r us vs
+        → Enters img (enter img (treeAt img n) e) (e .table .words) (Twice x a b) us vs
+
+  pub enumEnter : {seen : List ℕ} {n : ℕ} {e f : Exit} → Is img (kindOf 7) n → Entering img seen (ent (treeAt img n)) e → f ≡ marked img n (e .scope) e → EnumEnter seen n e f
+  enumEnter {seen} {n} {e} {f} is p q =
+      record {
+        own = entering-less (omega arith) both;
+        ctors = λ {us} {vs} {r} w d h. let g = named-as w d h in entering-next both ((name-in img n f) .went (exitOf w vs) g) (h .stamps (exitOf w vs) g);
+        enters = λ {us} {vs} {qs} {ws} {r} {o} w d h k.
+            let z = whole ∙ and-done (exitOf w vs) (restEnter img n 2 (field img n 1) 0) _ (named-as w d h) in
+            record { same = k .same ∙ sym z; stamps = λ g t. k .stamps g (sym z ∙ t); passed = k .passed ∙ h .passed ∙ past-marked n (e .scope) e q (is .below) };
+        stop = λ {us} {vs} {r} x a b d h.
+            let z = whole ∙ and-stop x (a .0) (b .0) (restEnter img n 2 (field img n 1) 0) _ (sym (h .same) ∙ ap (λ (o : Declared). listedOf o vs) d) in
+            record { same = sym z; stamps = λ g t. absurd (twice-done x (a .0) (b .0) g (sym z ∙ t)); passed = h .passed ∙ past-marked n (e .scope) e q (is .below) };
+      }
+    where
+      both : Entering img seen (1 + field img n 1) f
+      both = entering-marked q (is .below) (subst (λ (m : ℕ). Entering img seen m e) (enum-ent is) p)
+
+      whole : enter img (treeAt img n) e ≡ andThen img (enterName img n f) (restEnter img n 2 (field img n 1) 0)
+      whole = enum-whole e is ∙ ap (λ (g : Exit). andThen img (enterName img n g) (restEnter img n 2 (field img n 1) 0)) (sym q)
+
+      named-as : {us vs : List ℕ} {r : Declared} (w : Walked) → r ≡ Done w → Enters img (enterName img n f) (f .table .words) r us vs → enterName img n f ≡ done (exitOf w vs)
+      named-as {us} {vs} {r} w d h = sym (h .same) ∙ ap (λ (o : Declared). listedOf o vs) d
+
+  -- an item of a list
+  pub item-is : {k n j count i c : ℕ} → Lists img k n j count → i < count → c ≡ field img n (j + i) → Is img (kindOf k) c
+  item-is {k} {n} {j} {count} {i} p l q =
+      subst (Is img (kindOf k)) (sym q) (record { accepted = p .accepted; below = (let u = p .below in let v = p .lower i l in omega arith); kind = ap kindOf (p .kinds i l) })
+
+  -- a Decl: what its declaration is -----------------------------------------------------------------------------------------
+  abbrev pub declKinds : List ℕ
+  declKinds = 2 ∷ 3 ∷ 4 ∷ 5 ∷ 6 ∷ 7 ∷ 8 ∷ []
+
+  pub record DeclOf (k n d : ℕ) : Type 0 where
+    pub low : d < n
+    pub is : Is img (kindOf k) d
+    pub tree : treeAt img n ≡ node n (kindAt img n) (outer decl) (field img n 0 ∷ []) (treeAt img d ◂ none)
+
+  decl-tree : {n : ℕ} → Is img (kindOf 1) n → treeAt img n ≡ node n (kindAt img n) (outer decl) (field img n 0 ∷ []) (below (treeAt img n))
+  unfolding nodeOf kindOf
+  decl-tree {n} is = subst (λ (u : Tree). u ≡ node n (kindAt img n) (outer decl) (field img n 0 ∷ []) (below u)) (sym (tree-of img is)) refl
+
+  pub declOf : {n d : ℕ} → Is img (kindOf 1) n → (c : ℕ) → c ≡ field img n 0 → d ≡ field img n 1 → eqb (getD declKinds c noChild) noChild ≡ false → DeclOf (getD declKinds c noChild) n d
+  unfolding kindOf ordered
+  declOf {n} {d} is c q r s =
+      let h = case-child img (outer decl) declKinds is c d q r s in
+      record {
+        low = h .below;
+        is = child-is img is h;
+        tree =
+            decl-tree is
+            ∙ ap (λ (ts : Trees). node n (kindAt img n) (outer decl) (field img n 0 ∷ []) ts) (case-kids img (outer decl) declKinds is (λ ts. refl) c q ∙ case-one img declKinds n c s ∙ ap (λ (x : ℕ). treeAt img x ◂ none) (sym r));
+      }
+
+  module _ {k n d : ℕ} (o : DeclOf k n d) where
+    pub decl-entered : (e : Exit) → enter img (treeAt img n) e ≡ enter img (treeAt img d) (marked img n (e .scope) e)
+    unfolding enter
+    decl-entered e = ap (λ (u : Tree). enter img u e) (o .tree) ∙ and-nothing (enter img (treeAt img d) (marked img n (e .scope) e))
+
+    pub decl-visited : (e : Exit) → visit img (treeAt img n) e ≡ visit img (treeAt img d) e
+    unfolding visit
+    decl-visited e = ap (λ (u : Tree). visit img u e) (o .tree) ∙ and-nothing (visit img (treeAt img d) e)
+
+    pub decl-ent : ent (treeAt img n) ≡ ent (treeAt img d) + 0
+    unfolding ent
+    decl-ent = ap ent (o .tree)
+
+    pub decl-vis : vis (treeAt img n) ≡ vis (treeAt img d) + 0
+    unfolding vis
+    decl-vis = ap vis (o .tree)
+
+    pub decl-size : size (treeAt img n) ≡ suc (size (treeAt img d) + 0)
+    unfolding size
+    decl-size = ap size (o .tree)
+
+  pub decl-last : {n : ℕ} → Is img (kindOf 1) n → field img n 0 < 7
+  unfolding kindOf
+  decl-last is = case-last img (outer decl) declKinds is
+
+  -- the declaration entered, after its Decl is marked
+  pub record DeclEnter (seen : List ℕ) (n d : ℕ) (e f : Exit) : Type 0 where
+    pub entering : Entering img seen (ent (treeAt img d)) f
+    pub enters : {us : List ℕ} {r : Declared} {vs : List ℕ} → Enters img (enter img (treeAt img d) f) (f .table .words) r us vs → Enters img (enter img (treeAt img n) e) (e .table .words) r us vs
+
+  pub declEnter : {seen : List ℕ} {k n d : ℕ} {e f : Exit} → DeclOf k n d → n < nodes img → Entering img seen (ent (treeAt img n)) e → f ≡ marked img n (e .scope) e → DeclEnter seen n d e f
+  declEnter {seen} {k} {n} {d} {e} {f} o l p q =
+      record {
+        entering = entering-marked q l (entering-less (let z = decl-ent o in omega arith) p);
+        enters = λ h. enters-as (ap (enter img (treeAt img d)) q ∙ sym (decl-entered o e)) (past-marked n (e .scope) e q l) h;
+      }
+
+  -- the Decl of a type, a pred, a func or a const
+  pub record SigDecl (n d : ℕ) : Type 0 where
+    pub kind : ℕ
+    pub of : DeclOf kind n d
+    pub is : Signature img d
+
+  pub sigDecl : {n d : ℕ} → Is img (kindOf 1) n → field img n 0 < 4 → d ≡ field img n 1 → SigDecl n d
+  unfolding kindOf
+  sigDecl {n} {d} is l r = go (field img n 0) refl l
+    where
+      go : (c : ℕ) → c ≡ field img n 0 → c < 4 → SigDecl n d
+      go zero q h = let o = declOf is 0 q r refl in record { kind = 2; of = o; is = signed (o .is) }
+      go (suc zero) q h = let o = declOf is 1 q r refl in record { kind = 3; of = o; is = signed (o .is) }
+      go (suc (suc zero)) q h = let o = declOf is 2 q r refl in record { kind = 4; of = o; is = signed (o .is) }
+      go (suc (suc (suc zero))) q h = let o = declOf is 3 q r refl in record { kind = 5; of = o; is = signed (o .is) }
+      go (suc (suc (suc (suc c)))) q h = absurd (omega arith)

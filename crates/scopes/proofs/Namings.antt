@@ -1,0 +1,152 @@
+-- The trees of an accepted image: the nodes are below N, and what the walk enters as a symbol is a named node of a kind that has
+-- a symbol number.
+use mathlib.Core.Path.{_≡_, sym, ap, subst, _∙_}
+use mathlib.Core.Bool.{Bool, true, false, not, _&&_}
+use mathlib.Core.List.{List, [], _∷_}
+use Prim.Native.Nat.{ℕ, zero, suc, _+_, _<_, _≤_}
+use native.Mathlib.Omega.{arith}
+use native.Mathlib.Nat.{add-zero}
+use lib.Dec.{T, eqb, leb, leb→le, eqb→eq, T-not}
+use borrow.Author.Tests.{le-leb}
+use Rattle.ast.specs.Image.{nodes, kindAt, startAt, opAt, field}
+use Rattle.ast.specs.Kinds.{Class, outer, inner, root, decl, signature, rule, enum, model, plain, term, ident, head, headMember, member, branch, match, case, ifVar, definedThen, arg, Kind, kinds, kindOf}
+use Rattle.ast.specs.Rows.{after, fieldShape, fieldsShape, fieldsAt, shape}
+use Rattle.ast.specs.Tests.{verdict}
+use Rattle.ast.specs.Tree.{Tree, node, block, classAt, treeAt}
+use Rattle.ast.proofs.Accepted.{formed}
+use Rattle.ast.proofs.Unfold.{treeAt-is}
+use Rattle.ast.proofs.Vars.{Everywhere, everywhere, every-kind}
+use Rattle.table.specs.Sound.{hasName, isSymbol}
+use Rattle.table.proofs.Sounds.{named-yes, symbol-rule, symbol-arg, symbol-var, symbol-decl}
+
+-- an optional name, by the shape
+unfoldable pub namedBy : List ℕ → Bool
+namedBy [] = false
+namedBy (zero ∷ sh) = false
+namedBy (suc c ∷ sh) = true
+
+-- the walk enters the node as a symbol
+unfoldable pub enters : Class → List ℕ → Bool
+unfolding namedBy
+enters (outer root) sh = false
+enters (outer decl) sh = false
+enters (outer signature) sh = true
+enters (outer rule) sh = namedBy sh
+enters (outer enum) sh = true
+enters (outer model) sh = true
+enters (inner plain) sh = false
+enters (inner term) sh = false
+enters (inner ident) sh = true
+enters (inner head) sh = false
+enters (inner headMember) sh = false
+enters (inner member) sh = false
+enters (inner branch) sh = false
+enters (inner match) sh = false
+enters (inner case) sh = false
+enters (inner ifVar) sh = false
+enters (inner definedThen) sh = false
+enters (inner arg) sh = namedBy sh
+
+-- the kinds of these classes
+declares : ℕ → Bool
+declares k = leb 2 k && (leb k 9 && not (eqb k 6))
+
+allowed : Class → ℕ → Bool
+unfolding declares
+allowed (outer root) k = true
+allowed (outer decl) k = true
+allowed (outer signature) k = declares k
+allowed (outer rule) k = eqb k 6
+allowed (outer enum) k = declares k
+allowed (outer model) k = declares k
+allowed (inner plain) k = true
+allowed (inner term) k = true
+allowed (inner ident) k = eqb k 13
+allowed (inner head) k = true
+allowed (inner headMember) k = true
+allowed (inner member) k = true
+allowed (inner branch) k = true
+allowed (inner match) k = true
+allowed (inner case) k = true
+allowed (inner ifVar) k = true
+allowed (inner definedThen) k = true
+allowed (inner arg) k = eqb k 10
+
+allows : ℕ → Kind → Bool
+unfolding allowed
+allows k kd = allowed (kd .class) k
+
+every-allowed : (k : ℕ) → k ≤ 40 → T (allows k (kindOf k))
+unfolding allows kinds
+every-allowed k l = every-kind allows tt k l
+
+and-both : (a b : Bool) → T (a && b) → T a × T b
+and-both true b t = (tt, t)
+and-both false b t = absurd t
+
+no-false : false ≡ true → ⊥
+no-false e = let z : _≡_ {A = ℕ} 0 1 = cc in omega arith
+
+-- a node of a tree: its number, and that what is entered is a symbol
+unfoldable pub Fit : List ℕ → Tree → Type 0
+Fit img (block ts) = Unit {0}
+Fit img (node n k c sh ts) = (n < nodes img) × (enters c sh ≡ true → isSymbol img n ≡ true)
+
+module _ (img : List ℕ) (n : ℕ) (below : n < nodes img) where
+  decl-symbol : T (declares (kindAt img n)) → isSymbol img n ≡ true
+  unfolding declares
+  decl-symbol t =
+      let k = kindAt img n in
+      let a = and-both (leb 2 k) _ t in
+      let b = and-both (leb k 9) _ (a .1) in
+      let l = leb→le 2 k (a .0) in
+      let m = leb→le k 9 (b .0) in
+      symbol-decl img n below (λ e. T-not (eqb k 6) (b .1) (subst (λ x. T (eqb x 6)) (sym e) tt)) (λ e. omega arith) (λ e. omega arith) l ∙ le-leb k 9 m
+
+  -- the first word of the shape is the first field's
+  shape-six : kindAt img n ≡ 6 → (sh : List ℕ) × (shape img n ≡ elim (field img n 0) [ zero ↦ 0 | suc c ↦ 1 ] ∷ sh)
+  unfolding shape fieldsAt fieldsShape fieldShape after kindOf kinds field
+  shape-six e = (opAt img (startAt img n + 2 + 1) ∷ [], ap (λ (k : ℕ). fieldsShape img ((kindOf k) .fields) (startAt img n + 2)) e ∙ ap (λ (p : ℕ). elim (opAt img p) as (λ _. ℕ) [ zero ↦ 0 | suc c ↦ 1 ] ∷ opAt img (startAt img n + 2 + 1) ∷ []) (sym (add-zero (startAt img n + 2))))
+
+  shape-ten : kindAt img n ≡ 10 → (sh : List ℕ) × (shape img n ≡ elim (field img n 0) [ zero ↦ 0 | suc c ↦ 1 ] ∷ sh)
+  unfolding shape fieldsAt fieldsShape fieldShape after kindOf kinds field
+  shape-ten e = ([], ap (λ (k : ℕ). fieldsShape img ((kindOf k) .fields) (startAt img n + 2)) e ∙ ap (λ (p : ℕ). elim (opAt img p) as (λ _. ℕ) [ zero ↦ 0 | suc c ↦ 1 ] ∷ []) (sym (add-zero (startAt img n + 2))))
+
+  present : (w : ℕ) (sh : List ℕ) → namedBy (elim w [ zero ↦ 0 | suc c ↦ 1 ] ∷ sh) ≡ true → w ≡ 0 → ⊥
+  unfolding namedBy
+  present zero sh e z = no-false e
+  present (suc w) sh e z = omega arith
+
+  has : (q : (sh : List ℕ) × (shape img n ≡ elim (field img n 0) [ zero ↦ 0 | suc c ↦ 1 ] ∷ sh)) → namedBy (shape img n) ≡ true → hasName img n ≡ true
+  has q e = named-yes img n (present (field img n 0) (q .0) (ap namedBy (sym (q .1)) ∙ e))
+
+  class-symbol : (c : Class) → T (allowed c (kindAt img n)) → enters c (shape img n) ≡ true → isSymbol img n ≡ true
+  unfolding enters allowed
+  class-symbol (outer root) t e = absurd (no-false e)
+  class-symbol (outer decl) t e = absurd (no-false e)
+  class-symbol (outer signature) t e = decl-symbol t
+  class-symbol (outer rule) t e = let k = eqb→eq (kindAt img n) 6 t in symbol-rule img n below k ∙ has (shape-six k) e
+  class-symbol (outer enum) t e = decl-symbol t
+  class-symbol (outer model) t e = decl-symbol t
+  class-symbol (inner plain) t e = absurd (no-false e)
+  class-symbol (inner term) t e = absurd (no-false e)
+  class-symbol (inner ident) t e = let k = eqb→eq (kindAt img n) 13 t in symbol-var img n below (λ q. omega arith) (λ q. omega arith) k
+  class-symbol (inner head) t e = absurd (no-false e)
+  class-symbol (inner headMember) t e = absurd (no-false e)
+  class-symbol (inner member) t e = absurd (no-false e)
+  class-symbol (inner branch) t e = absurd (no-false e)
+  class-symbol (inner match) t e = absurd (no-false e)
+  class-symbol (inner case) t e = absurd (no-false e)
+  class-symbol (inner ifVar) t e = absurd (no-false e)
+  class-symbol (inner definedThen) t e = absurd (no-false e)
+  class-symbol (inner arg) t e = let k = eqb→eq (kindAt img n) 10 t in symbol-arg img n below k ∙ has (shape-ten k) e
+
+module _ (img : List ℕ) (accepted : verdict img ≡ 0) where
+  fit-at : (n : ℕ) → n < nodes img → Fit img (treeAt img n)
+  unfolding Fit allows classAt
+  fit-at n h =
+      let f = formed img accepted in
+      subst (Fit img) (sym (treeAt-is img f n h)) (h, class-symbol img n h (classAt img n) (every-allowed (kindAt img n) (f .each n h .kind)))
+
+  pub tree-fits : (n : ℕ) → n < nodes img → Everywhere (Fit img) (treeAt img n)
+  tree-fits n h = everywhere (Fit img) img (formed img accepted) fit-at n h

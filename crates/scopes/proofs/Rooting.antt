@@ -1,0 +1,139 @@
+-- The module's list, and Resolve as the code goes: cleared words, the walk, the counts, or words cleared again.
+use mathlib.Core.Path.{_≡_, refl, sym, ap, subst, _∙_}
+use mathlib.Core.List.{List, _++_}
+use Prim.Native.Nat.{ℕ, zero, suc, _+_, _<_, _≤_}
+use native.Mathlib.Omega.{arith}
+use lib.ListN.{length, drop, replicate}
+use Rattle.ast.specs.Answer.{refused, twice as twiceAnswer, result}
+use Rattle.ast.specs.Image.{nodes, last, field}
+use Rattle.ast.specs.Is.{Is}
+use Rattle.ast.specs.Items.{items}
+use Rattle.ast.specs.Kinds.{root, list, kindOf}
+use Rattle.ast.specs.Tests.{verdict}
+use Rattle.ast.specs.Tree.{Tree, Trees, none, treeAt}
+use Rattle.ast.specs.declared.NodeId.{NodeId}
+use Rattle.ast.proofs.Accepted.{formed, last-below}
+use Rattle.ast.proofs.Count as counting
+use Rattle.ast.proofs.Row.{append, append-none, FormedFields, next, ends, nodeOf}
+use Rattle.ast.proofs.Shapes.{formed-row, row, tree-of}
+use Rattle.table.specs.Layout.{allOnes, tableLength}
+use Rattle.table.specs.State.{Exit, childScope, marked}
+use Rattle.table.specs.Values.{tableOf, exitOf}
+use Rattle.table.specs.declared.Walked.{Walked}
+use Rattle.ordered.proofs.Size.{size, sizes, size-nodes}
+use Rattle.scopes.specs.Walk.{andThen, enterAll, visitAll, resolveTree}
+use Rattle.scopes.specs.Resolve.{testTable, zeroed, walked, headed, resolve}
+use Rattle.scopes.specs.Lists.{listedOf, overList, Visits, ListRun, Lent}
+use Rattle.scopes.specs.declared.Declared.{Declared}
+use Rattle.scopes.specs.declared.Declared.the-variants.{Done, Twice}
+use Rattle.scopes.proofs.Adds.{addss}
+use Rattle.scopes.proofs.Resolving.{begun, begun-counts, begun-newest, begun-past, table-accepted, table-long, zeroed-past, stops-outcome, fills-outcome, refuses-outcome}
+use Rattle.scopes.proofs.Visiting.{listOf, over-start}
+
+module _ (img : List ℕ) where
+  root-is : verdict img ≡ 0 → Is img (kindOf 0) (last img)
+  root-is e = record { accepted = e; below = last-below img e; kind = ap kindOf ((formed img e) .root) }
+
+  rootTrees : ℕ → Trees
+  rootTrees n = append (items img n (field img n 0) 1) none
+
+  root-tree : {n : ℕ} (ws : List ℕ) (below : n < nodes img) (long : tableLength (nodes img) ≤ length ws) → Is img (kindOf 0) n
+      → (resolveTree img (treeAt img n) (record { words = ws; scopes = 0; symbols = 0 }) ≡ andThen img (enterAll img (rootTrees n) (begun img ws n below long)) (visitAll img (rootTrees n))) × (size (treeAt img n) ≡ suc (sizes (rootTrees n)))
+  unfolding resolveTree size nodeOf kindOf rootTrees
+  root-tree {n} ws below long is =
+      subst (λ (u : Tree). (resolveTree img u (record { words = ws; scopes = 0; symbols = 0 }) ≡ andThen img (enterAll img (rootTrees n) (begun img ws n below long)) (visitAll img (rootTrees n))) × (size u ≡ suc (sizes (rootTrees n))))
+      (sym (tree-of img is)) (refl, refl)
+
+  root-short : {n : ℕ} → Is img (kindOf 0) n → 1 + field img n 0 ≤ 8192
+  unfolding ends next kindOf
+  root-short is = (formed-row img is) .short
+
+  -- the first scope, with the module's node marked
+  pub begun-is : (ws : List ℕ) (n : ℕ) (below : n < nodes img) (long : tableLength (nodes img) ≤ length ws) {f g : Exit}
+      → f ≡ childScope img (record { scope = allOnes; table = record { words = ws; scopes = 0; symbols = 0 } }) → g ≡ marked img n (f .scope) f → g ≡ begun img ws n below long
+  unfolding childScope
+  begun-is ws n below long p q = q ∙ ap (λ (k : Exit). marked img n (k .scope) k) p
+
+  pub record RootVisit (n count : ℕ) (ws : List ℕ) (g : Exit) : Type 0 where
+    pub list : ListRun img n 1 count g
+    pub visits : {r : Declared} {us vs : List ℕ} → Visits img (overList img n 1 count g) us r vs → us ≡ g .table .words
+        → Visits img (resolveTree img (treeAt img (last img)) (record { words = ws; scopes = 0; symbols = 0 })) ws r vs
+
+  pub rootVisit : {n count : ℕ} {ws : List ℕ} {f g : Exit} → Lent img ws → n ≡ last img → count ≡ field img n 0
+      → f ≡ childScope img (record { scope = allOnes; table = record { words = ws; scopes = 0; symbols = 0 } }) → g ≡ marked img n (f .scope) f → RootVisit n count ws g
+  unfolding FormedFields next kindOf rootTrees
+  rootVisit {n} {count} {ws} {f} {g} p q c h k =
+      subst (λ (x : ℕ). RootVisit n x ws g) (sym c) (subst (RootVisit n (field img n 0) ws) (sym (begun-is ws n low (p .long) h k))
+      (record {
+        list = record {
+          lists = listOf img is ((row img is) .0) (root-short is);
+          fits = record {
+            scopes = (let z = counts in let y = fills in omega arith);
+            symbols = (let z = counts in let y = fills in let d = addss ts in omega arith);
+            kept = begun-newest img ws n low (p .long) .kept;
+          };
+          newest = begun-newest img ws n low (p .long) .last;
+          fresh = λ j l. absurd (let z = counts in omega arith);
+        };
+        visits = λ {r} {us} {vs} v u.
+            record { same = v .same ∙ sym whole; passed = v .passed ∙ ap (drop (tableLength (nodes img))) u ∙ begun-past img ws n low (p .long) };
+      }))
+    where
+      is : Is img (kindOf 0) n
+      is = subst (Is img (kindOf 0)) (sym q) (root-is (p .accepted))
+
+      low : n < nodes img
+      low = is .below
+
+      ts : Trees
+      ts = items img n (field img n 0) 1
+
+      m : Exit
+      m = begun img ws n low (p .long)
+
+      counts : (m .scope ≡ 0) × (m .table .scopes ≡ 1) × (m .table .symbols ≡ 0)
+      counts = begun-counts img ws n low (p .long)
+
+      a : rootTrees n ≡ ts
+      a = append-none ts
+
+      fills : suc (sizes ts) ≡ nodes img
+      fills = ap (λ (us : Trees). suc (sizes us)) (sym a) ∙ sym (root-tree ws low (p .long) is .1) ∙ ap (λ (x : ℕ). size (treeAt img x)) q ∙ size-nodes (treeAt img (last img)) ∙ counting.size img (p .accepted)
+
+      whole : resolveTree img (treeAt img (last img)) (record { words = ws; scopes = 0; symbols = 0 }) ≡ overList img n 1 (field img n 0) m
+      whole = ap (λ (x : ℕ). resolveTree img (treeAt img x) (record { words = ws; scopes = 0; symbols = 0 })) (sym q) ∙ root-tree ws low (p .long) is .0
+          ∙ ap (λ (us : Trees). andThen img (enterAll img us m) (visitAll img us)) a ∙ over-start img n 1 (field img n 0) m
+
+-- Resolve, by the words that the code has at each step
+module _ (img tab : List ℕ) (passes : testTable img tab ≡ 0) (us : List ℕ) (c : ℕ) (count-is : c ≡ tableLength (nodes img)) (cleared : us ≡ replicate c 0 ++ drop c tab) where
+  as-zeroed : us ≡ zeroed img tab
+  unfolding zeroed
+  as-zeroed = cleared ∙ ap (λ (k : ℕ). replicate k 0 ++ drop k tab) count-is
+
+  pub lent : length us ≡ length tab → Lent img us
+  lent l = record { accepted = table-accepted img tab passes; long = (let z = table-long img tab passes in omega arith) }
+
+  module _ {r : Declared} {vs : List ℕ} (h : Visits img (resolveTree img (treeAt img (last img)) (record { words = us; scopes = 0; symbols = 0 })) us r vs) where
+    walked-as : walked img tab ≡ listedOf r vs
+    unfolding walked
+    walked-as = ap (λ (ws : List ℕ). resolveTree img (treeAt img (last img)) (record { words = ws; scopes = 0; symbols = 0 })) (sym as-zeroed) ∙ sym (h .same)
+
+    -- K and Y, with the counts in front
+    pub resolved-scopes : {ws : List ℕ} (w : Walked) → r ≡ Done w → ws ≡ headed img (tableOf w vs) → (result (w .scopes) (w .symbols) ≡ (resolve img tab) .answer) × (ws ≡ (resolve img tab) .table)
+    resolved-scopes w d q =
+        let e = fills-outcome img tab (exitOf w vs) passes (walked-as ∙ ap (λ (o : Declared). listedOf o vs) d) in
+        (sym (e .0), q ∙ sym (e .1))
+
+    -- "twice", with the words cleared again
+    pub resolved-twice : {ws : List ℕ} (x : ℕ) (a b : NodeId) → r ≡ Twice x a b → ws ≡ replicate c 0 ++ drop c vs → (twiceAnswer x (a .0) (b .0) ≡ (resolve img tab) .answer) × (ws ≡ (resolve img tab) .table)
+    unfolding zeroed
+    resolved-twice x a b d q =
+        let e = stops-outcome img tab x (a .0) (b .0) passes (walked-as ∙ ap (λ (o : Declared). listedOf o vs) d) in
+        let z : drop (tableLength (nodes img)) vs ≡ drop (tableLength (nodes img)) tab = h .passed ∙ ap (drop (tableLength (nodes img))) as-zeroed ∙ zeroed-past img tab in (
+          sym (e .0),
+          q ∙ ap (λ (k : ℕ). replicate k 0 ++ drop k vs) count-is ∙ ap (λ (l : List ℕ). replicate (tableLength (nodes img)) 0 ++ l) z ∙ sym (e .1),
+        )
+
+pub resolved-refused : (img tab : List ℕ) (k : ℕ) → k ≡ testTable img tab → (k ≡ 0 → ⊥) → (refused k ≡ (resolve img tab) .answer) × (tab ≡ (resolve img tab) .table)
+resolved-refused img tab zero e z = absurd (z refl)
+resolved-refused img tab (suc k) e z = let o = refuses-outcome img tab k (sym e) in (sym (o .0), sym (o .1))

@@ -1,0 +1,31 @@
+use mathlib.Core.Path.{sym, ap, _∙_}
+use Rattle.scopes.specs.Walk.{enterName}
+use Rattle.scopes.proofs.Entries.{entering-marked, past-marked, enters-as, sig-enter}
+use borrow.Author.Needs.{needs}
+use Rattle.scopes.proofs.enter_signature.Statement.{statement}
+use Rattle.scopes.proofs.enter_signature.Tie as tie
+
+insert-unordered-requires : tie.Need-insert-unordered-requires
+insert-unordered-requires c κs = search needs
+
+insert-decl-symbol-requires : tie.Need-insert-decl-symbol-requires
+insert-decl-symbol-requires c κs = entering-marked _ (c .before .before .before .before .insert-unordered .ensures) (c .before .before .before .before .before .before .before .before .before .pre .0 .below) (c .before .before .before .before .before .before .before .before .before .pre .1)
+
+same-length : tie.Need-same-length
+same-length c = search needs
+
+same-length-2 : tie.Need-same-length-2
+same-length-2 c = search needs
+
+returns : tie.Need-returns
+returns c = enters-as _ (ap (enterName _ _) (c .before .before .before .before .before .before .before .before .before .insert-unordered .ensures) ∙ sym ((sig-enter _ _ (c .before .before .before .before .before .before .before .before .before .before .before .before .before .before .pre .0)) .0)) (past-marked _ _ _ _ (c .before .before .before .before .before .before .before .before .before .insert-unordered .ensures) (c .before .before .before .before .before .before .before .before .before .before .before .before .before .before .pre .0 .below)) (c .before .before .before .before .insert-decl-symbol .ensures)
+
+pub enter-signature-spec : {M : Type 1} → statement M
+enter-signature-spec =
+    tie.close
+    (tie.spec
+    insert-unordered-requires
+    insert-decl-symbol-requires
+    same-length
+    same-length-2
+    returns)
