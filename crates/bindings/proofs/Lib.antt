@@ -10,3 +10,5 @@ pub mod Standing
 pub mod Reached
 pub mod Sentences
 pub mod Few
+pub mod Alike
+pub mod Calls

@@ -12,8 +12,8 @@ use Rattle.ast.specs.Tree.{treeAt}
 use Rattle.ast.specs.Items.{items, below}
 use Rattle.table.specs.Table.{Table}
 use Rattle.table.specs.Rows.{Sorted}
-use Rattle.rows.specs.Rows.{Row}
-use Rattle.bindings.specs.Errors.{rowsOf, rowsSeq, patternRows, argRows, declsRows, repeated, repeatedTo, strictRows}
+use Rattle.rows.specs.Rows.{Row, rowsLength, written}
+use Rattle.bindings.specs.Errors.{rowsOf, rowsSeq, patternRows, argRows, declsRows, repeated, repeatedTo, strictRows, isStrict}
 
 -- the symbol rows of the table stand by rising scope, and the count has room for the rows l
 pub record Room (img : List ℕ) (t : Table) (l : List Row) (count : ℕ) : Type 0 where
@@ -83,3 +83,18 @@ pub record Marks (img ms : List ℕ) (count : ℕ) : Type 0 where
   pub accepted : verdict img ≡ 0
   pub all : ms ≡ marked (repeatedTo img (nodes img)) (replicate 2048 0)
   pub fits : count + length (strictRows img) < 2 ^ 32
+
+-- the rows that strict mode adds
+abbrev pub ofMode : List ℕ → ℕ → List Row
+ofMode img mode = elim (isStrict img mode) as (λ _. List Row) [ true ↦ strictRows img | false ↦ [] ]
+
+-- a table that Resolve filled, and lent rows that are long enough
+pub record Filled (img : List ℕ) (t : Table) (rows : List ℕ) : Type 0 where
+  pub accepted : verdict img ≡ 0
+  pub rising : Sorted (nodes img) (t .symbols) (t .words)
+  pub long : rowsLength (nodes img) ≤ length rows
+
+-- the rows l are written, and their count is handed back
+pub record Wrote (N : ℕ) (l : List Row) (old : List ℕ) (r : ℕ) (new : List ℕ) : Type 0 where
+  pub count : r ≡ length l
+  pub words : new ≡ written N l old

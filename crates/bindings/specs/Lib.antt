@@ -1,3 +1,4 @@
 pub mod Errors
 pub mod Checks
 pub mod Places
+pub mod Answers

@@ -9,3 +9,4 @@ pub mod Stamps
 pub mod Entries
 pub mod Visiting
 pub mod Rooting
+pub mod Headed
