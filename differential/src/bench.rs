@@ -158,25 +158,27 @@ fn typical(rules: usize, nodes: usize) -> Vec<u8> {
     let vars: Vec<String> = (0..10).map(|i| format!("v{i}")).collect();
     for made in 0..rules {
         let count: usize = [5, 6, 5, 7, 5, 8, 6, 10, 5, 9][made % 10];
-        let statements = (2 * count).div_ceil(3);
-        if f.s.rows.len() + 13 * statements + 4 > nodes {
+        if f.s.rows.len() + 13 * (2 * count).div_ceil(3) + 20 > nodes {
             break;
         }
-        let var = |i: usize| vars[i % count].as_str();
-        let body: Vec<usize> = (0..statements)
-            .map(|i| match i {
-                1 => {
-                    let lhs = f.app("owner", &[var(3)]);
-                    let rhs = f.ident(var(4));
-                    f.if_equal(lhs, rhs)
-                }
-                _ if i + 1 == statements => {
-                    let atom = f.pred("shares", &[var(3 * i), var(3 * i + 1), var(5)]);
-                    f.then_stmt(2, atom)
-                }
-                _ => f.if_pred("shares", &[var(3 * i), var(3 * i + 1), var(3 * i + 2)]),
-            })
-            .collect();
+        // the variables in turn, each twice or more
+        let mut next = 0;
+        let mut var = || {
+            next += 1;
+            vars[(next - 1) % count].as_str()
+        };
+        let mut body = Vec::new();
+        for i in 0..(2 * count).div_ceil(3) {
+            body.push(if i == 1 {
+                let lhs = f.app("owner", &[var()]);
+                let rhs = f.ident(var());
+                f.if_equal(lhs, rhs)
+            } else {
+                f.if_pred("shares", &[var(), var(), var()])
+            });
+        }
+        let atom = f.pred("shares", &[var(), var(), var()]);
+        body.push(f.then_stmt(2, atom));
         f.rule(&body);
     }
     f.done(nodes)

@@ -51,7 +51,7 @@ const WORDS: [(&str, fn(&mut Parts, &mut Random)); 27] = [
     }),
     ("4: a byte of no name", |p, _| {
         p.bytes.push(b'q');
-        p.sizes[3] += 1;
+        p.sizes[3] = p.sizes[3].wrapping_add(1);
     }),
     ("4: no names, but bytes", |p, _| {
         p.ends.clear();
@@ -84,7 +84,7 @@ const WORDS: [(&str, fn(&mut Parts, &mut Random)); 27] = [
         if p.ends.pop().is_some() {
             let end = p.ends.last().map_or(0, |&e| e as usize);
             p.bytes.truncate(end);
-            p.sizes[2] -= 1;
+            p.sizes[2] = p.sizes[2].wrapping_sub(1);
             p.sizes[3] = end as u32;
         }
     }),
@@ -121,7 +121,7 @@ const WORDS: [(&str, fn(&mut Parts, &mut Random)); 27] = [
     ("11: a node more", |p, r| {
         // before the module: a wildcard, or a module without declarations
         let last = p.kinds.len() - 1;
-        let at = p.starts[last];
+        let at = p.starts[last].min(p.operands.len() as u32);
         let module: Vec<u32> = p.operands.split_off(at as usize);
         let kind = if r.one_in(2) { 12 } else { 0 };
         p.operands.extend([0, 0, if kind == 12 { 1 } else { 0 }]);
@@ -135,7 +135,9 @@ const WORDS: [(&str, fn(&mut Parts, &mut Random)); 27] = [
         let terms: Vec<usize> = (0..p.kinds.len()).filter(|&n| p.kinds[n] == 12).collect();
         if let Some(i) = index(r, terms.len()) {
             let at = p.starts[terms[i]] as usize + 2;
-            p.operands[at] = r.below(8) as u32;
+            if let Some(word) = p.operands.get_mut(at) {
+                *word = r.below(8) as u32;
+            }
         }
     }),
 ];
