@@ -53,6 +53,35 @@ fn write_records(mut args: impl Iterator<Item = String>) -> bool {
     }
 }
 
+/// The deepest images of each form, every call in the stack that the header promises to be enough: too little ends the process.
+#[cfg(feature = "library")]
+fn deepest() {
+    use differential::inputs::{deep, DEEP};
+    use differential::random::Random;
+    let mut r = Random::new(SEED, 0);
+    for form in DEEP {
+        let s = deep(form, 2048, &mut r);
+        let image = s.parts(&s.natural()).encode();
+        let calls = move || {
+            let (subject, _) = subject();
+            let mut table = vec![0; 3 + 5 * 2048];
+            let mut rows = vec![0; 1 + 2 * 2048];
+            subject.resolve(&image, &mut table);
+            subject.lookup(&image, &table, 0, b"x");
+            subject.errors(&image, &mut table, &mut rows, 2);
+            subject.occurrences(&image, &mut table, &mut rows);
+            subject.once(&image, &mut table);
+            subject.name(&image, 0);
+        };
+        let thread = std::thread::Builder::new().stack_size(eqlog_scopes::STACK_BYTES).spawn(calls).expect("a thread");
+        thread.join().expect("the deepest images");
+    }
+    println!("the deepest images ran in {} KiB of stack", eqlog_scopes::STACK_BYTES / 1024);
+}
+
+#[cfg(not(feature = "library"))]
+fn deepest() {}
+
 fn run() -> bool {
     let mut args = std::env::args().skip(1).peekable();
     if args.peek().is_some_and(|a| a == "record") {
@@ -68,6 +97,7 @@ fn run() -> bool {
     let mut failures = 0u64;
     let mut smallest: Option<(usize, String)> = None;
     let started = Instant::now();
+    deepest();
     println!("seed {seed}, {count} images");
     for i in 0..count {
         let (input, mut r) = input(seed, i, 50, largest);

@@ -27,6 +27,9 @@ pub const fn rows_len(nodes: usize) -> usize {
     1 + 2 * nodes
 }
 
+/// The stack that is enough for any call on any image: nesting reaches some 1,000 levels.
+pub const STACK_BYTES: usize = 512 * 1024;
+
 /// A word of the table that stands for nothing: the parent of the first scope, both scopes of an AppHeadMember.
 pub const NO_SCOPE: u32 = u32::MAX;
 
