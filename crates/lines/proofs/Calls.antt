@@ -6,6 +6,7 @@ use native.Mathlib.Nat.{add-zero}
 use native.Mathlib.Omega.{arith}
 use lib.Dec.{leb→le}
 use lib.ListN.{length, take, drop, length-append, length-replicate}
+use lib.Seq.{length-take-le}
 use Rattle.ast.specs.Image.{nodes}
 use Rattle.ast.specs.Answer.{Answer, refused, twice as twiceAnswer, result, other}
 use Rattle.ast.proofs.Accepted.{both, needed, sized}
@@ -19,8 +20,8 @@ use Rattle.bindings.specs.Errors.{errorRows, testErrors, errorsOf, errors}
 use Rattle.occurrences.specs.Occurrences.{occurrenceRows, occurrencesOf, occurrences, once}
 use Rattle.lines.specs.Report.{Line, resolved, error, var, zipped, rowLines, errorLines, varLines, endLines, bodyLines, linesOf, report, lentTable, lentRows}
 use Rattle.lines.specs.Bytes.{text, numbers, lineBytes, linesBytes, reportBytes}
-use Rattle.lines.specs.Out.{Out, write, rowsFrom, Wrote}
-use Rattle.lines.proofs.Whole.{wrote-none, wrote-next, zipped-rows, written-few}
+use Rattle.lines.specs.Out.{Out, outAt, write, rowsFrom, Wrote, Printed}
+use Rattle.lines.proofs.Whole.{wrote-none, wrote-next, wrote-whole, wrote-within, wrote-kept, zipped-rows, written-few}
 
 -- how many rows a call has left at most
 pub record Few (img : List ℕ) (c : ℕ) : Type 0 where
@@ -86,6 +87,15 @@ pub lines-more : {l k : List Line} {x : Line} {m n : ℕ} {o p q : Out} (most : 
 unfolding linesBytes
 lines-more most e h f g = wrote-as (ap linesBytes (sym e)) h (wrote-next f g)
 
+-- an answer that is no result has no rows
+pub refused-none : (f : ℕ → ℕ → Line) (N : ℕ) (ws : List ℕ) {ans : Answer} {r : ℕ} → ans ≡ refused r → rowLines f N ans ws ≡ []
+unfolding rowLines
+refused-none f N ws e = ap (λ (a : Answer). rowLines f N a ws) e
+
+pub twice-none : (f : ℕ → ℕ → Line) (N : ℕ) (ws : List ℕ) {ans : Answer} {x a b : ℕ} → ans ≡ twiceAnswer x a b → rowLines f N ans ws ≡ []
+unfolding rowLines
+twice-none f N ws e = ap (λ (a : Answer). rowLines f N a ws) e
+
 -- the rows of an answer
 rows-lines : (f : ℕ → ℕ → Line) (word : List ℕ) → ((a b : ℕ) → lineBytes (f a b) ≡ word ++ numbers (a ∷ b ∷ [])) → (img ws : List ℕ) (n c a : ℕ) (o p : Out) (ans : Answer)
     → result a c ≡ ans → n ≡ nodes img → Few img c → length ws ≡ length lentRows → Wrote (rowsFrom word ws n c 0) (28 * c) o p → Wrote (linesBytes (rowLines f (nodes img) ans ws)) 57344 o p
@@ -119,3 +129,12 @@ module _ (img : List ℕ) where
   unfolding text lineBytes
   var-lines ws n c o p e r h k w =
       rw r at (rows-lines var (text "var") (λ a b. refl) img ws n c 0 o p (O .answer) e k (occurrences-few img lentTable lentRows 0 c e (ap length (sym r) ∙ h)) h w)
+
+-- the lines of a report, put into a buffer that holds them, are printed there
+pub printed : (img : List ℕ) {ws vs : List ℕ} {r : ℕ} → 114750 ≤ length ws → Wrote (linesBytes (report img)) 114750 (outAt 0 ws) (outAt r vs) → Printed (reportBytes img) r vs
+unfolding reportBytes
+printed img {ws} {vs} {r} h f =
+    let w = wrote-within f h in
+    let k = wrote-kept f h in
+    let l : r ≤ length vs = omega arith in
+    record { within = l; counted = sym (length-take-le r vs l); bytes = wrote-whole f h }

@@ -51,6 +51,14 @@ module _ {bs ws vs : List ℕ} {most r : ℕ} (f : Wrote bs most (outAt 0 ws) (o
   pub wrote-within : r ≤ most
   wrote-within = let e = ap (λ (o : Out). o .place) whole in let s = f .short in omega arith
 
+  pub wrote-kept : length vs ≡ length ws
+  wrote-kept =
+      let e = ap (λ (o : Out). length (o .bytes)) whole in
+      let a = length-append bs (drop (length bs) ws) in
+      let d = length-drop (length bs) ws in
+      let s = f .short in
+      omega arith
+
 -- rows as lines are the lines of their words
 pub zipped-rows : (f : ℕ → ℕ → Line) (word : List ℕ) → ((a b : ℕ) → lineBytes (f a b) ≡ word ++ numbers (a ∷ b ∷ [])) → (ws : List ℕ) (n c i : ℕ) → 1 + n + i + c ≤ length ws
     → linesBytes (zipped f (take c (drop (1 + i) ws)) (take c (drop (1 + n + i) ws))) ≡ rowsFrom word ws n c i

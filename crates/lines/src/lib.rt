@@ -3,9 +3,22 @@ ghost use mathlib.Core.Path.{_≡_};
 ghost use mathlib.Core.List.{[], _∷_, _++_};
 ghost use Prim.Native.Nat.{_+_, _*_, _<_, _≤_};
 ghost use lib.ListN.{length};
-ghost use Rattle.lines.specs.Report.{resolved, refusal, declaredTwice, endOk, endOnce};
-ghost use Rattle.lines.specs.Bytes.{digits, numbers, lineBytes};
-ghost use Rattle.lines.specs.Out.{outAt, put, write, rowsFrom, Wrote};
+ghost use Rattle.occurrences.specs.Occurrences.{once};
+ghost use Rattle.lines.specs.Report.{resolved, refusal, declaredTwice, endOk, endOnce, endLines, errorLines, varLines, bodyLines, lentTable};
+ghost use Rattle.lines.specs.Bytes.{digits, numbers, lineBytes, linesBytes, reportBytes};
+ghost use Rattle.lines.specs.Out.{outAt, put, write, rowsFrom, Wrote, Printed};
+use bindings::Checked;
+use occurrences::Listed;
+use occurrences::Once;
+use scopes::Resolved;
+
+// The words that the report lends to a call, all 0 and enough for any image: 3 + 5N and 1 + 2N at N = 2,048.
+const TABLE: usize = 10243;
+
+const ROWS: usize = 4097;
+
+// No report is longer: a first and a last line of 31 bytes, 28 bytes for each of 2,048 error rows and 2,048 occurrences.
+pub const LONGEST: usize = 114750;
 
 // One byte more; a byte for which there is no place is dropped.
 fn put_byte(out: &mut [u8], at: usize, byte: u8) -> usize
@@ -127,4 +140,69 @@ fn put_lone(out: &mut [u8], at: usize, node: u32, binding: u32) -> usize
 {
     let place = put_text(out, at, b"end once");
     put_two(out, place, node, binding)
+}
+
+// The lines of the plain error rows.
+fn put_errors(image: &[u8], out: &mut [u8], at: usize) -> usize
+    ensures { λ r. ⌜ Wrote (linesBytes (errorLines (now (image .entry)))) 57344 (outAt at (now (out .entry))) (outAt r (now (out .exit))) ⌝ }
+{
+    let mut table = [0u32; TABLE];
+    let mut rows = [0u32; ROWS];
+    match bindings::check_bindings(image, &mut table, &mut rows, 1) {
+        Checked::Refused(_) => at,
+        Checked::Twice(_, _, _) => at,
+        Checked::Rows(count) => {
+            put_rows(out, at, b"error", &rows, ast::node_count(image), count)
+        }
+    }
+}
+
+// The lines of the occurrences.
+fn put_vars(image: &[u8], out: &mut [u8], at: usize) -> usize
+    ensures { λ r. ⌜ Wrote (linesBytes (varLines (now (image .entry)))) 57344 (outAt at (now (out .entry))) (outAt r (now (out .exit))) ⌝ }
+{
+    let mut table = [0u32; TABLE];
+    let mut rows = [0u32; ROWS];
+    match occurrences::occurrences(image, &mut table, &mut rows) {
+        Listed::Refused(_) => at,
+        Listed::Twice(_, _, _) => at,
+        Listed::Rows(count) => put_rows(out, at, b"var", &rows, ast::node_count(image), count),
+    }
+}
+
+// The last line.
+fn put_end(image: &[u8], out: &mut [u8], at: usize) -> usize
+    ensures { λ r. ⌜ Wrote (linesBytes (endLines ((once (now (image .entry)) lentTable) .answer))) 31 (outAt at (now (out .entry))) (outAt r (now (out .exit))) ⌝ }
+{
+    let mut table = [0u32; TABLE];
+    match occurrences::check_occurrences(image, &mut table) {
+        Once::Refused(_) => at,
+        Once::Twice(_, _, _) => at,
+        Once::Ok => put_ok(out, at),
+        Once::Lone(node, binding) => put_lone(out, at, node.0, binding.0),
+    }
+}
+
+// What follows the first line of an image that is resolved.
+fn put_body(image: &[u8], out: &mut [u8], at: usize) -> usize
+    ensures { λ r. ⌜ Wrote (linesBytes (bodyLines (now (image .entry)))) 114719 (outAt at (now (out .entry))) (outAt r (now (out .exit))) ⌝ }
+{
+    let errors = put_errors(image, out, at);
+    let vars = put_vars(image, out, errors);
+    put_end(image, out, vars)
+}
+
+// The report of any byte string: the first bytes of the lent buffer, which holds any report. Returns how many they are.
+pub fn report(image: &[u8], out: &mut [u8; LONGEST]) -> usize
+    ensures { λ r. ⌜ Printed (reportBytes (now (image .entry))) r (now (out .exit)) ⌝ }
+{
+    let mut table = [0u32; TABLE];
+    match scopes::resolve_scopes(image, &mut table) {
+        Resolved::Refused(number) => put_refused(out, 0, number),
+        Resolved::Twice(name, first, second) => put_twice(out, 0, name, first.0, second.0),
+        Resolved::Scopes(scopes, symbols) => {
+            let place = put_resolved(out, 0, scopes, symbols);
+            put_body(image, out, place)
+        }
+    }
 }
