@@ -1,2 +1,5 @@
 pub mod Places
 pub mod Refusals
+pub mod Packing
+pub mod Clashing
+pub mod Fitting
