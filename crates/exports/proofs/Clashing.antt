@@ -6,7 +6,7 @@ use mathlib.Core.Option.{Option, none as nothing, some}
 use Prim.Native.Nat.{ℕ, zero, suc, _<_, _≤_}
 use native.Mathlib.Omega.{arith}
 use native.Mathlib.Decide.{decLt, ℕ-discrete}
-use lib.Dec.{T, eqb, leb, leb→le}
+use lib.Dec.{T, eqb, leb}
 use borrow.Author.Tests.{le-leb, ne-eqb, leb-true}
 use Rattle.ast.specs.Answer.{twice as twiceAnswer}
 use Rattle.ast.specs.Image.{nodes, names, last, kindAt, nameOf}
@@ -18,7 +18,7 @@ use Rattle.ast.proofs.Acceptance.{row, name-below, opt-name-below}
 use Rattle.ast.proofs.Accepted.{sized, last-below}
 use Rattle.ast.proofs.Unfold.{All, nil, cons, All-append}
 use Rattle.ast.proofs.Vars.{Everywhere, EverywhereAll, every-kind}
-use Rattle.table.specs.Sound.{hasName, isSymbol}
+use Rattle.table.specs.Sound.{isSymbol}
 use Rattle.table.proofs.Sounds.{named-no, symbol-out, symbol-rule, symbol-arg, symbol-low, symbol-decl}
 use Rattle.scopes.specs.Walk.{twice}
 use Rattle.scopes.specs.Resolve.{testTable, walked}

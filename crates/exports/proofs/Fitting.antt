@@ -1,10 +1,10 @@
 -- Every number of an answer fits 16 bits, for each call and all inputs.
-use mathlib.Core.Path.{_≡_, refl, sym, ap, subst, _∙_}
+use mathlib.Core.Path.{_≡_, refl, sym, subst}
 use mathlib.Core.Logic.{inl, inr}
 use mathlib.Core.Bool.{Bool, true, false, _&&_}
 use mathlib.Core.List.{List, [], _∷_}
 use mathlib.Core.Option.{Option, none as nothing, some}
-use Prim.Native.Nat.{ℕ, zero, suc, _+_, _<_, _≤_}
+use Prim.Native.Nat.{ℕ, zero, suc, _<_, _≤_}
 use native.Mathlib.Nat.{zero-add}
 use native.Mathlib.Omega.{arith}
 use lib.Dec.{T, leb, leb→le}
@@ -13,10 +13,10 @@ use Rattle.ast.specs.Answer.{Answer, refused, result}
 use Rattle.ast.specs.Image.{nodes, kindAt}
 use Rattle.ast.specs.Tests.{need, verdict}
 use Rattle.ast.proofs.Accepted.{both, needed, ran, sized}
-use Rattle.ast.proofs.Unfold.{All, nil, cons}
+use Rattle.ast.proofs.Unfold.{All, cons}
 use Rattle.rows.specs.Rows.{Row, lefts, rights}
 use Rattle.table.specs.Rows.{nodeAt}
-use Rattle.table.specs.Sound.{isSymbol, symbolsIn, scopesIn, parentBelow, rowSound, testSound}
+use Rattle.table.specs.Sound.{symbolsIn, scopesIn, parentBelow, rowSound, testSound}
 use Rattle.table.specs.State.{Exit}
 use Rattle.table.specs.Table.{Table, symbolOf, lookup}
 use Rattle.scopes.specs.Lookup.{numberOf, testLookup, symbolAnswer, foundBy, lookupCall}
@@ -27,16 +27,15 @@ use Rattle.scopes.specs.Walk.{Listed, done, twice}
 use Rattle.scopes.proofs.Resolving.{Ways, refuses, stops, fills, ways, refuses-outcome, stops-outcome, fills-outcome, walked-ended, table-accepted}
 use Rattle.bindings.specs.Errors.{errorRows, testErrors, errorsOf, errors}
 use Rattle.bindings.proofs.Few as errors-few
-use Rattle.occurrences.specs.Occurrences.{rowsFor, ruleRows, allRows, occurrenceRows, lone, rowsByRule, onceAnswer, occurrencesOf, occurrences, onceOf, once}
+use Rattle.occurrences.specs.Occurrences.{ruleRows, allRows, occurrenceRows, lone, rowsByRule, onceAnswer, occurrencesOf, occurrences, onceOf, once}
 use Rattle.occurrences.specs.Sight.{In, Rule, moduleRules, ruleSpots}
 use Rattle.occurrences.proofs.CollectLone.{climb-low, rights-low}
-use Rattle.occurrences.proofs.Counting.{in-times, ruleNumbers, rule-nodes-small}
+use Rattle.occurrences.proofs.Counting.{in-times, rule-nodes-small}
 use Rattle.occurrences.proofs.Leaving.{few-rows}
 use Rattle.occurrences.proofs.LoneTerm.{lone-row, lone-list, by-rule}
 use Rattle.occurrences.proofs.Members.{in-left, in-right}
 use Rattle.occurrences.proofs.Resolving.{resolved}
 use Rattle.occurrences.proofs.RowLaws.{in-lefts, all-once}
-use Rattle.occurrences.proofs.WholeModule.{WalkOf}
 use Rattle.exports.specs.Packed.{Fits}
 use Rattle.exports.proofs.Refusals.{Low, first-low, need-low, run-low, verdict-low}
 use Rattle.exports.proofs.Clashing.{symbol-below, twice-fits}

@@ -3,3 +3,4 @@ pub mod Refusals
 pub mod Packing
 pub mod Clashing
 pub mod Fitting
+pub mod Unpacking

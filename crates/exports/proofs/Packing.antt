@@ -1,4 +1,4 @@
--- Laws of packing: room in the fields, by the answer's case; and a packed number stands for one answer only.
+-- Laws of packing: room in the fields, by the answer's case; what a call leaves.
 use mathlib.Core.Path.{_≡_, sym, ap, subst, _∙_}
 use mathlib.Core.List.{List}
 use Prim.Native.Nat.{ℕ, _≤_}
