@@ -1,7 +1,11 @@
 -- The answers of the C interface, each packed in one 64-bit number.
-use Prim.Native.Nat.{ℕ, _+_, _*_}
+use mathlib.Core.Path.{_≡_}
+use mathlib.Core.List.{List}
+use Prim.Native.Nat.{ℕ, _+_, _*_, _<_}
 use Rattle.ast.specs.Answer.{Answer, refused, twice, result, other}
 use Rattle.ast.specs.declared.NamePlace.{NamePlace}
+use Rattle.scopes.specs.Resolve as resolving
+use Rattle.scopes.specs.Rows.{Outcome}
 
 -- a tag and three fields of 16 bits: tag · 2^48 + a · 2^32 + b · 2^16 + c
 abbrev pub fields : ℕ → ℕ → ℕ → ℕ → ℕ
@@ -13,6 +17,33 @@ packed (refused number) = fields 0 0 0 number
 packed (twice name first second) = fields 1 name first second
 packed (result a b) = fields 2 0 a b
 packed (other a b) = fields 3 0 a b
+
+-- a number that a field holds
+abbrev pub Short : ℕ → Type 0
+Short x = x < 65536
+
+-- every number of the answer has room in its field, so that the fields are the answer's numbers
+unfoldable pub Fits : Answer → Type 0
+Fits (refused number) = Short number
+Fits (twice name first second) = Short name × Short first × Short second
+Fits (result a b) = Short a × Short b
+Fits (other a b) = Short a × Short b
+
+-- what an exported call hands back for an answer of document 01
+pub record Packs (r : ℕ) (answer : Answer) : Type 0 where
+  pub number : r ≡ packed answer  -- the answer, packed
+  pub fits : Fits answer  -- no field runs into the next
+
+-- what a call that is lent a table does: its packed answer, and the words of the table afterwards
+pub record Leaves (o : resolving.Outcome) (r : ℕ) (table : List ℕ) : Type 0 where
+  pub packs : Packs r (o .answer)
+  pub table-is : table ≡ o .table
+
+-- what a call that is lent rows too does
+pub record LeavesRows (o : Outcome) (r : ℕ) (table rows : List ℕ) : Type 0 where
+  pub packs : Packs r (o .answer)
+  pub table-is : table ≡ o .table
+  pub rows-are : rows ≡ o .rows
 
 -- the place of a name's bytes in the image: start · 2^32 + length
 abbrev pub placed : NamePlace → ℕ

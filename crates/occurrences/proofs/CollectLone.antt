@@ -179,7 +179,7 @@ module _ (img : List ℕ) (t : Table) (low : (j : ℕ) → j < t .symbols → no
       go true q f = let z : nodeAt (nodes img) (t .words) j ≡ m = cc in let l = low j (omega arith) in omega arith
       go false q f = f q
 
-  climb-low : (f s x m : ℕ) → climb img f (t .words) (t .symbols) s x ≡ some m → m < nodes img
+  pub climb-low : (f s x m : ℕ) → climb img f (t .words) (t .symbols) s x ≡ some m → m < nodes img
   unfolding climb
   climb-low zero s x m e = absurd (let z : _≡_ {A = ℕ} 0 1 = cc in omega arith)
   climb-low (suc f) s x m e = go (findFrom img (t .symbols) (t .words) 0 s x) refl e (λ q. climb-low f (getD (t .words) (3 + 2 * nodes img + s) 0) x m q)

@@ -52,7 +52,7 @@ one-bound b w v (x ∷ ws) l (inr i) (inr j) e f = one-bound b w v ws (go (eqb b
     go false h = h
 
 -- the first lone row is a row, and its binding stands under two times
-lone-row : (all left : List Row) (w : Row) → loneIn all left ≡ some w → In w left × (timesBound (w .right) all < 2)
+pub lone-row : (all left : List Row) (w : Row) → loneIn all left ≡ some w → In w left × (timesBound (w .right) all < 2)
 unfolding loneIn
 lone-row all [] w e = let z : _≡_ {A = ℕ} 0 1 = cc in absurd (omega arith)
 lone-row all (v ∷ left) w e = go (leb 2 (timesBound (v .right) all)) refl (lone-row all left w) e
@@ -122,7 +122,7 @@ module _ (img : List ℕ) (t : Table) (r : Rule) (walk : WalkOf img r t) where
       lone-at w (l .0) (l .1) (f .0) (f .1) (f .2) (f .3) (f .4) (f .5)
 
 -- what Once hands back is the lone occurrence of some rule
-lone-list : (ls : List (List Row)) (w : Row) → lone ls ≡ some w → (l : List Row) × In l ls × (loneIn l l ≡ some w)
+pub lone-list : (ls : List (List Row)) (w : Row) → lone ls ≡ some w → (l : List Row) × In l ls × (loneIn l l ≡ some w)
 unfolding lone
 lone-list [] w e = let z : _≡_ {A = ℕ} 0 1 = cc in absurd (omega arith)
 lone-list (l ∷ ls) w e = go (loneIn l l) refl (lone-list ls w) e
@@ -132,7 +132,7 @@ lone-list (l ∷ ls) w e = go (loneIn l l) refl (lone-list ls w) e
     go nothing p r q = let h = r q in (h .0, inr (h .1), h .2)
     go (some v) p r q = (l, inl refl, p ∙ q)
 
-by-rule : (img : List ℕ) (t : Table) (rs : List Rule) (l : List Row) → In l (rowsByRule img t rs) → (r : Rule) × In r rs × (l ≡ ruleRows img t r)
+pub by-rule : (img : List ℕ) (t : Table) (rs : List Rule) (l : List Row) → In l (rowsByRule img t rs) → (r : Rule) × In r rs × (l ≡ ruleRows img t r)
 unfolding rowsByRule
 by-rule img t [] l i = absurd i
 by-rule img t (r ∷ rs) l (inl e) = (r, inl refl, e)

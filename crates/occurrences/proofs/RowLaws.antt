@@ -149,7 +149,7 @@ module _ (img : List ℕ) (t : Table) where
   rows-once v [] = omega arith
   rows-once v (s ∷ l) = let a = listed-once v (s .node) (found img t s) (rowsFor img t l) in let b = rows-once v l in omega arith
 
-  all-once : (v : ℕ) (rs : List Rule) → ((r : Rule) → In r rs → WalkOf img r t) → times v (lefts (allRows img t rs)) ≤ times v (ruleNumbers rs)
+  pub all-once : (v : ℕ) (rs : List Rule) → ((r : Rule) → In r rs → WalkOf img r t) → times v (lefts (allRows img t rs)) ≤ times v (ruleNumbers rs)
   unfolding allRows ruleRows lefts ruleNumbers times
   all-once v [] f = omega arith
   all-once v (r ∷ rs) f =

@@ -1,0 +1,209 @@
+-- The numbers of "twice": the name is below S, the two nodes below N.
+use mathlib.Core.Path.{_≡_, refl, sym, ap, subst, _∙_}
+use mathlib.Core.Bool.{Bool, true, false, not, _&&_, _||_}
+use mathlib.Core.List.{List, [], _∷_, _++_}
+use mathlib.Core.Option.{Option, none as nothing, some}
+use Prim.Native.Nat.{ℕ, zero, suc, _<_, _≤_}
+use native.Mathlib.Omega.{arith}
+use native.Mathlib.Decide.{decLt, ℕ-discrete}
+use lib.Dec.{T, eqb, leb}
+use borrow.Author.Tests.{le-leb, ne-eqb, leb-true}
+use Rattle.ast.specs.Answer.{twice as twiceAnswer}
+use Rattle.ast.specs.Image.{nodes, names, last, kindAt, nameOf}
+use Rattle.ast.specs.Kinds.{outer, inner, root, decl, signature, rule, enum, model, Field, name, optName, child, optChild, list, lists, cases, Kind, kinds, kindOf}
+use Rattle.ast.specs.Rows.{fieldsAt}
+use Rattle.ast.specs.Tests.{verdict}
+use Rattle.ast.specs.Tree.{Tree, node, block, Trees, none, _◂_, treeAt}
+use Rattle.ast.proofs.Acceptance.{row, name-below, opt-name-below}
+use Rattle.ast.proofs.Accepted.{sized, last-below}
+use Rattle.ast.proofs.Unfold.{All, nil, cons, All-append}
+use Rattle.ast.proofs.Vars.{Everywhere, EverywhereAll, every-kind}
+use Rattle.table.specs.Sound.{isSymbol}
+use Rattle.table.proofs.Sounds.{named-no, symbol-out, symbol-rule, symbol-arg, symbol-low, symbol-decl}
+use Rattle.scopes.specs.Walk.{twice}
+use Rattle.scopes.specs.Resolve.{testTable, walked}
+use Rattle.scopes.specs.Clash.{Clash, orElse, ruleNode, declared, declaredAll, earliest, clashFrom, modelClash, modelClashes, clashIn, firstClash}
+use Rattle.scopes.proofs.Clashes.{shows}
+use Rattle.scopes.proofs.Namings.{Fit, namedBy, enters, tree-fits}
+use Rattle.scopes.proofs.Resolving.{table-accepted, walked-shown}
+use Rattle.exports.specs.Packed.{Fits}
+
+no-truth : {b : Bool} → b ≡ false → b ≡ true → ⊥
+no-truth p q = let z : _≡_ {A = ℕ} 0 1 = cc in omega arith
+
+-- the name of a symbol ---------------------------------------------------------------------------------------------------
+-- the row of a kind from 2 to 9, but 6, begins with a name: one computed check over the table of kinds
+nameFirst : List Field → Bool
+nameFirst [] = false
+nameFirst (name ∷ gs) = true
+nameFirst (optName ∷ gs) = false
+nameFirst (child k ∷ gs) = false
+nameFirst (optChild k ∷ gs) = false
+nameFirst (list k ∷ gs) = false
+nameFirst (lists k ∷ gs) = false
+nameFirst (cases ks ∷ gs) = false
+
+begins : ℕ → Kind → Bool
+unfolding nameFirst
+begins k kd = not (leb 2 k && leb k 9) || (eqb k 6 || nameFirst (kd .fields))
+
+all-begin : (k : ℕ) → k ≤ 40 → T (begins k (kindOf k))
+unfolding begins kinds
+all-begin k l = every-kind begins tt k l
+
+first-is : (fs : List Field) → T (nameFirst fs) → (gs : List Field) × (fs ≡ name ∷ gs)
+unfolding nameFirst
+first-is [] t = absurd t
+first-is (name ∷ gs) t = (gs, refl)
+first-is (optName ∷ gs) t = absurd t
+first-is (child k ∷ gs) t = absurd t
+first-is (optChild k ∷ gs) t = absurd t
+first-is (list k ∷ gs) t = absurd t
+first-is (lists k ∷ gs) t = absurd t
+first-is (cases ks ∷ gs) t = absurd t
+
+first-name : (k : ℕ) (kd : Kind) → 2 ≤ k → k ≤ 9 → (k ≡ 6 → ⊥) → T (begins k kd) → (gs : List Field) × (kd .fields ≡ name ∷ gs)
+unfolding begins
+first-name k kd h m p t = first-is (kd .fields) (rw (le-leb 2 k h, le-leb k 9 m, ne-eqb k 6 p) at t)
+
+module _ (img : List ℕ) where
+  -- a symbol is a node
+  pub symbol-below : (n : ℕ) → isSymbol img n ≡ true → n < nodes img
+  symbol-below n s = go (decLt n (nodes img))
+    where
+      go : Dec (n < nodes img) → n < nodes img
+      go (yes l) = l
+      go (no l) = absurd (no-truth (symbol-out img n (omega arith)) s)
+
+  -- its name is below S
+  symbol-name : verdict img ≡ 0 → (n : ℕ) → isSymbol img n ≡ true → nameOf img n < names img
+  unfolding fieldsAt kindOf kinds
+  symbol-name accepted n s = go (ℕ-discrete k 6) (ℕ-discrete k 10) (ℕ-discrete k 13) (decLt k 2)
+    where
+      k : ℕ
+      k = kindAt img n
+
+      l : n < nodes img
+      l = symbol-below n s
+
+      fields-are : (m : ℕ) → k ≡ m → fieldsAt img n ≡ (kindOf m) .fields
+      fields-are m e = ap (λ (x : ℕ). (kindOf x) .fields) e
+
+      go : Dec (k ≡ 6) → Dec (k ≡ 10) → Dec (k ≡ 13) → Dec (k < 2) → nameOf img n < names img
+      go (yes e) q r t = opt-name-below img accepted n l _ (fields-are 6 e) (λ z. no-truth (symbol-rule img n l e ∙ named-no img n z) s)
+      go (no p) (yes e) r t = opt-name-below img accepted n l _ (fields-are 10 e) (λ z. no-truth (symbol-arg img n l e ∙ named-no img n z) s)
+      go (no p) (no q) (yes e) t = name-below img accepted n l _ (fields-are 13 e)
+      go (no p) (no q) (no r) (yes t) = absurd (no-truth (symbol-low img n l p q r t) s)
+      go (no p) (no q) (no r) (no t) =
+          let h : 2 ≤ k = omega arith in
+          let m : k ≤ 9 = leb-true k 9 (sym (symbol-decl img n l p q r h) ∙ s) in
+          let f = first-name k (kindOf k) h m p (all-begin k (row img accepted n l .kind)) in
+          name-below img accepted n l (f .0) (f .1)
+
+  -- clashes ----------------------------------------------------------------------------------------------------------------
+  -- two symbols, with the name of the second
+  record Known (c : Clash) : Type 0 where
+    first : isSymbol img (c .first) ≡ true
+    second : isSymbol img (c .second) ≡ true
+    name : c .name ≡ nameOf img (c .second)
+
+  abbrev Symbols : List ℕ → Type 0
+  Symbols ns = All (λ n. isSymbol img n ≡ true) ns
+
+  no-clash : {A : Type 0} {a : A} → nothing ≡ some a → ⊥
+  no-clash e = let z : _≡_ {A = ℕ} 0 1 = cc in omega arith
+
+  earliest-symbol : (ds : List ℕ) (x m : ℕ) → Symbols ds → earliest img ds x ≡ some m → isSymbol img m ≡ true
+  unfolding earliest
+  earliest-symbol [] x m a e = absurd (no-clash e)
+  earliest-symbol (d ∷ ds) x m (cons h a) e = go (eqb (nameOf img d) x) e (earliest-symbol ds x m a)
+    where
+      go : (b : Bool) → _≡_ {A = Option ℕ} (elim b [ true ↦ some d | false ↦ earliest img ds x ]) (some m) → (earliest img ds x ≡ some m → isSymbol img m ≡ true) → isSymbol img m ≡ true
+      go true q f = let z : d ≡ m = cc in subst (λ (y : ℕ). isSymbol img y ≡ true) z h
+      go false q f = f q
+
+  from-known : (ds ns : List ℕ) → Symbols ds → Symbols ns → (c : Clash) → clashFrom img ds ns ≡ some c → Known c
+  unfolding clashFrom
+  from-known ds [] a b c e = absurd (no-clash e)
+  from-known ds (n ∷ ns) a (cons h b) c e = go (earliest img ds (nameOf img n)) refl e (from-known (ds ++ (n ∷ [])) ns (All-append a (cons h nil)) b c)
+    where
+      go : (o : Option ℕ) → earliest img ds (nameOf img n) ≡ o
+          → _≡_ {A = Option Clash} (elim o [ some m ↦ some (record { name = nameOf img n; first = m; second = n }) | nothing ↦ clashFrom img (ds ++ (n ∷ [])) ns ]) (some c)
+          → (clashFrom img (ds ++ (n ∷ [])) ns ≡ some c → Known c) → Known c
+      go (some m) q r f =
+          let z : record { name = nameOf img n; first = m; second = n } ≡ c = cc in
+          subst Known z (record { first = earliest-symbol ds (nameOf img n) m a q; second = h; name = refl })
+      go nothing q r f = f r
+
+  or-known : (o p : Option Clash) → ((c : Clash) → o ≡ some c → Known c) → ((c : Clash) → p ≡ some c → Known c) → (c : Clash) → orElse o p ≡ some c → Known c
+  unfolding orElse
+  or-known (some d) p f g c e = f c e
+  or-known nothing p f g c e = g c e
+
+  rule-symbols : (sh : List ℕ) (n : ℕ) → (namedBy sh ≡ true → isSymbol img n ≡ true) → Symbols (ruleNode img sh n)
+  unfolding ruleNode namedBy
+  rule-symbols [] n f = nil
+  rule-symbols (zero ∷ sh) n f = nil
+  rule-symbols (suc c ∷ sh) n f = cons (f refl) nil
+
+  mutual
+    unfolding declared Everywhere Fit enters
+
+    declared-symbols : (u : Tree) → Everywhere (Fit img) u → Symbols (declared img u)
+    declared-symbols (block ts) q = nil
+    declared-symbols (node n k (inner i) sh ts) q = nil
+    declared-symbols (node n k (outer root) sh ts) q = nil
+    declared-symbols (node n k (outer decl) sh ts) q = all-symbols ts (q .1)
+    declared-symbols (node n k (outer signature) sh ts) q = cons (q .0 .1 refl) nil
+    declared-symbols (node n k (outer rule) sh ts) q = rule-symbols sh n (q .0 .1)
+    declared-symbols (node n k (outer enum) sh ts) q = cons (q .0 .1 refl) (all-symbols ts (q .1))
+    declared-symbols (node n k (outer model) sh ts) q = cons (q .0 .1 refl) nil
+
+    all-symbols : (us : Trees) → EverywhereAll (Fit img) us → Symbols (declaredAll img us)
+    all-symbols none q = nil
+    all-symbols (u ◂ us) q = All-append (declared-symbols u (q .0)) (all-symbols us (q .1))
+
+  list-known : (us : Trees) → EverywhereAll (Fit img) us → ((c : Clash) → modelClashes img us ≡ some c → Known c)
+      → (c : Clash) → orElse (clashFrom img [] (declaredAll img us)) (modelClashes img us) ≡ some c → Known c
+  list-known us q f c e = or-known (clashFrom img [] (declaredAll img us)) (modelClashes img us) (from-known [] (declaredAll img us) nil (all-symbols us q)) f c e
+
+  mutual
+    unfolding modelClash Everywhere
+
+    model-known : (u : Tree) → Everywhere (Fit img) u → (c : Clash) → modelClash img u ≡ some c → Known c
+    model-known (block ts) q c e = absurd (no-clash e)
+    model-known (node n k (inner i) sh ts) q c e = absurd (no-clash e)
+    model-known (node n k (outer root) sh ts) q c e = absurd (no-clash e)
+    model-known (node n k (outer decl) sh ts) q c e = models-known ts (q .1) c e
+    model-known (node n k (outer signature) sh ts) q c e = absurd (no-clash e)
+    model-known (node n k (outer rule) sh ts) q c e = absurd (no-clash e)
+    model-known (node n k (outer enum) sh ts) q c e = models-known ts (q .1) c e
+    model-known (node n k (outer model) sh ts) q c e = list-known ts (q .1) (λ d f. models-known ts (q .1) d f) c e
+
+    models-known : (us : Trees) → EverywhereAll (Fit img) us → (c : Clash) → modelClashes img us ≡ some c → Known c
+    models-known none q c e = absurd (no-clash e)
+    models-known (u ◂ us) q c e = or-known (modelClash img u) (modelClashes img us) (λ d f. model-known u (q .0) d f) (λ d f. models-known us (q .1) d f) c e
+
+  clash-known : (u : Tree) → Everywhere (Fit img) u → (c : Clash) → clashIn img u ≡ some c → Known c
+  unfolding clashIn Everywhere
+  clash-known (block ts) q c e = absurd (no-clash e)
+  clash-known (node n k d sh ts) q c e = list-known ts (q .1) (models-known ts (q .1)) c e
+
+  first-known : verdict img ≡ 0 → (c : Clash) → firstClash img ≡ some c → Known c
+  unfolding firstClash
+  first-known accepted c e = clash-known (treeAt img (last img)) (tree-fits img accepted (last img) (last-below img accepted)) c e
+
+  -- where the walk stops, at the name x of the nodes a and b: x is below S, a and b are below N
+  pub twice-below : (tab : List ℕ) (x a b : ℕ) → testTable img tab ≡ 0 → walked img tab ≡ twice x a b → (x < names img) × (a < nodes img) × (b < nodes img)
+  unfolding shows
+  twice-below tab x a b passes stops =
+      let accepted = table-accepted img tab passes in
+      let c = first-known accepted (record { name = x; first = a; second = b }) (sym (walked-shown img tab passes) ∙ ap shows stops) in
+      (subst (λ (y : ℕ). y < names img) (sym (c .name)) (symbol-name accepted b (c .second)), symbol-below a (c .first), symbol-below b (c .second))
+
+  pub twice-fits : (tab : List ℕ) (x a b : ℕ) → testTable img tab ≡ 0 → walked img tab ≡ twice x a b → Fits (twiceAnswer x a b)
+  unfolding Fits
+  twice-fits tab x a b passes stops =
+      let s = sized img (table-accepted img tab passes) in
+      let f = twice-below tab x a b passes stops in
+      (omega arith, omega arith, omega arith)

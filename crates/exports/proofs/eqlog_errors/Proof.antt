@@ -1,0 +1,28 @@
+use mathlib.Core.Path.{ap, subst}
+use Rattle.scopes.specs.Rows.{Outcome}
+use Rattle.exports.specs.Packed.{Fits}
+use Rattle.exports.proofs.Fitting.{errors-fit}
+use Rattle.exports.proofs.Packing.{leaves-rows}
+use borrow.Author.Needs.{needs}
+use Rattle.exports.proofs.eqlog_errors.Statement.{statement}
+use Rattle.exports.proofs.eqlog_errors.Tie as tie
+
+check-bindings-requires : tie.Need-check-bindings-requires
+check-bindings-requires c κs = search needs
+
+pack-checked-requires : tie.Need-pack-checked-requires
+pack-checked-requires c κs = subst Fits (ap (λ (o : Outcome). o .answer) (c .before .before .before .before .check-bindings .ensures)) (errors-fit _ _ _ _)
+
+same-length : tie.Need-same-length
+same-length c = search needs
+
+same-length-2 : tie.Need-same-length-2
+same-length-2 c = search needs
+
+returns : tie.Need-returns
+returns c = leaves-rows (c .before .before .before .before .before .check-bindings .ensures) (errors-fit _ _ _ _) (c .pack-checked .ensures)
+
+pub eqlog-errors-spec : {M : Type 1} → statement M
+eqlog-errors-spec =
+    tie.close
+    (tie.spec check-bindings-requires pack-checked-requires same-length same-length-2 returns)
