@@ -15,7 +15,7 @@ ghost use Rattle.ast.specs.Name.{nameCall, namePlace};
 ghost use Rattle.ast.specs.ImageAnswer.{answerOf, testCall};
 ghost use Rattle.ast.specs.Parts.{partOf, rowParts, caseKinds, caseList, Cased, Tables};
 
-pub mod rows; // the rows by kind
+pub mod typed; // the rows by kind
 
 pub fn wide(x: u32) -> usize
     ensures { λ r. ⌜ r ≡ x ⌝ }
