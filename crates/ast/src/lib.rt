@@ -248,7 +248,14 @@ fn claim(claims: &mut [u8; 2048], c: NodeId)
     }
 }
 
-// The tests of a row give the place after, or 8192 more than the refusal.
+// The tests of a row give the place after, which is at most 8192, or 8192 more than the refusal.
+const REFUSED_6: u32 = 8192 + 6;
+
+const REFUSED_7: u32 = 8192 + 7;
+
+const REFUSED_8: u32 = 8192 + 8;
+
+const REFUSED_9: u32 = 8192 + 9;
 
 // The node c as a child of kind k.
 fn check_one(
@@ -264,10 +271,10 @@ fn check_one(
     ensures { λ r. ⌜ Step («tests-spec».isChild (now (image .entry)) (node .0) k (c .0)) next (c .0 ∷ []) (now (claims .entry)) r (now (claims .exit)) ⌝ }
 {
     if node.0 <= c.0 {
-        return 8201;
+        return REFUSED_9;
     }
     if kind_in(image, c) != k {
-        return 8201;
+        return REFUSED_9;
     }
     claim(claims, c);
     next
@@ -278,7 +285,7 @@ fn check_child(image: &[u8], s: Sizes, node: NodeId, k: u32, p: u32, claims: &mu
     ensures { λ r. ⌜ FieldTested (now (image .entry)) (node .0) (child k) p (now (claims .entry)) r (now (claims .exit)) ⌝ }
 {
     if s.operands <= p {
-        return 8199;
+        return REFUSED_7;
     }
     let c = NodeId(op_at(image, s, p));
     check_one(image, s, node, k, c, p + 1, claims)
@@ -316,7 +323,7 @@ fn check_list(image: &[u8], s: Sizes, node: NodeId, k: u32, p: u32, claims: &mut
     ensures { λ r. ⌜ FieldTested (now (image .entry)) (node .0) (list k) p (now (claims .entry)) r (now (claims .exit)) ⌝ }
 {
     if s.operands <= p {
-        return 8199;
+        return REFUSED_7;
     }
     let count = op_at(image, s, p);
     check_items(image, s, node, k, count, p + 1, claims)
@@ -353,7 +360,7 @@ fn check_lists(image: &[u8], s: Sizes, node: NodeId, k: u32, p: u32, claims: &mu
     ensures { λ r. ⌜ FieldTested (now (image .entry)) (node .0) (lists k) p (now (claims .entry)) r (now (claims .exit)) ⌝ }
 {
     if s.operands <= p {
-        return 8199;
+        return REFUSED_7;
     }
     let count = op_at(image, s, p);
     check_blocks(image, s, node, k, count, p + 1, claims)
@@ -371,7 +378,7 @@ fn check_opt_child(
     ensures { λ r. ⌜ FieldTested (now (image .entry)) (node .0) (optChild k) p (now (claims .entry)) r (now (claims .exit)) ⌝ }
 {
     if s.operands <= p {
-        return 8199;
+        return REFUSED_7;
     }
     let w = op_at(image, s, p);
     if w == 0 {
@@ -386,12 +393,12 @@ fn check_name(image: &[u8], s: Sizes, p: u32) -> u32
     ensures { λ r. ⌜ ((n : ℕ) (us : List ℕ) → FieldTested (now (image .entry)) n name p us r us) ⌝ }
 {
     if s.operands <= p {
-        return 8199;
+        return REFUSED_7;
     }
     if op_at(image, s, p) < s.names {
         return p + 1;
     }
-    8200
+    REFUSED_8
 }
 
 fn check_opt_name(image: &[u8], s: Sizes, p: u32) -> u32
@@ -399,12 +406,12 @@ fn check_opt_name(image: &[u8], s: Sizes, p: u32) -> u32
     ensures { λ r. ⌜ ((n : ℕ) (us : List ℕ) → FieldTested (now (image .entry)) n optName p us r us) ⌝ }
 {
     if s.operands <= p {
-        return 8199;
+        return REFUSED_7;
     }
     if op_at(image, s, p) <= s.names {
         return p + 1;
     }
-    8200
+    REFUSED_8
 }
 
 // The kinds of the children of each enum's cases; 41 for a case without one.
@@ -466,11 +473,11 @@ fn check_case(
     ensures { λ r. ⌜ FieldTested (now (image .entry)) (node .0) (cases (partCases part)) p (now (claims .entry)) r (now (claims .exit)) ⌝ }
 {
     if s.operands <= p {
-        return 8199;
+        return REFUSED_7;
     }
     let case = op_at(image, s, p);
     if part % 8 < case {
-        return 8200;
+        return REFUSED_8;
     }
     let k = case_kind(kinds, part / 8 + case);
     if k == 41 {
@@ -624,14 +631,14 @@ fn check_node(
 {
     let kind = kind_in(image, node);
     if 40 < kind {
-        return 8198;
+        return REFUSED_6;
     }
     let start = start_at(image, s, node);
     if start != end {
-        return 8199;
+        return REFUSED_7;
     }
     if s.operands <= start + 1 {
-        return 8199;
+        return REFUSED_7;
     }
     check_row(image, s, node, kind, start + 2, rows, kinds, claims)
 }
