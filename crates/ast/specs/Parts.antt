@@ -1,4 +1,4 @@
--- The table of kinds as the code has it: a number for each field. Vocabulary of the contracts of its two tables.
+-- The table of kinds as the code has it: a number for each row. Vocabulary of the contracts of its two tables.
 use mathlib.Core.Path.{_≡_}
 use mathlib.Core.Bool.{true, false}
 use mathlib.Core.List.{List, [], _∷_}

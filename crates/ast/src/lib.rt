@@ -486,8 +486,8 @@ fn check_case(
     check_child(image, s, node, k, p + 1, claims)
 }
 
-// What a part of a row is, with the kind of the children added: a child of kind k is CHILD + k. One of l + 1 cases whose kinds stand
-// from f on is 8 f + l.
+// The parts of a row. A child of kind k is CHILD + k, and so for options and lists; LISTS are the blocks of a branch. One of l + 1 cases
+// whose kinds stand from f on is 8 f + l. The second and the third part of a row stand above the first.
 const NAME: u32 = 512;
 
 const OPT_NAME: u32 = 513;
@@ -498,13 +498,13 @@ const OPT_CHILD: u32 = 640;
 
 const LIST: u32 = 704;
 
-const LISTS: u32 = 768; // a list of blocks
+const LISTS: u32 = 768;
 
 const SECOND: u32 = 1024;
 
 const THIRD: u32 = 1048576;
 
-// The row of each kind: up to three parts, the first below 1024.
+// The row of each kind.
 const ROWS: [u32; 41] = [
     LIST + 1, // Module
     8 * 0 + 6, // Decl
@@ -568,25 +568,25 @@ fn check_part(
     requires { ⌜ Place (now image) s (node .0) p × Cased part × (now kinds ≡ caseKinds) ⌝ }
     ensures { λ r. ⌜ FieldTested (now (image .entry)) (node .0) (partOf part) p (now (claims .entry)) r (now (claims .exit)) ⌝ }
 {
-    if part < 512 {
+    if part < NAME {
         return check_case(image, s, node, part, p, kinds, claims);
     }
-    if part == 512 {
+    if part == NAME {
         return check_name(image, s, p);
     }
-    if part < 576 {
+    if part < CHILD {
         return check_opt_name(image, s, p);
     }
-    if part < 640 {
-        return check_child(image, s, node, part - 576, p, claims);
+    if part < OPT_CHILD {
+        return check_child(image, s, node, part - CHILD, p, claims);
     }
-    if part < 704 {
-        return check_opt_child(image, s, node, part - 640, p, claims);
+    if part < LIST {
+        return check_opt_child(image, s, node, part - OPT_CHILD, p, claims);
     }
-    if part < 768 {
-        return check_list(image, s, node, part - 704, p, claims);
+    if part < LISTS {
+        return check_list(image, s, node, part - LIST, p, claims);
     }
-    check_lists(image, s, node, part - 768, p, claims)
+    check_lists(image, s, node, part - LISTS, p, claims)
 }
 
 // The parts of a row, one after another.
@@ -606,12 +606,12 @@ fn check_row(
     let mut row = row_of(rows, kind);
     let mut at = p;
     while row != 0 {
-        let step = check_part(image, s, node, row % 1024, at, kinds, claims);
+        let step = check_part(image, s, node, row % SECOND, at, kinds, claims);
         if 8192 < step {
             return step;
         }
         at = step;
-        row = row / 1024;
+        row = row / SECOND;
     }
     at
 }
