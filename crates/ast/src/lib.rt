@@ -797,7 +797,7 @@ fn bucket(image: &[u8], from: usize, to: usize) -> u32
     let mut h = 0u32;
     let mut i = from;
     while i < to {
-        h = (31 * h + byte(image, i)) % 1024;
+        h = (37 * h + byte(image, i)) % 1024;
         i += 1;
     }
     h
