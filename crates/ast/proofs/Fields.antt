@@ -1,6 +1,6 @@
 -- The answers of the field tests, from what the code reads.
 use mathlib.Core.Path.{_≡_, refl, sym, ap, _∙_}
-use mathlib.Core.List.{List, [], _∷_, _++_, append-assoc, append-nil}
+use mathlib.Core.List.{List, [], _∷_}
 use Prim.Native.Nat.{ℕ, zero, suc, _+_, _-_, _<_, _≤_}
 use native.Mathlib.Omega.{arith}
 use lib.ListN.{length, getD}
@@ -8,11 +8,10 @@ use borrow.Author.Tests.{lt-ltb, le-ltb, le-leb, lt-leb, eq-eqb, ne-eqb}
 use Rattle.ast.specs.Image.{kindAt, opAt, operands, names}
 use Rattle.ast.specs.Kinds.{Field, name, optName, child, optChild, list, lists, cases, noChild}
 use Rattle.ast.specs.Rows.{numbers, opsFrom, afterBlocks, blockKids, after, afterFields, fieldKids, fieldsKids}
-use Rattle.ast.specs.Scan.{claimAll, Step, FieldTested, FieldsTested}
+use Rattle.ast.specs.Scan.{code, claimAll, Step, FieldTested, FieldsTested}
 use Rattle.ast.specs.Tests.{_▸_, need, run, inRow, isChild, childWord, testBlocks, testField, testFields}
-use Rattle.ast.proofs.Scans.{need-in, need-out, passes, refuses, restep, skips, stops, halts, follows, ▸-zero, ▸-assoc}
+use Rattle.ast.proofs.Scans.{need-in, need-out, passes, refuses, restep, skips, stops, halts, follows, ▸-assoc}
 use Rattle.ast.proofs.Unfold.{numbers-ones, numbers-append}
-use Rattle.ast.specs.declared.Scan.{Scan}
 
 module _ (img : List ℕ) where
   pub in-row : (p : ℕ) → p < operands img → inRow img p ≡ 0
@@ -24,25 +23,6 @@ module _ (img : List ℕ) where
   out-row p h = need-out 7 _ (le-ltb _ _ h)
 
   module _ (n : ℕ) where
-    tests-append : (gs hs : List Field) (p : ℕ) → testFields img n (gs ++ hs) p ≡ testFields img n gs p ▸ testFields img n hs (afterFields img gs p)
-    unfolding testFields afterFields _▸_
-    tests-append [] hs p = refl
-    tests-append (g ∷ gs) hs p = ap (λ x. testField img n g p ▸ x) (tests-append gs hs (after img g p)) ∙ sym (▸-assoc (testField img n g p) (testFields img n gs (after img g p)) (testFields img n hs (afterFields img gs (after img g p))))
-
-    after-append : (gs hs : List Field) (p : ℕ) → afterFields img (gs ++ hs) p ≡ afterFields img hs (afterFields img gs p)
-    unfolding afterFields
-    after-append [] hs p = refl
-    after-append (g ∷ gs) hs p = after-append gs hs (after img g p)
-
-    kids-append : (gs hs : List Field) (p : ℕ) → numbers (fieldsKids img (gs ++ hs) p) ≡ numbers (fieldsKids img gs p) ++ numbers (fieldsKids img hs (afterFields img gs p))
-    unfolding fieldsKids afterFields numbers
-    kids-append [] hs p = refl
-    kids-append (g ∷ gs) hs p =
-        numbers-append (fieldKids img g p) _
-        ∙ ap (λ x. numbers (fieldKids img g p) ++ x) (kids-append gs hs (after img g p))
-        ∙ sym (append-assoc (numbers (fieldKids img g p)) _ _)
-        ∙ ap (λ x. x ++ numbers (fieldsKids img hs (afterFields img gs (after img g p)))) (sym (numbers-append (fieldKids img g p) _))
-
     -- a child, or none
     pub child-in : (k c : ℕ) → c < n → kindAt img c ≡ k → isChild img n k c ≡ 0
     unfolding isChild need _▸_
@@ -56,9 +36,9 @@ module _ (img : List ℕ) where
     unfolding isChild need _▸_
     child-other k c h e = rw (lt-ltb _ _ h, ne-eqb _ _ e)
 
-    module _ {us vs : List ℕ} (r : Scan) where
+    module _ {us vs : List ℕ} (r : ℕ) where
       -- a row that ends before the field
-      pub field-out : (g : Field) (p : ℕ) → operands img ≤ p → r .code ≡ 7 → FieldTested img n g p us r vs
+      pub field-out : (g : Field) (p : ℕ) → operands img ≤ p → code r ≡ 7 → FieldTested img n g p us r vs
       unfolding testField childWord
       field-out name p h c = stops _ _ _ 6 _ (out-row p h) c
       field-out optName p h c = stops _ _ _ 6 _ (out-row p h) c
@@ -69,11 +49,11 @@ module _ (img : List ℕ) where
       field-out (cases ks) p h c = stops _ _ _ 6 _ (out-row p h) c
 
       module _ (p w : ℕ) (h : p < operands img) (e : w ≡ opAt img p) where
-        pub name-bad : names img ≤ w → r .code ≡ 8 → FieldTested img n name p us r vs
+        pub name-bad : names img ≤ w → code r ≡ 8 → FieldTested img n name p us r vs
         unfolding testField
         name-bad l c = skips _ _ _ _ (in-row p h) (refuses _ _ 7 r (rw e at (need-out 8 _ (le-ltb w (names img) l))) c)
 
-        pub optName-bad : names img < w → r .code ≡ 8 → FieldTested img n optName p us r vs
+        pub optName-bad : names img < w → code r ≡ 8 → FieldTested img n optName p us r vs
         unfolding testField
         optName-bad l c = skips _ _ _ _ (in-row p h) (refuses _ _ 7 r (rw e at (need-out 8 _ (lt-leb w (names img) l))) c)
 
@@ -93,7 +73,7 @@ module _ (img : List ℕ) where
         unfolding testField after fieldKids numbers
         optChild-in k c q t = let f : opAt img p ≡ suc c = sym e ∙ q in rw (f, testField, fieldKids) (skips _ _ _ _ (in-row p h) t)
 
-        pub case-bad : (ks : List ℕ) → length ks ≤ w → r .code ≡ 8 → FieldTested img n (cases ks) p us r vs
+        pub case-bad : (ks : List ℕ) → length ks ≤ w → code r ≡ 8 → FieldTested img n (cases ks) p us r vs
         unfolding testField
         case-bad ks l c = skips _ _ _ _ (in-row p h) (stops _ _ _ 7 _ (rw e at (need-out 8 _ (le-ltb w (length ks) l))) c)
 
@@ -105,7 +85,7 @@ module _ (img : List ℕ) where
             rw (f, ne-eqb _ _ z, testField, after, fieldKids)
             (skips _ _ _ _ (in-row p h) (skips _ _ _ _ (rw e at (need-in 8 _ (lt-ltb w (length ks) l))) (restep _ _ _ _ _ (ap (λ x. childWord img n x (p + 1)) (sym f)) (omega arith) t)))
 
-    module _ {us : List ℕ} (r : Scan) (p w : ℕ) (h : p < operands img) (e : w ≡ opAt img p) (c : r .code ≡ 0) (a : r .at ≡ p + 1) (b : r .at ≤ 8192) where
+    module _ {us : List ℕ} (r : ℕ) (p w : ℕ) (h : p < operands img) (e : w ≡ opAt img p) (c : code r ≡ 0) (a : r ≡ p + 1) (b : r ≤ 8192) where
       pub name-in : w < names img → FieldTested img n name p us r us
       unfolding testField after fieldKids numbers
       name-in l = skips _ _ _ _ (in-row p h) (passes _ _ r (rw e at (need-in 8 _ (lt-ltb w (names img) l))) c a b)
@@ -128,11 +108,11 @@ module _ (img : List ℕ) where
     module _ (k count p : ℕ) (us : List ℕ) where
       pub record ItemsLeft (left at : ℕ) (vs : List ℕ) : Type 0 where
         pub low : at ≤ 8192
-        pub whole : (r : Scan) (ws : List ℕ) → Step (run (childWord img n k) left at) (at + left) (opsFrom img left at) vs r ws
+        pub whole : (r : ℕ) (ws : List ℕ) → Step (run (childWord img n k) left at) (at + left) (opsFrom img left at) vs r ws
             → Step (run (childWord img n k) count p) (p + count) (opsFrom img count p) us r ws
 
-      pub items-next : (left at : ℕ) {vs ws : List ℕ} (r : Scan) → ItemsLeft left at vs → (left ≡ 0 → ⊥)
-          → FieldTested img n (child k) at vs r ws → r .code ≡ 0 → ItemsLeft (left - 1) (at + 1) ws
+      pub items-next : (left at : ℕ) {vs ws : List ℕ} (r : ℕ) → ItemsLeft left at vs → (left ≡ 0 → ⊥)
+          → FieldTested img n (child k) at vs r ws → code r ≡ 0 → ItemsLeft (left - 1) (at + 1) ws
       unfolding run opsFrom testField after fieldKids numbers
       items-next zero at r i z t c = absurd (z refl)
       items-next (suc l) at r i z t c =
@@ -143,13 +123,13 @@ module _ (img : List ℕ) where
             whole = λ x xs h. i .whole x xs (restep _ _ _ _ _ refl (omega arith) (follows _ _ _ _ _ _ t c (rw q at h)));
           }
 
-      pub items-stop : (left at : ℕ) {vs ws : List ℕ} (r : Scan) → ItemsLeft left at vs → (left ≡ 0 → ⊥)
-          → FieldTested img n (child k) at vs r ws → (r .code ≡ 0 → ⊥) → Step (run (childWord img n k) count p) (p + count) (opsFrom img count p) us r ws
+      pub items-stop : (left at : ℕ) {vs ws : List ℕ} (r : ℕ) → ItemsLeft left at vs → (left ≡ 0 → ⊥)
+          → FieldTested img n (child k) at vs r ws → (code r ≡ 0 → ⊥) → Step (run (childWord img n k) count p) (p + count) (opsFrom img count p) us r ws
       unfolding run opsFrom testField after fieldKids numbers
       items-stop zero at r i z t c = absurd (z refl)
       items-stop (suc l) at r i z t c = i .whole r _ (halts _ _ _ _ _ _ t c)
 
-      pub items-end : (left at : ℕ) {vs : List ℕ} (r : Scan) → ItemsLeft left at vs → left ≡ 0 → r .code ≡ 0 → r .at ≡ at
+      pub items-end : (left at : ℕ) {vs : List ℕ} (r : ℕ) → ItemsLeft left at vs → left ≡ 0 → code r ≡ 0 → r ≡ at
           → Step (run (childWord img n k) count p) (p + count) (opsFrom img count p) us r vs
       unfolding run opsFrom
       items-end zero at r i z c a = i .whole r _ (passes _ _ r refl c (omega arith) (omega arith))
@@ -158,11 +138,11 @@ module _ (img : List ℕ) where
       -- the blocks of a branch
       pub record BlocksLeft (left at : ℕ) (vs : List ℕ) : Type 0 where
         pub low : at ≤ 8192
-        pub whole : (r : Scan) (ws : List ℕ) → Step (testBlocks img n k left at) (afterBlocks img left at) (numbers (blockKids img left at)) vs r ws
+        pub whole : (r : ℕ) (ws : List ℕ) → Step (testBlocks img n k left at) (afterBlocks img left at) (numbers (blockKids img left at)) vs r ws
             → Step (testBlocks img n k count p) (afterBlocks img count p) (numbers (blockKids img count p)) us r ws
 
-      pub blocks-next : (left at : ℕ) {vs ws : List ℕ} (r : Scan) → BlocksLeft left at vs → (left ≡ 0 → ⊥)
-          → FieldTested img n (list k) at vs r ws → r .code ≡ 0 → BlocksLeft (left - 1) (r .at) ws
+      pub blocks-next : (left at : ℕ) {vs ws : List ℕ} (r : ℕ) → BlocksLeft left at vs → (left ≡ 0 → ⊥)
+          → FieldTested img n (list k) at vs r ws → code r ≡ 0 → BlocksLeft (left - 1) (r) ws
       unfolding testBlocks afterBlocks blockKids testField after fieldKids numbers
       blocks-next zero at r i z t c = absurd (z refl)
       blocks-next (suc l) at r i z t c =
@@ -173,30 +153,28 @@ module _ (img : List ℕ) where
             whole = λ x xs h. i .whole x xs (restep _ _ _ _ _ (▸-assoc _ _ _) refl (rw numbers-ones at (follows _ _ _ _ _ _ t c (rw (q, g .place) at h))));
           }
 
-      pub blocks-stop : (left at : ℕ) {vs ws : List ℕ} (r : Scan) → BlocksLeft left at vs → (left ≡ 0 → ⊥)
-          → FieldTested img n (list k) at vs r ws → (r .code ≡ 0 → ⊥) → Step (testBlocks img n k count p) (afterBlocks img count p) (numbers (blockKids img count p)) us r ws
+      pub blocks-stop : (left at : ℕ) {vs ws : List ℕ} (r : ℕ) → BlocksLeft left at vs → (left ≡ 0 → ⊥)
+          → FieldTested img n (list k) at vs r ws → (code r ≡ 0 → ⊥) → Step (testBlocks img n k count p) (afterBlocks img count p) (numbers (blockKids img count p)) us r ws
       unfolding testBlocks afterBlocks blockKids testField after fieldKids numbers
       blocks-stop zero at r i z t c = absurd (z refl)
       blocks-stop (suc l) at r i z t c = i .whole r _ (restep _ _ _ _ _ (▸-assoc _ _ _) refl (halts _ _ _ _ _ _ t c))
 
-      pub blocks-end : (left at : ℕ) {vs : List ℕ} (r : Scan) → BlocksLeft left at vs → left ≡ 0 → r .code ≡ 0 → r .at ≡ at
+      pub blocks-end : (left at : ℕ) {vs : List ℕ} (r : ℕ) → BlocksLeft left at vs → left ≡ 0 → code r ≡ 0 → r ≡ at
           → Step (testBlocks img n k count p) (afterBlocks img count p) (numbers (blockKids img count p)) us r vs
       unfolding testBlocks afterBlocks blockKids numbers
       blocks-end zero at r i z c a = i .whole r _ (passes _ _ r refl c a (omega arith))
       blocks-end (suc l) at r i z c a = absurd (omega arith)
 
     -- fields, one after another
-    module _ {us vs : List ℕ} (r : Scan) (p : ℕ) where
-      pub fields-none : vs ≡ us → r .code ≡ 0 → r .at ≡ p → p ≤ 8192 → FieldsTested img n [] p us r vs
+    module _ {us vs : List ℕ} (r : ℕ) (p : ℕ) where
+      pub fields-none : vs ≡ us → code r ≡ 0 → r ≡ p → p ≤ 8192 → FieldsTested img n [] p us r vs
       unfolding testFields afterFields fieldsKids numbers claimAll
-      fields-none e c a b = record { code = c; went = λ z. record { place = a; claimed = e; low = omega arith } }
+      fields-none e c a b = record { refusal = c; went = λ z. record { place = a; claimed = e; low = omega arith } }
 
-      pub fields-one : (g : Field) → FieldTested img n g p us r vs → FieldsTested img n (g ∷ []) p us r vs
+      pub fields-halt : (g : Field) (gs : List Field) → FieldTested img n g p us r vs → (code r ≡ 0 → ⊥) → FieldsTested img n (g ∷ gs) p us r vs
+      unfolding testFields
+      fields-halt g gs t c = halts _ _ _ _ _ _ t c
+
+      pub fields-follow : (g : Field) (gs : List Field) {ws : List ℕ} {q : ℕ} → FieldTested img n g p us r vs → code r ≡ 0 → FieldsTested img n gs r vs q ws → FieldsTested img n (g ∷ gs) p us q ws
       unfolding testFields afterFields fieldsKids
-      fields-one g t = restep _ _ _ _ _ (sym (▸-zero _)) refl (rw append-nil t)
-
-      pub fields-halt : (gs hs : List Field) → FieldsTested img n gs p us r vs → (r .code ≡ 0 → ⊥) → FieldsTested img n (gs ++ hs) p us r vs
-      fields-halt gs hs t c = rw tests-append (halts _ _ _ _ _ _ t c)
-
-      pub fields-follow : (gs hs : List Field) {ws : List ℕ} {q : Scan} → FieldsTested img n gs p us r vs → r .code ≡ 0 → FieldsTested img n hs (r .at) vs q ws → FieldsTested img n (gs ++ hs) p us q ws
-      fields-follow gs hs t c u = rw (tests-append, after-append, kids-append) (follows _ _ _ _ _ _ t c (rw (t .went c .place) at u))
+      fields-follow g gs t c u = rw numbers-append (follows _ _ _ _ _ _ t c (rw (t .went c .place) at u))

@@ -199,7 +199,7 @@ module _ (img : List ℕ) (from to : ℕ) where
     pub small : h < 1024
     pub few : i ≤ to
 
-  pub hash-next : (h i x : ℕ) → HashLeft h i → i < to → to ≤ length img → x ≡ getD img i 0 → HashLeft ((31 * h + x) % 1024) (i + 1)
+  pub hash-next : (h i x : ℕ) → HashLeft h i → i < to → to ≤ length img → x ≡ getD img i 0 → HashLeft ((37 * h + x) % 1024) (i + 1)
   unfolding hash
   hash-next h i x l k m e = record { left = l .left ∙ rw (slice-cons i to img 0 k m, add-one, e); small = omega arith; few = omega arith }
 

@@ -1,32 +1,27 @@
 -- The rows of the code are those of the kinds: one computed check over the table.
 use mathlib.Core.Path.{_≡_, refl, sym, ap, _∙_}
-use mathlib.Core.Bool.{Bool, true, false, _&&_}
-use mathlib.Core.List.{List, [], _∷_, _++_, append-nil}
-use Prim.Native.Nat.{ℕ, zero, suc, _+_, _-_, _*_, _/_, _%_, _<_, _≤_}
+use mathlib.Core.Bool.{Bool, true, false, not, _&&_, _||_}
+use mathlib.Core.List.{List, [], _∷_}
+use Prim.Native.Nat.{ℕ, zero, suc, _+_, _-_, _/_, _%_, _<_, _≤_}
 use native.Mathlib.Omega.{arith}
-use lib.Dec.{T, leb, leb→le}
+use lib.Dec.{T, ltb, eqb, ltb→lt, eqb→eq}
 use lib.ListN.{length, getD, drop, length-take, length-drop}
 use lib.Seq.{getD-take, getD-drop}
 use borrow.Author.Tests.{lt-ltb, le-ltb, ne-eqb}
 use Rattle.ast.specs.Kinds.{Field, name, optName, child, optChild, list, lists, cases, Kind, kinds, kindOf}
-use Rattle.ast.specs.Parts.{Cased, caseKinds, caseList, partOf, partsOf, rowParts}
-
-cased : ℕ → Bool
-cased x = leb ((x - 500) / 10 + (x - 500) % 10) 34
-
-unfoldable triples : List ℕ → List (List Field)
-triples [] = []
-triples (a ∷ []) = []
-triples (a ∷ (b ∷ [])) = []
-triples (a ∷ (b ∷ (c ∷ xs))) = (partOf a ++ (partOf b ++ partOf c)) ∷ triples xs
+use Rattle.ast.specs.Parts.{Cased, caseKinds, caseList, partCases, partOf, partsOf, rowParts}
 
 unfoldable fieldsOf : List Kind → List (List Field)
 fieldsOf [] = []
 fieldsOf (k ∷ ks) = k .fields ∷ fieldsOf ks
 
+unfoldable rowsOf : List ℕ → List (List Field)
+rowsOf [] = []
+rowsOf (x ∷ xs) = partsOf 3 x ∷ rowsOf xs
+
 -- the code's table is the table of kinds
-table : triples rowParts ≡ fieldsOf kinds
-unfolding triples rowParts fieldsOf kinds partOf caseList caseKinds
+table : rowsOf rowParts ≡ fieldsOf kinds
+unfolding rowsOf rowParts fieldsOf kinds partsOf partOf caseList caseKinds
 table = refl
 
 fields-at : (ks : List Kind) (k : ℕ) (d : Kind) → k < length ks → getD (fieldsOf ks) k [] ≡ (getD ks k d) .fields
@@ -35,20 +30,13 @@ fields-at [] k d h = absurd (omega arith)
 fields-at (x ∷ ks) zero d h = refl
 fields-at (x ∷ ks) (suc k) d h = fields-at ks k d (omega arith)
 
-triple-at : (xs : List ℕ) (k : ℕ) → 3 * k + 2 < length xs
-    → getD (triples xs) k [] ≡ partOf (getD xs (3 * k) 0) ++ (partOf (getD xs (3 * k + 1) 0) ++ partOf (getD xs (3 * k + 2) 0))
-unfolding triples
-triple-at [] k h = absurd (omega arith)
-triple-at (a ∷ []) k h = absurd (omega arith)
-triple-at (a ∷ (b ∷ [])) k h = absurd (omega arith)
-triple-at (a ∷ (b ∷ (c ∷ xs))) zero h = refl
-triple-at (a ∷ (b ∷ (c ∷ xs))) (suc k) h =
-    let p : 3 * suc k ≡ suc (suc (suc (3 * k))) = omega arith in
-    let q : 3 * suc k + 1 ≡ suc (suc (suc (3 * k + 1))) = omega arith in
-    let r : 3 * suc k + 2 ≡ suc (suc (suc (3 * k + 2))) = omega arith in
-    rw (q, r, p) (triple-at xs k (omega arith))
+row-at : (xs : List ℕ) (k : ℕ) → k < length xs → getD (rowsOf xs) k [] ≡ partsOf 3 (getD xs k 0)
+unfolding rowsOf
+row-at [] k h = absurd (omega arith)
+row-at (x ∷ xs) zero h = refl
+row-at (x ∷ xs) (suc k) h = row-at xs k (omega arith)
 
-rows-long : (k : ℕ) → k ≤ 40 → 3 * k + 2 < length rowParts
+rows-long : (k : ℕ) → k ≤ 40 → k < length rowParts
 unfolding rowParts
 rows-long k h = omega arith
 
@@ -56,75 +44,89 @@ kinds-long : (k : ℕ) → k ≤ 40 → k < length kinds
 unfolding kinds
 kinds-long k h = omega arith
 
-row-parts : (k : ℕ) → k ≤ 40 → partOf (getD rowParts (3 * k) 0) ++ (partOf (getD rowParts (3 * k + 1) 0) ++ partOf (getD rowParts (3 * k + 2) 0)) ≡ (kindOf k) .fields
+pub parts-row : (k : ℕ) → k ≤ 40 → partsOf 3 (getD rowParts k 0) ≡ (kindOf k) .fields
 unfolding kindOf
-row-parts k h = sym (triple-at rowParts k (rows-long k h)) ∙ ap (λ (l : List (List Field)). getD l k []) table ∙ fields-at kinds k _ (kinds-long k h)
+parts-row k h = sym (row-at rowParts k (rows-long k h)) ∙ ap (λ (l : List (List Field)). getD l k []) table ∙ fields-at kinds k _ (kinds-long k h)
 
-pub parts-row : (k : ℕ) → k ≤ 40 → partsOf 3 (3 * k) ≡ (kindOf k) .fields
+-- a row of at most c parts, the cases of each in the table
+cased : ℕ → Bool
+cased x = not (ltb x 512) || ltb (x / 8 + x % 8) 34
+
+unfoldable pub fits : ℕ → ℕ → Bool
+unfolding cased
+fits zero w = eqb w 0
+fits (suc c) w = cased (w % 1024) && fits c (w / 1024)
+
+is-cased : (x : ℕ) → T (cased x) → Cased x
+unfolding cased
+is-cased x t h = ltb→lt _ _ (rw (lt-ltb _ _ h) at t)
+
+both : (a b : Bool) → T (a && b) → T a × T b
+both true b t = (tt, t)
+both false b t = absurd t
+
+pub fit-cased : (c w : ℕ) → T (fits c w) → (w ≡ 0 → ⊥) → Cased (w % 1024)
+unfolding fits
+fit-cased zero w t z = absurd (z (eqb→eq _ _ t))
+fit-cased (suc c) w t z = is-cased _ (both (cased (w % 1024)) (fits c (w / 1024)) t .0)
+
+-- the first part, and those that are left
+pub fit-more : (c w : ℕ) → T (fits c w) → (w ≡ 0 → ⊥) → (m : ℕ) × (partsOf c w ≡ partOf (w % 1024) ∷ partsOf m (w / 1024)) × T (fits m (w / 1024))
+unfolding fits partsOf
+fit-more zero w t z = absurd (z (eqb→eq _ _ t))
+fit-more (suc c) w t z = (c, rw (ne-eqb _ _ z, partsOf), both (cased (w % 1024)) (fits c (w / 1024)) t .1)
+
+pub parts-end : (c : ℕ) → partsOf c 0 ≡ []
 unfolding partsOf
-parts-row k h =
-    let e : 3 * k + 1 + 1 ≡ 3 * k + 2 = omega arith in
-    rw (e, append-nil) (row-parts k h)
+parts-end zero = refl
+parts-end (suc c) = refl
 
 every : List ℕ → Bool
 every [] = true
-every (x ∷ xs) = cased x && every xs
+every (x ∷ xs) = fits 3 x && every xs
 
-every-at : (xs : List ℕ) (i : ℕ) → T (every xs) → T (cased (getD xs i 0))
-unfolding every cased
-every-at [] i t = tt
-every-at (x ∷ xs) zero t = go (cased x) t
-  where
-    go : (b : Bool) → T (b && every xs) → T b
-    go true t = tt
-    go false t = t
-every-at (x ∷ xs) (suc i) t = every-at xs i (go (cased x) t)
-  where
-    go : (b : Bool) → T (b && every xs) → T (every xs)
-    go true t = t
-    go false t = absurd t
+every-at : (xs : List ℕ) (k : ℕ) → k < length xs → T (every xs) → T (fits 3 (getD xs k 0))
+unfolding every
+every-at [] k h t = absurd (omega arith)
+every-at (x ∷ xs) zero h t = both (fits 3 x) (every xs) t .0
+every-at (x ∷ xs) (suc k) h t = every-at xs k (omega arith) (both (fits 3 x) (every xs) t .1)
 
-all-cased : T (every rowParts)
-unfolding every cased rowParts
-all-cased = tt
+all-fit : T (every rowParts)
+unfolding every fits cased rowParts
+all-fit = tt
 
-pub parts-cased : (x i : ℕ) → x ≡ getD rowParts i 0 → Cased x
-unfolding cased
-parts-cased x i e = rw e (leb→le _ _ (every-at rowParts i all-cased))
+pub parts-fit : (k : ℕ) → k ≤ 40 → T (fits 3 (getD rowParts k 0))
+parts-fit k h = every-at rowParts k (rows-long k h) all-fit
 
 module _ (x : ℕ) where
-  pub part-none : x ≡ 0 → partOf x ≡ []
+  pub part-cases : x < 512 → partOf x ≡ cases (partCases x)
   unfolding partOf
-  part-none e = rw e
+  part-cases h = rw (lt-ltb _ _ h, partOf)
 
-  pub part-name : x ≡ 1 → partOf x ≡ name ∷ []
+  pub part-name : x ≡ 512 → partOf x ≡ name
   unfolding partOf
   part-name e = rw e
 
-  module _ (z : x ≡ 0 → ⊥) (o : x ≡ 1 → ⊥) where
-    pub part-optName : x < 100 → partOf x ≡ optName ∷ []
+  module _ (a : 512 ≤ x) (o : x ≡ 512 → ⊥) where
+    pub part-optName : x < 576 → partOf x ≡ optName
     unfolding partOf
-    part-optName h = rw (ne-eqb _ _ z, ne-eqb _ _ o, lt-ltb _ _ h, partOf)
+    part-optName h = rw (le-ltb x 512 a, ne-eqb _ _ o, lt-ltb _ _ h, partOf)
 
-    pub part-child : 100 ≤ x → x < 200 → partOf x ≡ child (x - 100) ∷ []
+    pub part-child : 576 ≤ x → x < 640 → partOf x ≡ child (x - 576)
     unfolding partOf
-    part-child a h = rw (ne-eqb _ _ z, ne-eqb _ _ o, le-ltb x 100 a, lt-ltb _ _ h, partOf)
+    part-child b h = rw (le-ltb x 512 a, ne-eqb _ _ o, le-ltb x 576 b, lt-ltb _ _ h, partOf)
 
-    pub part-optChild : 200 ≤ x → x < 300 → partOf x ≡ optChild (x - 200) ∷ []
+    pub part-optChild : 640 ≤ x → x < 704 → partOf x ≡ optChild (x - 640)
     unfolding partOf
-    part-optChild a h = rw (ne-eqb _ _ z, ne-eqb _ _ o, le-ltb x 100 (omega arith), le-ltb x 200 a, lt-ltb _ _ h, partOf)
+    part-optChild b h = rw (le-ltb x 512 a, ne-eqb _ _ o, le-ltb x 576 (omega arith), le-ltb x 640 b, lt-ltb _ _ h, partOf)
 
-    pub part-list : 300 ≤ x → x < 400 → partOf x ≡ list (x - 300) ∷ []
+    pub part-list : 704 ≤ x → x < 768 → partOf x ≡ list (x - 704)
     unfolding partOf
-    part-list a h = rw (ne-eqb _ _ z, ne-eqb _ _ o, le-ltb x 100 (omega arith), le-ltb x 200 (omega arith), le-ltb x 300 a, lt-ltb _ _ h, partOf)
+    part-list b h = rw (le-ltb x 512 a, ne-eqb _ _ o, le-ltb x 576 (omega arith), le-ltb x 640 (omega arith), le-ltb x 704 b, lt-ltb _ _ h, partOf)
 
-    pub part-lists : 400 ≤ x → x < 500 → partOf x ≡ lists (x - 400) ∷ []
+    pub part-lists : 768 ≤ x → partOf x ≡ lists (x - 768)
     unfolding partOf
-    part-lists a h = rw (ne-eqb _ _ z, ne-eqb _ _ o, le-ltb x 100 (omega arith), le-ltb x 200 (omega arith), le-ltb x 300 (omega arith), le-ltb x 400 a, lt-ltb _ _ h, partOf)
-
-    pub part-cases : 500 ≤ x → partOf x ≡ cases (caseList ((x - 500) / 10) ((x - 500) % 10)) ∷ []
-    unfolding partOf
-    part-cases a = rw (ne-eqb _ _ z, ne-eqb _ _ o, le-ltb x 100 (omega arith), le-ltb x 200 (omega arith), le-ltb x 300 (omega arith), le-ltb x 400 (omega arith), le-ltb x 500 a, partOf)
+    part-lists b = rw (le-ltb x 512 a, ne-eqb _ _ o, le-ltb x 576 (omega arith), le-ltb x 640 (omega arith), le-ltb x 704 (omega arith), le-ltb x 768 b, partOf)
 
 getD-any : (l : List ℕ) (i d e : ℕ) → i < length l → getD l i d ≡ getD l i e
 getD-any [] i d e h = absurd (omega arith)

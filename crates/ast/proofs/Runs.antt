@@ -37,6 +37,33 @@ module _ (f : ℕ → ℕ) (c : ℕ) where
   unfolding run
   run-end i l h = let z : c - i ≡ 0 = omega arith in l ∙ rw (z, run)
 
+-- the same run by a loop that does not stop: every refusal is k
+module _ (f : ℕ → ℕ) (c k : ℕ) where
+  pub record RunSeen (i r : ℕ) : Type 0 where
+    pub none : r ≡ 0 → RunLeft f c i
+    pub some : (r ≡ 0 → ⊥) → (r ≡ k) × (run f c 0 ≡ k)
+
+  pub seen-begin : RunSeen 0 0
+  seen-begin = record { none = λ e. run-begin f c; some = λ z. absurd (z refl) }
+
+  module _ (i r : ℕ) (s : RunSeen i r) where
+    pub seen-next : i < c → f i ≡ 0 → RunSeen (i + 1) r
+    seen-next h e = record { none = λ z. run-next f c i (s .none z) h e; some = s .some }
+
+    pub seen-first : i < c → f i ≡ k → (k ≡ 0 → ⊥) → RunSeen (i + 1) k
+    seen-first h e z = record { none = λ y. absurd (z y); some = λ y. (refl, go r refl) }
+      where
+        go : (x : ℕ) → r ≡ x → run f c 0 ≡ k
+        go zero q = run-stop f c i k (s .none q) h e z
+        go (suc x) q = s .some (λ y. omega arith) .1
+
+    pub seen-end : c ≤ i → run f c 0 ≡ r
+    seen-end h = go r refl
+      where
+        go : (x : ℕ) → r ≡ x → run f c 0 ≡ r
+        go zero q = run-end f c i (s .none q) h ∙ sym q
+        go (suc x) q = let y = s .some (λ y. omega arith) in y .1 ∙ sym (y .0)
+
 -- none, one, several
 unfoldable pub sat : ℕ → ℕ
 sat zero = 0

@@ -2,12 +2,11 @@
 use mathlib.Core.Path.{_≡_, refl, sym, ap, _∙_}
 use mathlib.Core.Bool.{Bool, true, false}
 use mathlib.Core.List.{List, [], _∷_, _++_}
-use Prim.Native.Nat.{ℕ, zero, suc, _+_, _-_, _≤_}
+use Prim.Native.Nat.{ℕ, zero, suc, _≤_}
 use native.Mathlib.Omega.{arith}
 use lib.ListN.{getD, set}
 use Rattle.ast.specs.Tests.{_▸_, need}
-use Rattle.ast.specs.declared.Scan.{Scan}
-use Rattle.ast.specs.Scan.{Step, bump, claimAll}
+use Rattle.ast.specs.Scan.{code, Step, bump, claimAll}
 
 pub need-in : (r : ℕ) (b : Bool) → b ≡ true → need r b ≡ 0
 unfolding need
@@ -45,52 +44,52 @@ bump-again us i c e h = rw e (go (getD us c 0) (λ z. h (rw e z)))
     go (suc x) f = refl
 
 -- one child, claimed; any test that refuses
-pub claims-one : (t nx c : ℕ) {us vs : List ℕ} (r : Scan) → t ≡ 0 → r .code ≡ 0 → r .at ≡ nx → nx ≤ 8192 → vs ≡ set us c (bump (getD us c 0)) → Step t nx (c ∷ []) us r vs
+pub claims-one : (t nx c : ℕ) {us vs : List ℕ} (r : ℕ) → t ≡ 0 → code r ≡ 0 → r ≡ nx → nx ≤ 8192 → vs ≡ set us c (bump (getD us c 0)) → Step t nx (c ∷ []) us r vs
 unfolding claimAll
-claims-one t nx c r e k a l h = record { code = k ∙ sym e; went = λ z. record { place = a; claimed = h; low = omega arith } }
+claims-one t nx c r e k a l h = record { refusal = k ∙ sym e; went = λ z. record { place = a; claimed = h; low = omega arith } }
 
-pub refused : (t nx : ℕ) {cs us vs : List ℕ} (r : Scan) → r .code ≡ t → (r .code ≡ 0 → ⊥) → Step t nx cs us r vs
-refused t nx r e z = record { code = e; went = λ y. absurd (z y) }
+pub refused : (t nx : ℕ) {cs us vs : List ℕ} (r : ℕ) → code r ≡ t → (code r ≡ 0 → ⊥) → Step t nx cs us r vs
+refused t nx r e z = record { refusal = e; went = λ y. absurd (z y) }
 
 -- a test that passes or refuses by itself
-pub passes : (t nx : ℕ) {us : List ℕ} (r : Scan) → t ≡ 0 → r .code ≡ 0 → r .at ≡ nx → r .at ≤ 8192 → Step t nx [] us r us
+pub passes : (t nx : ℕ) {us : List ℕ} (r : ℕ) → t ≡ 0 → code r ≡ 0 → r ≡ nx → r ≤ 8192 → Step t nx [] us r us
 unfolding claimAll
-passes t nx r e c a l = record { code = c ∙ sym e; went = λ z. record { place = a; claimed = refl; low = l } }
+passes t nx r e c a l = record { refusal = c ∙ sym e; went = λ z. record { place = a; claimed = refl; low = l } }
 
-pub refuses : (t nx k : ℕ) {cs us vs : List ℕ} (r : Scan) → t ≡ suc k → r .code ≡ suc k → Step t nx cs us r vs
-refuses t nx k r e c = record { code = c ∙ sym e; went = λ z. absurd (omega arith) }
+pub refuses : (t nx k : ℕ) {cs us vs : List ℕ} (r : ℕ) → t ≡ suc k → code r ≡ suc k → Step t nx cs us r vs
+refuses t nx k r e c = record { refusal = c ∙ sym e; went = λ z. absurd (omega arith) }
 
-module _ {us vs : List ℕ} {r : Scan} where
+module _ {us vs : List ℕ} {r : ℕ} where
   -- the same answer to an equal test, at an equal place
   pub restep : (t u nx my : ℕ) (cs : List ℕ) → t ≡ u → nx ≡ my → Step t nx cs us r vs → Step u my cs us r vs
-  restep t u nx my cs e f h = record { code = h .code ∙ e; went = λ z. record { place = h .went z .place ∙ f; claimed = h .went z .claimed; low = h .went z .low } }
+  restep t u nx my cs e f h = record { refusal = h .refusal ∙ e; went = λ z. record { place = h .went z .place ∙ f; claimed = h .went z .claimed; low = h .went z .low } }
 
   pub skips : (a t nx : ℕ) (cs : List ℕ) → a ≡ 0 → Step t nx cs us r vs → Step (a ▸ t) nx cs us r vs
   unfolding _▸_
   skips zero t nx cs e h = h
   skips (suc a) t nx cs e h = absurd (omega arith)
 
-  pub stops : (a t nx k : ℕ) (cs : List ℕ) → a ≡ suc k → r .code ≡ suc k → Step (a ▸ t) nx cs us r vs
+  pub stops : (a t nx k : ℕ) (cs : List ℕ) → a ≡ suc k → code r ≡ suc k → Step (a ▸ t) nx cs us r vs
   unfolding _▸_
   stops zero t nx k cs e c = absurd (omega arith)
   stops (suc a) t nx k cs e c = refuses (suc a) nx k r e c
 
   -- the first of two refuses
-  pub halts : (t u nx my : ℕ) (cs ds : List ℕ) → Step t nx cs us r vs → (r .code ≡ 0 → ⊥) → Step (t ▸ u) my ds us r vs
+  pub halts : (t u nx my : ℕ) (cs ds : List ℕ) → Step t nx cs us r vs → (code r ≡ 0 → ⊥) → Step (t ▸ u) my ds us r vs
   unfolding _▸_
-  halts zero u nx my cs ds h z = absurd (z (h .code))
-  halts (suc t) u nx my cs ds h z = refuses (suc t) my t r refl (h .code)
+  halts zero u nx my cs ds h z = absurd (z (h .refusal))
+  halts (suc t) u nx my cs ds h z = refuses (suc t) my t r refl (h .refusal)
 
   -- the first of two passes
-  pub follows : (t u nx my : ℕ) (cs ds : List ℕ) {ws : List ℕ} {q : Scan} → Step t nx cs us r vs → r .code ≡ 0 → Step u my ds vs q ws → Step (t ▸ u) my (cs ++ ds) us q ws
+  pub follows : (t u nx my : ℕ) (cs ds : List ℕ) {ws : List ℕ} {q : ℕ} → Step t nx cs us r vs → code r ≡ 0 → Step u my ds vs q ws → Step (t ▸ u) my (cs ++ ds) us q ws
   unfolding _▸_
   follows zero u nx my cs ds h z k =
       record {
-        code = k .code;
+        refusal = k .refusal;
         went = λ y. record {
           place = k .went y .place;
           claimed = k .went y .claimed ∙ ap (claimAll ds) (h .went z .claimed) ∙ sym (claim-append cs ds us);
           low = k .went y .low;
         };
       }
-  follows (suc t) u nx my cs ds h z k = let e = h .code in absurd (omega arith)
+  follows (suc t) u nx my cs ds h z k = let e = h .refusal in absurd (omega arith)

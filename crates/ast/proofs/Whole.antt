@@ -1,47 +1,46 @@
 -- The tests of a node, of the nodes, and of the whole tree, as the code goes through them.
 use mathlib.Core.Path.{_≡_, refl, sym, ap, _∙_, subst}
-use mathlib.Core.List.{List, [], _∷_, _++_}
-use Prim.Native.Nat.{ℕ, zero, suc, _+_, _-_, _*_, _<_, _≤_}
+use mathlib.Core.List.{List}
+use Prim.Native.Nat.{ℕ, zero, suc, _+_, _-_, _*_, _/_, _%_, _<_, _≤_}
 use native.Mathlib.Omega.{arith}
 use native.Mathlib.Numerals.{add-one}
-use lib.Dec.{eqb, leb, ltb}
+use lib.Dec.{T, eqb, leb, ltb}
+use native.Mathlib.Decide.{decLt}
 use lib.ListN.{length, getD}
 use borrow.Author.Tests.{lt-ltb, le-ltb, le-leb, lt-leb, eq-eqb, ne-eqb}
 use Rattle.ast.specs.Image.{nodes, kindAt, startAt, operands, names, bytes, last}
 use Rattle.ast.specs.Kinds.{kindOf}
-use Rattle.ast.specs.Parts.{partOf, partsOf, rowParts}
+use Rattle.ast.specs.Parts.{Cased, partOf, partsOf, rowParts}
 use Rattle.ast.specs.Rows.{numbers, kids, kidsTo, fieldsAt, rowEnd}
-use Rattle.ast.specs.Scan.{Head, Within, Step, FieldsTested, NodeTested, claimAll}
-use Rattle.ast.specs.Tests.{_▸_, need, run, times, first, isVar, testVar, testSizes, testNames, testNode, testParents, testTree, endBefore, verdict}
+use Rattle.ast.specs.Scan.{code, Head, Within, Step, FieldsTested, FieldTested, NodeTested, claimAll}
+use Rattle.ast.specs.Tests.{_▸_, need, run, inRow, testFields, times, first, isVar, testVar, testSizes, testNames, testNode, testParents, testTree, endBefore, verdict}
 use Rattle.ast.proofs.Accepted.{skip, stop, stop-at, sizes-ok}
 use Rattle.ast.proofs.Fields.{in-row, out-row, fields-none, fields-halt, fields-follow}
-use Rattle.ast.proofs.Parts.{parts-row}
+use Rattle.ast.proofs.Parts.{fits, fit-cased, fit-more, parts-end, parts-row, parts-fit}
 use Rattle.ast.proofs.Runs.{RunLeft, run-begin, run-next, run-stop, run-end}
 use Rattle.ast.proofs.Scans.{need-in, need-out, claim-append, skips, stops, refused}
-use Rattle.ast.specs.declared.Scan.{Scan}
 use Rattle.ast.specs.declared.Sizes.{Sizes}
 
 module _ (img : List ℕ) where
-  module _ (n : ℕ) {us vs : List ℕ} (r : Scan) (kind start : ℕ) (k : kind ≡ kindAt img n) where
-    pub node-kind : 40 < kind → r .code ≡ 6 → NodeTested img n us r vs
+  module _ (n : ℕ) {us vs : List ℕ} (r : ℕ) (kind start : ℕ) (k : kind ≡ kindAt img n) where
+    pub node-kind : 40 < kind → code r ≡ 6 → NodeTested img n us r vs
     unfolding testNode
     node-kind h c = stops _ _ _ 5 _ (need-out 6 _ (lt-leb _ _ (rw k at h))) c
 
     module _ (h : kind ≤ 40) (e : start ≡ startAt img n) where
-      pub node-start : (start ≡ endBefore img n → ⊥) → r .code ≡ 7 → NodeTested img n us r vs
+      pub node-start : (start ≡ endBefore img n → ⊥) → code r ≡ 7 → NodeTested img n us r vs
       unfolding testNode
       node-start q c = skips _ _ _ _ (need-in 6 _ (le-leb _ _ (rw k at h))) (stops _ _ _ 6 _ (need-out 7 _ (ne-eqb _ _ (rw e at q))) c)
 
       module _ (q : start ≡ endBefore img n) where
-        pub node-out : operands img ≤ start → r .code ≡ 7 → NodeTested img n us r vs
+        pub node-out : operands img ≤ start + 1 → code r ≡ 7 → NodeTested img n us r vs
         unfolding testNode
-        node-out l c = skips _ _ _ _ (need-in 6 _ (le-leb _ _ (rw k at h))) (skips _ _ _ _ (need-in 7 _ (eq-eqb _ _ (rw e at q))) (stops _ _ _ 6 _ (out-row img _ (rw e at l)) c))
-
-        pub node-out-2 : start < operands img → operands img ≤ start + 1 → r .code ≡ 7 → NodeTested img n us r vs
-        unfolding testNode
-        node-out-2 j l c =
-            skips _ _ _ _ (need-in 6 _ (le-leb _ _ (rw k at h))) (skips _ _ _ _ (need-in 7 _ (eq-eqb _ _ (rw e at q)))
-            (skips _ _ _ _ (in-row img _ (rw e at j)) (stops _ _ _ 6 _ (out-row img _ (rw e at l)) c)))
+        node-out l c =
+            skips _ _ _ _ (need-in 6 _ (le-leb _ _ (rw k at h))) (skips _ _ _ _ (need-in 7 _ (eq-eqb _ _ (rw e at q))) (go (decLt (startAt img n) (operands img))))
+          where
+            go : Dec (startAt img n < operands img) → Step (inRow img (startAt img n) ▸ inRow img (startAt img n + 1) ▸ testFields img n (fieldsAt img n) (startAt img n + 2)) (rowEnd img n) (numbers (kids img n)) us r vs
+            go (yes j) = skips _ _ _ _ (in-row img _ j) (stops _ _ _ 6 _ (out-row img _ (rw e at l)) c)
+            go (no j) = stops _ _ _ 6 _ (out-row img _ (omega arith)) c
 
         pub node-in : start + 1 < operands img → FieldsTested img n ((kindOf kind) .fields) (start + 2) us r vs → NodeTested img n us r vs
         unfolding testNode rowEnd kids fieldsAt
@@ -50,35 +49,33 @@ module _ (img : List ℕ) where
             skips _ _ _ _ (need-in 6 _ (le-leb _ _ (rw k at h))) (skips _ _ _ _ (need-in 7 _ (eq-eqb _ _ (rw e at q)))
             (skips _ _ _ _ (in-row img _ (rw e at i)) (skips _ _ _ _ (in-row img _ (rw e at l)) (rw (k, e) at t))))
 
-  -- a row by its parts: those before the j-th have passed, and what answers the others from `at` on answers the row
-  pub record RowLeft (n k p : ℕ) (us : List ℕ) (j at : ℕ) (vs : List ℕ) : Type 0 where
-    pub left : {r : Scan} {ws : List ℕ} → FieldsTested img n (partsOf (3 - j) (3 * k + j)) at vs r ws → FieldsTested img n ((kindOf k) .fields) p us r ws
+  -- a row by its parts: those before have passed, and what answers the parts that are left, those of `row`, answers the whole row
+  pub record RowLeft (n k p : ℕ) (us : List ℕ) (row at : ℕ) (vs : List ℕ) : Type 0 where
+    pub count : ℕ
+    pub left : {r : ℕ} {ws : List ℕ} → FieldsTested img n (partsOf count row) at vs r ws → FieldsTested img n ((kindOf k) .fields) p us r ws
+    pub fit : T (fits count row)
     pub low : at ≤ 8192
 
-  pub row-begin : (n k p : ℕ) (us : List ℕ) → k ≤ 40 → p ≤ 8192 → RowLeft n k p us 0 p us
-  row-begin n k p us h l =
-      let z : 3 * k + 0 ≡ 3 * k = omega arith in
-      record { left = λ {r} {ws} t. subst (λ gs. FieldsTested img n gs p us r ws) (rw z (parts-row k h)) t; low = l }
+  pub row-begin : (n k p row : ℕ) (us : List ℕ) → k ≤ 40 → row ≡ getD rowParts k 0 → p ≤ 8192 → RowLeft n k p us row p us
+  row-begin n k p row us h e l =
+      record { count = 3; left = λ {r} {ws} t. subst (λ gs. FieldsTested img n gs p us r ws) (rw e (parts-row k h)) t; fit = rw e (parts-fit k h); low = l }
 
-  module _ (n k p : ℕ) {us : List ℕ} (j at : ℕ) {vs ws : List ℕ} (r : Scan) (part : ℕ) (i : RowLeft n k p us j at vs) (h : j < 3) (e : part ≡ getD rowParts (3 * k + j) 0) (t : FieldsTested img n (partOf part) at vs r ws) where
-    more : {q : Scan} {xs : List ℕ} → FieldsTested img n (partOf part ++ partsOf (3 - (j + 1)) (3 * k + (j + 1))) at vs q xs → FieldsTested img n ((kindOf k) .fields) p us q xs
-    unfolding partsOf
-    more u =
-        let c : 3 - j ≡ suc (3 - (j + 1)) = omega arith in
-        let d : 3 * k + (j + 1) ≡ 3 * k + j + 1 = omega arith in
-        i .left (rw c (rw d at (rw e at u)))
+  module _ (n k p : ℕ) {us : List ℕ} (row at : ℕ) {vs : List ℕ} (i : RowLeft n k p us row at vs) where
+    module _ (z : row ≡ 0 → ⊥) where
+      pub row-cased : Cased (row % 1024)
+      row-cased = fit-cased (i .count) row (i .fit) z
 
-    pub row-next : r .code ≡ 0 → RowLeft n k p us (j + 1) (r .at) ws
-    row-next c = record { left = λ u. more (fields-follow img n r at _ _ t c u); low = t .went c .low }
+      module _ {ws : List ℕ} (r : ℕ) (t : FieldTested img n (partOf (row % 1024)) at vs r ws) where
+        pub row-next : code r ≡ 0 → RowLeft n k p us (row / 1024) r ws
+        row-next c =
+            let (m, e, f) = fit-more (i .count) row (i .fit) z in
+            record { count = m; left = λ u. i .left (rw e (fields-follow img n r at _ _ t c u)); fit = f; low = t .went c .low }
 
-    pub row-stop : (r .code ≡ 0 → ⊥) → FieldsTested img n ((kindOf k) .fields) p us r ws
-    row-stop c = more (fields-halt img n r at _ _ t c)
+        pub row-stop : (code r ≡ 0 → ⊥) → FieldsTested img n ((kindOf k) .fields) p us r ws
+        row-stop c = let (m, e, f) = fit-more (i .count) row (i .fit) z in i .left (rw e (fields-halt img n r at _ _ t c))
 
-  pub row-end : (n k p : ℕ) {us : List ℕ} (j at : ℕ) {vs : List ℕ} (r : Scan) → RowLeft n k p us j at vs → 3 ≤ j → r .code ≡ 0 → r .at ≡ at → FieldsTested img n ((kindOf k) .fields) p us r vs
-  unfolding partsOf
-  row-end n k p j at r i h c a =
-      let d : 3 - j ≡ 0 = omega arith in
-      i .left (rw d (fields-none img n r at refl c a (i .low)))
+    pub row-end : row ≡ 0 → FieldsTested img n ((kindOf k) .fields) p us at vs
+    row-end z = let l = i .low in i .left (rw (z, parts-end) (fields-none img n at at refl (omega arith) refl (i .low)))
 
   -- the nodes before n have passed
   pub record NodesLeft (us : List ℕ) (n end : ℕ) (vs : List ℕ) : Type 0 where
@@ -88,34 +85,34 @@ module _ (img : List ℕ) where
     pub low : end ≤ 8192
     pub within : n ≤ nodes img
 
-  abbrev pub NodesTested : List ℕ → Scan → List ℕ → Type 0
+  abbrev pub NodesTested : List ℕ → ℕ → List ℕ → Type 0
   NodesTested us r vs = Step (run (testNode img) (nodes img) 0) (endBefore img (nodes img)) (kidsTo img (nodes img)) us r vs
 
   pub nodes-begin : (us : List ℕ) → NodesLeft us 0 0 us
   unfolding endBefore kidsTo claimAll
   nodes-begin us = record { left = run-begin _ _; ended = refl; claimed = refl; low = omega arith; within = omega arith }
 
-  module _ (us : List ℕ) (n end : ℕ) {vs ws : List ℕ} (r : Scan) (i : NodesLeft us n end vs) (h : n < nodes img) (t : NodeTested img n vs r ws) where
-    pub nodes-next : r .code ≡ 0 → NodesLeft us (n + 1) (r .at) ws
+  module _ (us : List ℕ) (n end : ℕ) {vs ws : List ℕ} (r : ℕ) (i : NodesLeft us n end vs) (h : n < nodes img) (t : NodeTested img n vs r ws) where
+    pub nodes-next : code r ≡ 0 → NodesLeft us (n + 1) (r) ws
     unfolding endBefore kidsTo
     nodes-next c =
         let g = t .went c in
         record {
-          left = run-next _ _ n (i .left) h (sym (t .code) ∙ c);
+          left = run-next _ _ n (i .left) h (sym (t .refusal) ∙ c);
           ended = rw add-one (g .place);
           claimed = rw add-one (g .claimed ∙ ap (claimAll (numbers (kids img n))) (i .claimed) ∙ sym (claim-append (kidsTo img n) _ us));
           low = g .low;
           within = omega arith;
         }
 
-    pub nodes-stop : (r .code ≡ 0 → ⊥) → NodesTested us r ws
-    nodes-stop c = refused _ _ r (sym (run-stop _ _ n _ (i .left) h (sym (t .code)) c)) c
+    pub nodes-stop : (code r ≡ 0 → ⊥) → NodesTested us r ws
+    nodes-stop c = refused _ _ r (sym (run-stop _ _ n _ (i .left) h (sym (t .refusal)) c)) c
 
-  pub nodes-end : (us : List ℕ) (n end : ℕ) {vs : List ℕ} (r : Scan) → NodesLeft us n end vs → nodes img ≤ n → r .code ≡ 0 → r .at ≡ end → NodesTested us r vs
+  pub nodes-end : (us : List ℕ) (n end : ℕ) {vs : List ℕ} (r : ℕ) → NodesLeft us n end vs → nodes img ≤ n → code r ≡ 0 → r ≡ end → NodesTested us r vs
   nodes-end us n end r i h c a =
       let q : n ≡ nodes img = omega arith in
       record {
-        code = c ∙ sym (run-end _ _ n (i .left) h);
+        refusal = c ∙ sym (run-end _ _ n (i .left) h);
         went = λ z. record { place = a ∙ (rw q at (i .ended)); claimed = rw q at (i .claimed); low = omega arith };
       }
 

@@ -13,7 +13,7 @@ use Rattle.ast.specs.declared.Sizes.{Sizes}
 -- the bucket of bytes
 unfoldable pub hash : ℕ → List ℕ → ℕ
 hash h [] = h
-hash h (x ∷ xs) = hash ((31 * h + x) % 1024) xs
+hash h (x ∷ xs) = hash ((37 * h + x) % 1024) xs
 
 -- name ends rise strictly from above 0, and the last is B
 pub record Rises (img : List ℕ) : Type 0 where

@@ -1,10 +1,10 @@
--- The table of kinds as the code has it: a number for each field. Vocabulary of the contracts of its two tables.
+-- The table of kinds as the code has it: a number for each row. Vocabulary of the contracts of its two tables.
 use mathlib.Core.Path.{_≡_}
 use mathlib.Core.Bool.{true, false}
-use mathlib.Core.List.{List, [], _∷_, _++_}
-use Prim.Native.Nat.{ℕ, zero, suc, _+_, _-_, _*_, _/_, _%_, _≤_}
+use mathlib.Core.List.{List, [], _∷_}
+use Prim.Native.Nat.{ℕ, zero, suc, _+_, _-_, _/_, _%_, _<_}
 use lib.Dec.{ltb, eqb}
-use lib.ListN.{getD, take, drop}
+use lib.ListN.{take, drop}
 use Rattle.ast.specs.Kinds.{Field, name, optName, child, optChild, list, lists, cases}
 
 -- the children's kinds of each enum's cases, one enum after another
@@ -16,54 +16,49 @@ unfoldable pub caseList : ℕ → ℕ → List ℕ
 unfolding caseKinds
 caseList from count = take count (drop from caseKinds)
 
--- the field that a number stands for: 0 none, 1 a name, 2 an optional name, 100 + k a child of kind k, 200 + k an optional one,
--- 300 + k a list, 400 + k a list of blocks, 500 + 10 f + c one of c cases whose kinds stand from f on
-unfoldable pub partOf : ℕ → List Field
+-- the cases of a part that is one of cases: 8 f + l is l + 1 cases whose kinds stand from f on
+abbrev pub partCases : ℕ → List ℕ
+partCases x = caseList (x / 8) (x % 8 + 1)
+
+-- the field that a part stands for: below 512 one of cases, 512 a name, 513 an optional name, 576 + k a child of kind k, 640 + k an
+-- optional one, 704 + k a list, 768 + k a list of blocks
+unfoldable pub partOf : ℕ → Field
 unfolding caseList
-partOf x = elim (eqb x 0) [
-  | true ↦ []
+partOf x = elim (ltb x 512) [
+  | true ↦ cases (partCases x)
   | false ↦
-      elim (eqb x 1) [
-        | true ↦ name ∷ []
+      elim (eqb x 512) [
+        | true ↦ name
         | false ↦
-            elim (ltb x 100) [
-              | true ↦ optName ∷ []
+            elim (ltb x 576) [
+              | true ↦ optName
               | false ↦
-                  elim (ltb x 200) [
-                    | true ↦ child (x - 100) ∷ []
+                  elim (ltb x 640) [
+                    | true ↦ child (x - 576)
                     | false ↦
-                        elim (ltb x 300) [
-                          | true ↦ optChild (x - 200) ∷ []
-                          | false ↦
-                              elim (ltb x 400) [
-                                | true ↦ list (x - 300) ∷ []
-                                | false ↦
-                                    elim (ltb x 500) [
-                                      | true ↦ lists (x - 400) ∷ []
-                                      | false ↦
-                                          cases (caseList ((x - 500) / 10) ((x - 500) % 10)) ∷ []
-                                    ]
-                              ]
+                        elim (ltb x 704) [
+                          | true ↦ optChild (x - 640)
+                          | false ↦ elim (ltb x 768) [ true ↦ list (x - 704) | false ↦ lists (x - 768) ]
                         ]
                   ]
             ]
       ]
 ]
 
--- the fields of each kind, three numbers to a kind
+-- the row of each kind: its parts, as digits to the base 1024, the first the lowest
 unfoldable pub rowParts : List ℕ
-rowParts = 301 ∷ 0 ∷ 0 ∷ 507 ∷ 0 ∷ 0 ∷ 1 ∷ 0 ∷ 0 ∷ 1 ∷ 111 ∷ 0 ∷ 1 ∷ 111 ∷ 123 ∷ 1 ∷ 123 ∷ 0 ∷ 2 ∷ 336 ∷ 0 ∷ 1 ∷ 309 ∷ 0 ∷ 1 ∷ 301 ∷ 0 ∷ 1 ∷ 111 ∷ 0 ∷ 2 ∷ 123 ∷ 0 ∷ 310 ∷ 0 ∷ 0 ∷ 578 ∷ 0 ∷ 0 ∷ 1 ∷ 0 ∷ 0 ∷ 115 ∷ 122 ∷ 0 ∷ 653 ∷ 0 ∷ 0 ∷ 112 ∷ 313 ∷ 0 ∷ 112 ∷ 113 ∷ 0 ∷ 112 ∷ 0 ∷ 0 ∷ 112 ∷ 0 ∷ 0 ∷ 112 ∷ 0 ∷ 0 ∷ 112 ∷ 112 ∷ 0 ∷ 312 ∷ 0 ∷ 0 ∷ 683 ∷ 0 ∷ 0 ∷ 1 ∷ 0 ∷ 0 ∷ 1 ∷ 0 ∷ 0 ∷ 712 ∷ 0 ∷ 0 ∷ 1 ∷ 0 ∷ 0 ∷ 734 ∷ 0 ∷ 0 ∷ 773 ∷ 0 ∷ 0 ∷ 112 ∷ 112 ∷ 0 ∷ 126 ∷ 122 ∷ 0 ∷ 112 ∷ 0 ∷ 0 ∷ 112 ∷ 123 ∷ 0 ∷ 212 ∷ 112 ∷ 0 ∷ 112 ∷ 336 ∷ 0 ∷ 804 ∷ 0 ∷ 0 ∷ 128 ∷ 0 ∷ 0 ∷ 129 ∷ 0 ∷ 0 ∷ 436 ∷ 0 ∷ 0 ∷ 112 ∷ 335 ∷ 0 ∷ []
+rowParts = 705 ∷ 6 ∷ 512 ∷ 601600 ∷ 628698624 ∷ 613888 ∷ 758273 ∷ 730624 ∷ 722432 ∷ 601600 ∷ 613889 ∷ 714 ∷ 63 ∷ 512 ∷ 612943 ∷ 122 ∷ 734796 ∷ 603724 ∷ 588 ∷ 588 ∷ 588 ∷ 602700 ∷ 716 ∷ 146 ∷ 512 ∷ 512 ∷ 169 ∷ 512 ∷ 187 ∷ 218 ∷ 602700 ∷ 612954 ∷ 588 ∷ 613964 ∷ 602764 ∷ 758348 ∷ 243 ∷ 604 ∷ 605 ∷ 804 ∷ 757324 ∷ []
 
 -- the cases of a part stand in the table
 abbrev pub Cased : ℕ → Type 0
-Cased x = (x - 500) / 10 + (x - 500) % 10 ≤ 34
+Cased x = x < 512 → x / 8 + x % 8 < 34
 
 -- the two tables, as the test lends them to its parts
 abbrev pub Tables : List ℕ → List ℕ → Type 0
-Tables parts kinds = (parts ≡ rowParts) × (kinds ≡ caseKinds)
+Tables rows kinds = (rows ≡ rowParts) × (kinds ≡ caseKinds)
 
--- the fields of c parts of the table from the i-th on
+-- the fields of the parts of a row, of which there are at most c
 unfoldable pub partsOf : ℕ → ℕ → List Field
-unfolding partOf rowParts
-partsOf zero i = []
-partsOf (suc c) i = partOf (getD rowParts i 0) ++ partsOf c (i + 1)
+unfolding partOf
+partsOf zero w = []
+partsOf (suc c) w = elim (eqb w 0) [ true ↦ [] | false ↦ partOf (w % 1024) ∷ partsOf c (w / 1024) ]

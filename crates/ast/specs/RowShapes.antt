@@ -4,7 +4,7 @@ use mathlib.Core.List.{List}
 use Prim.Native.Nat.{ℕ, _+_}
 use Rattle.ast.specs.Image.{startAt, opAt, field}
 use Rattle.ast.specs.declared.Location.{Location}
-use Rattle.ast.specs.declared.rows.NodeList.{NodeList}
+use Rattle.ast.specs.declared.typed.NodeList.{NodeList}
 
 -- the two location words, with which a row begins
 unfoldable pub locationOf : List ℕ → ℕ → Location

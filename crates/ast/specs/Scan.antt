@@ -8,7 +8,6 @@ use Rattle.ast.specs.Kinds.{Field}
 use Rattle.ast.specs.Rows.{numbers, after, afterFields, fieldKids, fieldsKids, rowEnd, kids}
 use Rattle.ast.specs.Tests.{testField, testFields, testNode}
 use Rattle.ast.specs.declared.Sizes.{Sizes}
-use Rattle.ast.specs.declared.Scan.{Scan}
 
 -- s holds the sizes N, C, S, B of the image
 pub record Head (img : List ℕ) (s : Sizes) : Type 0 where
@@ -29,9 +28,8 @@ pub record Within (img : List ℕ) (s : Sizes) : Type 0 where
 
 -- p is a place where a test in the row of the node n may stand
 pub record Place (img : List ℕ) (s : Sizes) (n p : ℕ) : Type 0 where
-  pub head : Head img s
-  pub short : s .operands ≤ 8192
-  pub few : n ≤ 2048
+  pub within : Within img s
+  pub few : n ≤ s .nodes
   pub low : p ≤ 8192
 
 -- how often a node stands as a child: 0, 1, or 2 for several; one time more
@@ -50,18 +48,22 @@ pub record Went (next : ℕ) (cs us : List ℕ) (at : ℕ) (vs : List ℕ) : Typ
   pub claimed : vs ≡ claimAll cs us
   pub low : at ≤ 8192
 
+-- the refusal that a number stands for: a place, up to 8192, is none
+abbrev pub code : ℕ → ℕ
+code r = r - 8192
+
 -- the answer to a test: the refusal; and where it is 0, the place after, and the children claimed
-pub record Step (test next : ℕ) (cs us : List ℕ) (r : Scan) (vs : List ℕ) : Type 0 where
-  pub code : r .code ≡ test
-  pub went : r .code ≡ 0 → Went next cs us (r .at) vs
+pub record Step (test next : ℕ) (cs us : List ℕ) (r : ℕ) (vs : List ℕ) : Type 0 where
+  pub refusal : code r ≡ test
+  pub went : code r ≡ 0 → Went next cs us r vs
 
 module _ (img : List ℕ) (n : ℕ) where
   -- the answer to the tests of a field, of fields, of a node
-  abbrev pub FieldTested : Field → ℕ → List ℕ → Scan → List ℕ → Type 0
+  abbrev pub FieldTested : Field → ℕ → List ℕ → ℕ → List ℕ → Type 0
   FieldTested g p us r vs = Step (testField img n g p) (after img g p) (numbers (fieldKids img g p)) us r vs
 
-  abbrev pub FieldsTested : List Field → ℕ → List ℕ → Scan → List ℕ → Type 0
+  abbrev pub FieldsTested : List Field → ℕ → List ℕ → ℕ → List ℕ → Type 0
   FieldsTested gs p us r vs = Step (testFields img n gs p) (afterFields img gs p) (numbers (fieldsKids img gs p)) us r vs
 
-  abbrev pub NodeTested : List ℕ → Scan → List ℕ → Type 0
+  abbrev pub NodeTested : List ℕ → ℕ → List ℕ → Type 0
   NodeTested us r vs = Step (testNode img n) (rowEnd img n) (numbers (kids img n)) us r vs

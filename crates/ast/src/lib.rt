@@ -1,7 +1,7 @@
 // The image: its words, the rows by node, the tests 1 to 12, and Name.
 ghost use mathlib.Core.Path.{_≡_};
 ghost use mathlib.Core.List.{List, [], _∷_, _++_};
-ghost use Prim.Native.Nat.{ℕ, suc, _+_, _*_, _-_, _<_, _≤_, _^_};
+ghost use Prim.Native.Nat.{ℕ, suc, _+_, _*_, _-_, _/_, _%_, _<_, _≤_, _^_};
 ghost use lib.ListN.{length, getD, set, replicate};
 ghost use Rattle.ast.specs.Image as «image-spec»;
 ghost use Rattle.ast.specs.Rows.{opsFrom, afterBlocks, blockKids, numbers, kids, kidsTo};
@@ -13,9 +13,9 @@ ghost use Rattle.ast.specs.Names.{hash, Spanned, NameAt, Chain, Met};
 ghost use Rattle.ast.specs.RowShapes.{locationOf};
 ghost use Rattle.ast.specs.Name.{nameCall, namePlace};
 ghost use Rattle.ast.specs.ImageAnswer.{answerOf, testCall};
-ghost use Rattle.ast.specs.Parts.{partOf, rowParts, caseKinds, caseList, Cased, Tables};
+ghost use Rattle.ast.specs.Parts.{partOf, partCases, rowParts, caseKinds, Cased, Tables};
 
-pub mod rows; // the rows by kind
+pub mod typed; // the rows by kind
 
 pub fn wide(x: u32) -> usize
     ensures { λ r. ⌜ r ≡ x ⌝ }
@@ -30,6 +30,17 @@ fn byte(image: &[u8], i: usize) -> u32
     image[i] as u32
 }
 
+// The little-endian word at a byte offset where it fits.
+fn word_in(image: &[u8], offset: usize) -> u32
+    requires { ⌜ offset + 4 ≤ length (now image) ⌝ }
+    ensures { λ r. ⌜ r ≡ «image-spec».word (now (image .entry)) offset ⌝ }
+{
+    byte(image, offset)
+        + 256 * byte(image, offset + 1)
+        + 65536 * byte(image, offset + 2)
+        + 16777216 * byte(image, offset + 3)
+}
+
 // The little-endian word at a byte offset; 0 where it does not fit.
 pub fn word(image: &[u8], offset: usize) -> u32
     ensures { λ r. ⌜ r ≡ «image-spec».word (now (image .entry)) offset ⌝ }
@@ -41,10 +52,7 @@ pub fn word(image: &[u8], offset: usize) -> u32
     if n - 4 < offset {
         return 0;
     }
-    byte(image, offset)
-        + 256 * byte(image, offset + 1)
-        + 65536 * byte(image, offset + 2)
-        + 16777216 * byte(image, offset + 3)
+    word_in(image, offset)
 }
 
 // The four words at the front: N, C, S, B.
@@ -76,18 +84,26 @@ pub fn kind_at(image: &[u8], node: NodeId) -> u32
     word(image, 16 + 4 * wide(node.0))
 }
 
+// The kind of a node that is there, its start, and an operand word that is there.
+fn kind_in(image: &[u8], node: NodeId) -> u32
+    requires { ⌜ 20 + 4 * node .0 ≤ length (now image) ⌝ }
+    ensures { λ r. ⌜ r ≡ «image-spec».kindAt (now (image .entry)) (node .0) ⌝ }
+{
+    word_in(image, 16 + 4 * wide(node.0))
+}
+
 fn start_at(image: &[u8], s: Sizes, node: NodeId) -> u32
-    requires { ⌜ Head (now image) s ⌝ }
+    requires { ⌜ Within (now image) s × (node .0 < s .nodes) ⌝ }
     ensures { λ r. ⌜ r ≡ «image-spec».startAt (now (image .entry)) (node .0) ⌝ }
 {
-    word(image, 16 + 4 * wide(s.nodes) + 4 * wide(node.0))
+    word_in(image, 16 + 4 * wide(s.nodes) + 4 * wide(node.0))
 }
 
 fn op_at(image: &[u8], s: Sizes, place: u32) -> u32
-    requires { ⌜ Head (now image) s ⌝ }
+    requires { ⌜ Within (now image) s × (place < s .operands) ⌝ }
     ensures { λ r. ⌜ r ≡ «image-spec».opAt (now (image .entry)) place ⌝ }
 {
-    word(image, 16 + 8 * wide(s.nodes) + 4 * wide(place))
+    word_in(image, 16 + 8 * wide(s.nodes) + 4 * wide(place))
 }
 
 // N.
@@ -219,12 +235,6 @@ fn test_sizes(image: &[u8], s: Sizes) -> u32
     3
 }
 
-// What a test of a row gives: a refusal, or 0 and the place after.
-pub struct Scan {
-    pub code: u32,
-    pub at: u32,
-}
-
 // A node that stands as a child once more: 0, 1, or 2 for several times.
 fn claim(claims: &mut [u8; 2048], c: NodeId)
     requires { ⌜ c .0 < 2048 ⌝ }
@@ -238,54 +248,47 @@ fn claim(claims: &mut [u8; 2048], c: NodeId)
     }
 }
 
-fn is_child(image: &[u8], node: NodeId, k: u32, c: NodeId) -> u32
-    ensures { λ r. ⌜ r ≡ «tests-spec».isChild (now (image .entry)) (node .0) k (c .0) ⌝ }
-{
-    if node.0 <= c.0 {
-        return 9;
-    }
-    if kind_at(image, c) == k {
-        return 0;
-    }
-    9
-}
+// The tests of a row give the place after, which is at most 8192, or 8192 more than the refusal.
+const REFUSED_6: u32 = 8192 + 6;
+
+const REFUSED_7: u32 = 8192 + 7;
+
+const REFUSED_8: u32 = 8192 + 8;
+
+const REFUSED_9: u32 = 8192 + 9;
 
 // The node c as a child of kind k.
 fn check_one(
     image: &[u8],
+    s: Sizes,
     node: NodeId,
     k: u32,
     c: NodeId,
     next: u32,
     claims: &mut [u8; 2048],
-) -> Scan
-    requires { ⌜ (node .0 ≤ 2048) × (next ≤ 8192) ⌝ }
+) -> u32
+    requires { ⌜ Place (now image) s (node .0) next ⌝ }
     ensures { λ r. ⌜ Step («tests-spec».isChild (now (image .entry)) (node .0) k (c .0)) next (c .0 ∷ []) (now (claims .entry)) r (now (claims .exit)) ⌝ }
 {
-    let code = is_child(image, node, k, c);
-    if code != 0 {
-        return Scan { code, at: next };
+    if node.0 <= c.0 {
+        return REFUSED_9;
+    }
+    if kind_in(image, c) != k {
+        return REFUSED_9;
     }
     claim(claims, c);
-    Scan { code: 0, at: next }
+    next
 }
 
-fn check_child(
-    image: &[u8],
-    s: Sizes,
-    node: NodeId,
-    k: u32,
-    p: u32,
-    claims: &mut [u8; 2048],
-) -> Scan
+fn check_child(image: &[u8], s: Sizes, node: NodeId, k: u32, p: u32, claims: &mut [u8; 2048]) -> u32
     requires { ⌜ Place (now image) s (node .0) p ⌝ }
     ensures { λ r. ⌜ FieldTested (now (image .entry)) (node .0) (child k) p (now (claims .entry)) r (now (claims .exit)) ⌝ }
 {
     if s.operands <= p {
-        return Scan { code: 7, at: p };
+        return REFUSED_7;
     }
     let c = NodeId(op_at(image, s, p));
-    check_one(image, node, k, c, p + 1, claims)
+    check_one(image, s, node, k, c, p + 1, claims)
 }
 
 // The children of a list, from the place p on.
@@ -297,7 +300,7 @@ fn check_items(
     count: u32,
     p: u32,
     claims: &mut [u8; 2048],
-) -> Scan
+) -> u32
     requires { ⌜ Place (now image) s (node .0) p ⌝ }
     ensures { λ r. ⌜ Step («tests-spec».run («tests-spec».childWord (now (image .entry)) (node .0) k) count p) (p + count) (opsFrom (now (image .entry)) count p) (now (claims .entry)) r (now (claims .exit)) ⌝ }
 {
@@ -305,22 +308,22 @@ fn check_items(
     let mut at = p;
     while left != 0 {
         let step = check_child(image, s, node, k, at, claims);
-        if step.code != 0 {
+        if 8192 < step {
             return step;
         }
         at += 1;
         left -= 1;
     }
-    Scan { code: 0, at }
+    at
 }
 
 // A count and its items.
-fn check_list(image: &[u8], s: Sizes, node: NodeId, k: u32, p: u32, claims: &mut [u8; 2048]) -> Scan
+fn check_list(image: &[u8], s: Sizes, node: NodeId, k: u32, p: u32, claims: &mut [u8; 2048]) -> u32
     requires { ⌜ Place (now image) s (node .0) p ⌝ }
     ensures { λ r. ⌜ FieldTested (now (image .entry)) (node .0) (list k) p (now (claims .entry)) r (now (claims .exit)) ⌝ }
 {
     if s.operands <= p {
-        return Scan { code: 7, at: p };
+        return REFUSED_7;
     }
     let count = op_at(image, s, p);
     check_items(image, s, node, k, count, p + 1, claims)
@@ -334,7 +337,7 @@ fn check_blocks(
     count: u32,
     p: u32,
     claims: &mut [u8; 2048],
-) -> Scan
+) -> u32
     requires { ⌜ Place (now image) s (node .0) p ⌝ }
     ensures { λ r. ⌜ Step («tests-spec».testBlocks (now (image .entry)) (node .0) k count p) (afterBlocks (now (image .entry)) count p) (numbers (blockKids (now (image .entry)) count p)) (now (claims .entry)) r (now (claims .exit)) ⌝ }
 {
@@ -342,29 +345,22 @@ fn check_blocks(
     let mut at = p;
     while left != 0 {
         let step = check_list(image, s, node, k, at, claims);
-        if step.code != 0 {
+        if 8192 < step {
             return step;
         }
-        at = step.at;
+        at = step;
         left -= 1;
     }
-    Scan { code: 0, at }
+    at
 }
 
 // A count and its lists.
-fn check_lists(
-    image: &[u8],
-    s: Sizes,
-    node: NodeId,
-    k: u32,
-    p: u32,
-    claims: &mut [u8; 2048],
-) -> Scan
+fn check_lists(image: &[u8], s: Sizes, node: NodeId, k: u32, p: u32, claims: &mut [u8; 2048]) -> u32
     requires { ⌜ Place (now image) s (node .0) p ⌝ }
     ensures { λ r. ⌜ FieldTested (now (image .entry)) (node .0) (lists k) p (now (claims .entry)) r (now (claims .exit)) ⌝ }
 {
     if s.operands <= p {
-        return Scan { code: 7, at: p };
+        return REFUSED_7;
     }
     let count = op_at(image, s, p);
     check_blocks(image, s, node, k, count, p + 1, claims)
@@ -377,48 +373,45 @@ fn check_opt_child(
     k: u32,
     p: u32,
     claims: &mut [u8; 2048],
-) -> Scan
+) -> u32
     requires { ⌜ Place (now image) s (node .0) p ⌝ }
     ensures { λ r. ⌜ FieldTested (now (image .entry)) (node .0) (optChild k) p (now (claims .entry)) r (now (claims .exit)) ⌝ }
 {
     if s.operands <= p {
-        return Scan { code: 7, at: p };
+        return REFUSED_7;
     }
     let w = op_at(image, s, p);
     if w == 0 {
-        let next = p + 1;
-        return Scan { code: 0, at: next };
+        return p + 1;
     }
     let child = w - 1;
-    check_one(image, node, k, NodeId(child), p + 1, claims)
+    check_one(image, s, node, k, NodeId(child), p + 1, claims)
 }
 
-fn check_name(image: &[u8], s: Sizes, p: u32) -> Scan
+fn check_name(image: &[u8], s: Sizes, p: u32) -> u32
     requires { ⌜ Place (now image) s 0 p ⌝ }
     ensures { λ r. ⌜ ((n : ℕ) (us : List ℕ) → FieldTested (now (image .entry)) n name p us r us) ⌝ }
 {
     if s.operands <= p {
-        return Scan { code: 7, at: p };
+        return REFUSED_7;
     }
     if op_at(image, s, p) < s.names {
-        let next = p + 1;
-        return Scan { code: 0, at: next };
+        return p + 1;
     }
-    Scan { code: 8, at: p }
+    REFUSED_8
 }
 
-fn check_opt_name(image: &[u8], s: Sizes, p: u32) -> Scan
+fn check_opt_name(image: &[u8], s: Sizes, p: u32) -> u32
     requires { ⌜ Place (now image) s 0 p ⌝ }
     ensures { λ r. ⌜ ((n : ℕ) (us : List ℕ) → FieldTested (now (image .entry)) n optName p us r us) ⌝ }
 {
     if s.operands <= p {
-        return Scan { code: 7, at: p };
+        return REFUSED_7;
     }
     if op_at(image, s, p) <= s.names {
-        let next = p + 1;
-        return Scan { code: 0, at: next };
+        return p + 1;
     }
-    Scan { code: 8, at: p }
+    REFUSED_8
 }
 
 // The kinds of the children of each enum's cases; 41 for a case without one.
@@ -466,168 +459,101 @@ fn case_kind(kinds: &[u32; 34], i: u32) -> u32
     kinds[i as usize]
 }
 
-// A case number, of `count` cases whose kinds stand from `from` on, and the child.
+// The case number of an enum, by the part of the row that says it, and the child.
 fn check_case(
     image: &[u8],
     s: Sizes,
     node: NodeId,
-    from: u32,
-    count: u32,
+    part: u32,
     p: u32,
     kinds: &[u32; 34],
     claims: &mut [u8; 2048],
-) -> Scan
-    requires { ⌜ Place (now image) s (node .0) p × (from + count ≤ 34) × (now kinds ≡ caseKinds) ⌝ }
-    ensures { λ r. ⌜ FieldTested (now (image .entry)) (node .0) (cases (caseList from count)) p (now (claims .entry)) r (now (claims .exit)) ⌝ }
+) -> u32
+    requires { ⌜ Place (now image) s (node .0) p × (part / 8 + part % 8 < 34) × (now kinds ≡ caseKinds) ⌝ }
+    ensures { λ r. ⌜ FieldTested (now (image .entry)) (node .0) (cases (partCases part)) p (now (claims .entry)) r (now (claims .exit)) ⌝ }
 {
     if s.operands <= p {
-        return Scan { code: 7, at: p };
+        return REFUSED_7;
     }
     let case = op_at(image, s, p);
-    if count <= case {
-        return Scan { code: 8, at: p };
+    if part % 8 < case {
+        return REFUSED_8;
     }
-    let k = case_kind(kinds, from + case);
+    let k = case_kind(kinds, part / 8 + case);
     if k == 41 {
-        let next = p + 1;
-        return Scan { code: 0, at: next };
+        return p + 1;
     }
     check_child(image, s, node, k, p + 1, claims)
 }
 
-// The fields of each kind's row, three places to a kind, 0 for none: 1 a name, 2 an optional name, 100 + k a child of kind k,
-// 200 + k an optional one, 300 + k a list, 400 + k a list of blocks, 500 + 10 f + c one of c cases whose kinds stand from f on.
-const ROWS: [u32; 123] = [
-    301,
-    0,
-    0, // Module
-    507,
-    0,
-    0, // Decl
-    1,
-    0,
-    0, // TypeDecl
-    1,
-    111,
-    0, // PredDecl
-    1,
-    111,
-    123, // FuncDecl
-    1,
-    123,
-    0, // ConstDecl
-    2,
-    336,
-    0, // RuleDecl
-    1,
-    309,
-    0, // EnumDecl
-    1,
-    301,
-    0, // ModelDecl
-    1,
-    111,
-    0, // CtorDecl
-    2,
-    123,
-    0, // ArgDecl
-    310,
-    0,
-    0, // ArgDeclList
-    578,
-    0,
-    0, // Term
-    1,
-    0,
-    0, // IdentTerm
-    115,
-    122,
-    0, // AppTerm
-    653,
-    0,
-    0, // AppHead
-    112,
-    313,
-    0, // AppHeadMember
-    112,
-    113,
-    0, // TermMember
-    112,
-    0,
-    0, // DomTerm
-    112,
-    0,
-    0, // CodTerm
-    112,
-    0,
-    0, // IdTerm
-    112,
-    112,
-    0, // CompTerm
-    312,
-    0,
-    0, // TermList
-    683,
-    0,
-    0, // TypeExpr
-    1,
-    0,
-    0, // AmbientTypeExpr
-    1,
-    0,
-    0, // MorTypeExpr
-    712,
-    0,
-    0, // PredExpr
-    1,
-    0,
-    0, // AmbientPredExpr
-    734,
-    0,
-    0, // IfAtom
-    773,
-    0,
-    0, // ThenAtom
-    112,
-    112,
-    0, // EqualAtom
-    126,
-    122,
-    0, // PredAtom
-    112,
-    0,
-    0, // DefinedIfAtom
-    112,
-    123,
-    0, // VarIfAtom
-    212,
-    112,
-    0, // DefinedThenAtom
-    112,
-    336,
-    0, // MatchCase
-    804,
-    0,
-    0, // Stmt
-    128,
-    0,
-    0, // IfStmt
-    129,
-    0,
-    0, // ThenStmt
-    436,
-    0,
-    0, // BranchStmt
-    112,
-    335,
-    0, // MatchStmt
+// The parts of a row. A child of kind k is CHILD + k, and so for options and lists; LISTS are the blocks of a branch. One of l + 1 cases
+// whose kinds stand from f on is 8 f + l. The second and the third part of a row stand above the first.
+const NAME: u32 = 512;
+
+const OPT_NAME: u32 = 513;
+
+const CHILD: u32 = 576;
+
+const OPT_CHILD: u32 = 640;
+
+const LIST: u32 = 704;
+
+const LISTS: u32 = 768;
+
+const SECOND: u32 = 1024;
+
+const THIRD: u32 = 1048576;
+
+// The row of each kind.
+const ROWS: [u32; 41] = [
+    LIST + 1, // Module
+    8 * 0 + 6, // Decl
+    NAME, // TypeDecl
+    NAME + SECOND * (CHILD + 11), // PredDecl
+    NAME + SECOND * (CHILD + 11) + THIRD * (CHILD + 23), // FuncDecl
+    NAME + SECOND * (CHILD + 23), // ConstDecl
+    OPT_NAME + SECOND * (LIST + 36), // RuleDecl
+    NAME + SECOND * (LIST + 9), // EnumDecl
+    NAME + SECOND * (LIST + 1), // ModelDecl
+    NAME + SECOND * (CHILD + 11), // CtorDecl
+    OPT_NAME + SECOND * (CHILD + 23), // ArgDecl
+    LIST + 10, // ArgDeclList
+    8 * 7 + 7, // Term
+    NAME, // IdentTerm
+    CHILD + 15 + SECOND * (CHILD + 22), // AppTerm
+    8 * 15 + 2, // AppHead
+    CHILD + 12 + SECOND * (LIST + 13), // AppHeadMember
+    CHILD + 12 + SECOND * (CHILD + 13), // TermMember
+    CHILD + 12, // DomTerm
+    CHILD + 12, // CodTerm
+    CHILD + 12, // IdTerm
+    CHILD + 12 + SECOND * (CHILD + 12), // CompTerm
+    LIST + 12, // TermList
+    8 * 18 + 2, // TypeExpr
+    NAME, // AmbientTypeExpr
+    NAME, // MorTypeExpr
+    8 * 21 + 1, // PredExpr
+    NAME, // AmbientPredExpr
+    8 * 23 + 3, // IfAtom
+    8 * 27 + 2, // ThenAtom
+    CHILD + 12 + SECOND * (CHILD + 12), // EqualAtom
+    CHILD + 26 + SECOND * (CHILD + 22), // PredAtom
+    CHILD + 12, // DefinedIfAtom
+    CHILD + 12 + SECOND * (CHILD + 23), // VarIfAtom
+    OPT_CHILD + 12 + SECOND * (CHILD + 12), // DefinedThenAtom
+    CHILD + 12 + SECOND * (LIST + 36), // MatchCase
+    8 * 30 + 3, // Stmt
+    CHILD + 28, // IfStmt
+    CHILD + 29, // ThenStmt
+    LISTS + 36, // BranchStmt
+    CHILD + 12 + SECOND * (LIST + 35), // MatchStmt
 ];
 
-fn part_at(parts: &[u32; 123], i: u32) -> u32
-    requires { ⌜ (now parts ≡ rowParts) × (i < 123) ⌝ }
-    ensures { λ r. ⌜ r ≡ getD rowParts i 0 ⌝ }
+fn row_of(rows: &[u32; 41], kind: u32) -> u32
+    requires { ⌜ (now rows ≡ rowParts) × (kind ≤ 40) ⌝ }
+    ensures { λ r. ⌜ r ≡ getD rowParts kind 0 ⌝ }
 {
-    parts[i as usize]
+    rows[kind as usize]
 }
 
 fn check_part(
@@ -638,68 +564,56 @@ fn check_part(
     p: u32,
     kinds: &[u32; 34],
     claims: &mut [u8; 2048],
-) -> Scan
+) -> u32
     requires { ⌜ Place (now image) s (node .0) p × Cased part × (now kinds ≡ caseKinds) ⌝ }
-    ensures { λ r. ⌜ FieldsTested (now (image .entry)) (node .0) (partOf part) p (now (claims .entry)) r (now (claims .exit)) ⌝ }
+    ensures { λ r. ⌜ FieldTested (now (image .entry)) (node .0) (partOf part) p (now (claims .entry)) r (now (claims .exit)) ⌝ }
 {
-    if part == 0 {
-        return Scan { code: 0, at: p };
+    if part < NAME {
+        return check_case(image, s, node, part, p, kinds, claims);
     }
-    if part == 1 {
+    if part == NAME {
         return check_name(image, s, p);
     }
-    if part < 100 {
+    if part < CHILD {
         return check_opt_name(image, s, p);
     }
-    if part < 200 {
-        return check_child(image, s, node, part - 100, p, claims);
+    if part < OPT_CHILD {
+        return check_child(image, s, node, part - CHILD, p, claims);
     }
-    if part < 300 {
-        return check_opt_child(image, s, node, part - 200, p, claims);
+    if part < LIST {
+        return check_opt_child(image, s, node, part - OPT_CHILD, p, claims);
     }
-    if part < 400 {
-        return check_list(image, s, node, part - 300, p, claims);
+    if part < LISTS {
+        return check_list(image, s, node, part - LIST, p, claims);
     }
-    if part < 500 {
-        return check_lists(image, s, node, part - 400, p, claims);
-    }
-    check_case(
-        image,
-        s,
-        node,
-        (part - 500) / 10,
-        (part - 500) % 10,
-        p,
-        kinds,
-        claims,
-    )
+    check_lists(image, s, node, part - LISTS, p, claims)
 }
 
+// The parts of a row, one after another.
 fn check_row(
     image: &[u8],
     s: Sizes,
     node: NodeId,
     kind: u32,
     p: u32,
-    parts: &[u32; 123],
+    rows: &[u32; 41],
     kinds: &[u32; 34],
     claims: &mut [u8; 2048],
-) -> Scan
-    requires { ⌜ Place (now image) s (node .0) p × (kind ≤ 40) × Tables (now parts) (now kinds) ⌝ }
+) -> u32
+    requires { ⌜ Place (now image) s (node .0) p × (kind ≤ 40) × Tables (now rows) (now kinds) ⌝ }
     ensures { λ r. ⌜ FieldsTested (now (image .entry)) (node .0) ((kindOf kind) .fields) p (now (claims .entry)) r (now (claims .exit)) ⌝ }
 {
-    let mut j = 0u32;
+    let mut row = row_of(rows, kind);
     let mut at = p;
-    while j < 3 {
-        let part = part_at(parts, 3 * kind + j);
-        let step = check_part(image, s, node, part, at, kinds, claims);
-        if step.code != 0 {
+    while row != 0 {
+        let step = check_part(image, s, node, row % SECOND, at, kinds, claims);
+        if 8192 < step {
             return step;
         }
-        at = step.at;
-        j += 1;
+        at = step;
+        row = row / SECOND;
     }
-    Scan { code: 0, at }
+    at
 }
 
 // Refusals 6 to 9 of a node; `end` is where the row before ends.
@@ -708,52 +622,49 @@ fn check_node(
     s: Sizes,
     node: NodeId,
     end: u32,
-    parts: &[u32; 123],
+    rows: &[u32; 41],
     kinds: &[u32; 34],
     claims: &mut [u8; 2048],
-) -> Scan
-    requires { ⌜ Place (now image) s (node .0) 0 × (end ≡ «tests-spec».endBefore (now image) (node .0)) × Tables (now parts) (now kinds) ⌝ }
+) -> u32
+    requires { ⌜ Place (now image) s (node .0) end × (node .0 < s .nodes) × (end ≡ «tests-spec».endBefore (now image) (node .0)) × Tables (now rows) (now kinds) ⌝ }
     ensures { λ r. ⌜ NodeTested (now (image .entry)) (node .0) (now (claims .entry)) r (now (claims .exit)) ⌝ }
 {
-    let kind = kind_at(image, node);
+    let kind = kind_in(image, node);
     if 40 < kind {
-        return Scan { code: 6, at: 0 };
+        return REFUSED_6;
     }
     let start = start_at(image, s, node);
     if start != end {
-        return Scan { code: 7, at: 0 };
-    }
-    if s.operands <= start {
-        return Scan { code: 7, at: 0 };
+        return REFUSED_7;
     }
     if s.operands <= start + 1 {
-        return Scan { code: 7, at: 0 };
+        return REFUSED_7;
     }
-    check_row(image, s, node, kind, start + 2, parts, kinds, claims)
+    check_row(image, s, node, kind, start + 2, rows, kinds, claims)
 }
 
 // Refusals 6 to 9.
 fn check_nodes(
     image: &[u8],
     s: Sizes,
-    parts: &[u32; 123],
+    rows: &[u32; 41],
     kinds: &[u32; 34],
     claims: &mut [u8; 2048],
-) -> Scan
-    requires { ⌜ Within (now image) s × Tables (now parts) (now kinds) ⌝ }
+) -> u32
+    requires { ⌜ Within (now image) s × Tables (now rows) (now kinds) ⌝ }
     ensures { λ r. ⌜ Step («tests-spec».run («tests-spec».testNode (now (image .entry))) («image-spec».nodes (now (image .entry))) 0) («tests-spec».endBefore (now (image .entry)) («image-spec».nodes (now (image .entry)))) (kidsTo (now (image .entry)) («image-spec».nodes (now (image .entry)))) (now (claims .entry)) r (now (claims .exit)) ⌝ }
 {
     let mut n = 0u32;
     let mut end = 0u32;
     while n < s.nodes {
-        let step = check_node(image, s, NodeId(n), end, parts, kinds, claims);
-        if step.code != 0 {
+        let step = check_node(image, s, NodeId(n), end, rows, kinds, claims);
+        if 8192 < step {
             return step;
         }
-        end = step.at;
+        end = step;
         n += 1;
     }
-    Scan { code: 0, at: end }
+    end
 }
 
 // Refusal 11: each node but the last is a child once.
@@ -763,58 +674,57 @@ fn test_parents(image: &[u8], s: Sizes, claims: &[u8; 2048]) -> u32
 {
     let last = s.nodes - 1;
     let mut v = 0u32;
+    let mut code = 0u32;
     while v < last {
         if claims[v as usize] != 1 {
-            return 11;
+            code = 11;
         }
         v += 1;
     }
-    0
+    code
 }
 
-fn test_term(image: &[u8], s: Sizes, c: NodeId) -> u32
-    requires { ⌜ Head (now image) s ⌝ }
+// The first word of a row after its location.
+fn first_word(image: &[u8], node: NodeId) -> u32
+    ensures { λ r. ⌜ r ≡ «tests-spec».first (now (image .entry)) (node .0) ⌝ }
+{
+    field(image, node, 0)
+}
+
+fn test_term(image: &[u8], c: NodeId) -> u32
     ensures { λ r. ⌜ r ≡ «tests-spec».isVar (now (image .entry)) (c .0) ⌝ }
 {
-    if first_word(image, s, c) <= 1 {
+    if first_word(image, c) <= 1 {
         return 0;
     }
     12
 }
 
-fn first_word(image: &[u8], s: Sizes, node: NodeId) -> u32
-    requires { ⌜ Head (now image) s ⌝ }
-    ensures { λ r. ⌜ r ≡ «tests-spec».first (now (image .entry)) (node .0) ⌝ }
-{
-    word(
-        image,
-        16 + 8 * wide(s.nodes) + 4 * (wide(start_at(image, s, node)) + 2),
-    )
-}
-
 fn test_var(image: &[u8], s: Sizes, node: NodeId) -> u32
-    requires { ⌜ Head (now image) s ⌝ }
+    requires { ⌜ Within (now image) s × (node .0 < s .nodes) ⌝ }
     ensures { λ r. ⌜ r ≡ «tests-spec».testVar (now (image .entry)) (node .0) ⌝ }
 {
-    let kind = kind_at(image, node);
-    if kind == 33 {
-        let c = NodeId(first_word(image, s, node));
-        return test_term(image, s, c);
-    }
-    if kind != 34 {
+    let kind = kind_in(image, node);
+    if kind < 33 {
         return 0;
     }
-    let w = first_word(image, s, node);
+    if 34 < kind {
+        return 0;
+    }
+    let w = first_word(image, node);
+    if kind == 33 {
+        return test_term(image, NodeId(w));
+    }
     if w == 0 {
         return 0;
     }
     let child = w - 1;
-    test_term(image, s, NodeId(child))
+    test_term(image, NodeId(child))
 }
 
 // Refusal 12.
 fn test_vars(image: &[u8], s: Sizes) -> u32
-    requires { ⌜ Head (now image) s ⌝ }
+    requires { ⌜ Within (now image) s ⌝ }
     ensures { λ r. ⌜ r ≡ «tests-spec».run («tests-spec».testVar (now (image .entry))) («image-spec».nodes (now (image .entry))) 0 ⌝ }
 {
     let mut n = 0u32;
@@ -837,7 +747,7 @@ fn test_tree(image: &[u8], s: Sizes, end: u32, claims: &[u8; 2048]) -> u32
         return 10;
     }
     let last = s.nodes - 1;
-    let top = kind_at(image, NodeId(last));
+    let top = kind_in(image, NodeId(last));
     if top != 0 {
         return 10;
     }
@@ -849,10 +759,10 @@ fn test_tree(image: &[u8], s: Sizes, end: u32, claims: &[u8; 2048]) -> u32
 }
 
 fn name_end(image: &[u8], s: Sizes, i: u32) -> u32
-    requires { ⌜ Head (now image) s ⌝ }
+    requires { ⌜ Within (now image) s × (i < s .names) ⌝ }
     ensures { λ r. ⌜ r ≡ «image-spec».nameEnd (now (image .entry)) i ⌝ }
 {
-    word(
+    word_in(
         image,
         16 + 8 * wide(s.nodes) + 4 * wide(s.operands) + 4 * wide(i),
     )
@@ -860,7 +770,7 @@ fn name_end(image: &[u8], s: Sizes, i: u32) -> u32
 
 // Refusal 4: the ends of the names rise, from above 0 to B.
 fn test_ends(image: &[u8], s: Sizes) -> u32
-    requires { ⌜ Head (now image) s ⌝ }
+    requires { ⌜ Within (now image) s ⌝ }
     ensures { λ r. ⌜ r ≡ «tests-spec».testEnds (now (image .entry)) ⌝ }
 {
     let mut i = 0u32;
@@ -887,7 +797,7 @@ fn bucket(image: &[u8], from: usize, to: usize) -> u32
     let mut h = 0u32;
     let mut i = from;
     while i < to {
-        h = (31 * h + byte(image, i)) % 1024;
+        h = (37 * h + byte(image, i)) % 1024;
         i += 1;
     }
     h
@@ -911,7 +821,7 @@ fn agree(image: &[u8], a: usize, b: usize, to: usize) -> bool
 }
 
 fn name_start(image: &[u8], s: Sizes, i: u32) -> u32
-    requires { ⌜ Head (now image) s ⌝ }
+    requires { ⌜ Within (now image) s × (i < s .names) ⌝ }
     ensures { λ r. ⌜ r ≡ «image-spec».nameStart (now (image .entry)) i ⌝ }
 {
     if i == 0 {
@@ -1025,14 +935,14 @@ pub fn verdict(image: &[u8]) -> u32
     if b != 0 {
         return b;
     }
-    let parts = ROWS;
+    let rows = ROWS;
     let kinds = CASES;
     let mut claims = [0u8; 2048];
-    let step = check_nodes(image, s, &parts, &kinds, &mut claims);
-    if step.code != 0 {
-        return step.code;
+    let end = check_nodes(image, s, &rows, &kinds, &mut claims);
+    if 8192 < end {
+        return end - 8192;
     }
-    test_tree(image, s, step.at, &claims)
+    test_tree(image, s, end, &claims)
 }
 
 // A part of the image: its start and its length.

@@ -5,7 +5,7 @@ use Rattle.ast.proofs.equal_names.Statement.{statement}
 use Rattle.ast.proofs.equal_names.Tie as tie
 
 name-start-requires : tie.Need-name-start-requires
-name-start-requires c κs = c .before .pre .0 .within .head
+name-start-requires c κs = (c .before .pre .0 .within, (let n = c .before .pre .0 .within .head .names-are in let h = c .before .pre .0 .name in let l = c .before .pre .1 in omega arith))
 
 span-of-requires : tie.Need-span-of-requires
 span-of-requires c κs = record { within = c .before .before .pre .0 .within; rising-all = c .before .before .pre .0 .rising-all; name = (let h = c .before .before .pre .0 .name in let l = c .before .before .pre .1 in omega arith); start-is = c .name-start .ensures }

@@ -4,7 +4,6 @@ use Rattle.ast.proofs.Accepted.{passed, named}
 use Rattle.ast.proofs.Names.{name-fits}
 use Rattle.ast.proofs.NameParts.{place-refused, place-beyond, place-is}
 use Rattle.ast.proofs.Whole.{sized-within}
-use borrow.Author.Needs.{needs}
 use Rattle.ast.proofs.name_place.Statement.{statement}
 use Rattle.ast.proofs.name_place.Tie as tie
 
@@ -21,7 +20,7 @@ returns-2 : tie.Need-returns-2
 returns-2 c = sym (place-beyond _ _ (sym (c .before .before .before .before .verdict .ensures) ∙ c .before .before .before .if1 .left) (let n = c .before .before .sizes-of .ensures .names-are in omega arith))
 
 name-start-requires : tie.Need-name-start-requires
-name-start-requires c κs = search needs
+name-start-requires c κs = let e = sym (c .before .before .before .before .verdict .ensures) ∙ c .before .before .before .if1 .left in (sized-within _ _ (c .before .before .sizes-of .ensures) (passed _ e .sizes), omega arith)
 
 span-of-requires : tie.Need-span-of-requires
 span-of-requires c κs = let e = sym (c .before .before .before .before .before .verdict .ensures) ∙ c .before .before .before .before .if1 .left in record { within = sized-within _ _ (c .before .before .before .sizes-of .ensures) (passed _ e .sizes); rising-all = named _ e .rising-all; name = (let n = c .before .before .before .sizes-of .ensures .names-are in omega arith); start-is = c .name-start .ensures }

@@ -2,7 +2,6 @@ use mathlib.Core.Path.{_≡_, sym, ap, _∙_}
 use native.Mathlib.Omega.{arith}
 use Prim.Native.Nat.{suc, _-_}
 use Rattle.ast.specs.Image as image
-use borrow.Author.Needs.{needs}
 use Rattle.ast.proofs.name_start.Statement.{statement}
 use Rattle.ast.proofs.name_start.Tie as tie
 
@@ -14,7 +13,7 @@ sub-name-end : tie.Need-sub-name-end
 sub-name-end c = omega arith
 
 name-end-requires : tie.Need-name-end-requires
-name-end-requires c κs = search needs
+name-end-requires c κs = (c .before .before .pre .0, omega arith)
 
 returns-2 : tie.Need-returns-2
 unfolding image.nameStart

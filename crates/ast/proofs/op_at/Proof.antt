@@ -8,37 +8,37 @@ use Rattle.ast.proofs.op_at.Tie as tie
 wide-requires : tie.Need-wide-requires
 wide-requires c κs = tt
 
-mul-word : tie.Need-mul-word
-mul-word c = omega arith
+mul-word-in : tie.Need-mul-word-in
+mul-word-in c = omega arith
 
-add-word : tie.Need-add-word
-add-word c = omega arith
+add-word-in : tie.Need-add-word-in
+add-word-in c = omega arith
 
 wide-requires-2 : tie.Need-wide-requires-2
 wide-requires-2 c κs = tt
 
-mul-word-2 : tie.Need-mul-word-2
-mul-word-2 c = omega arith
+mul-word-in-2 : tie.Need-mul-word-in-2
+mul-word-in-2 c = omega arith
 
-add-word-2 : tie.Need-add-word-2
-add-word-2 c = omega arith
+add-word-in-2 : tie.Need-add-word-in-2
+add-word-in-2 c = omega arith
 
-word-requires : tie.Need-word-requires
-word-requires c κs = tt
+word-in-requires : tie.Need-word-in-requires
+word-in-requires c κs = omega arith
 
 returns : tie.Need-returns
 unfolding opAt
-returns c = c .word .ensures ∙ ap (word _) (omega arith)
+returns c = c .word-in .ensures ∙ ap (word _) (omega arith)
 
 pub op-at-spec : {M : Type 1} → statement M
 op-at-spec =
     tie.close
     (tie.spec
     wide-requires
-    mul-word
-    add-word
+    mul-word-in
+    add-word-in
     wide-requires-2
-    mul-word-2
-    add-word-2
-    word-requires
+    mul-word-in-2
+    add-word-in-2
+    word-in-requires
     returns)

@@ -31,7 +31,7 @@ add-base-3 : tie.Need-add-base-3
 add-base-3 c = omega arith
 
 name-end-requires : tie.Need-name-end-requires
-name-end-requires c κs = c .before .before .before .before .pre .within .head
+name-end-requires c κs = let q = c .before .before .before .before .pre in let e = q .within .head .names-are in let n = q .name in (q .within, omega arith)
 
 wide-requires-4 : tie.Need-wide-requires-4
 wide-requires-4 c κs = tt

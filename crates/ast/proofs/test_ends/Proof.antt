@@ -1,4 +1,3 @@
-use borrow.Author.Needs.{needs}
 use mathlib.Core.Path.{sym, _∙_}
 use native.Mathlib.Omega.{arith}
 use Prim.Native.Nat.{_-_}
@@ -16,10 +15,10 @@ loop-holds : tie.Need-loop-holds Inv-loop μ-loop
 loop-holds c = ends-begin _
 
 name-end-requires : tie.Need-name-end-requires Inv-loop μ-loop
-name-end-requires c κs = search needs
+name-end-requires c κs = (c .before .before .before .before .pre, omega arith)
 
 returns : tie.Need-returns Inv-loop μ-loop
-returns c = sym (ends-stop _ _ _ _ (c .before .before .before .before .loop .inv) (omega arith) (c .before .name-end .ensures) (c .if2 .taken))
+returns c = let n = c .before .before .before .before .before .before .pre .head .names-are in sym (ends-stop _ _ _ _ (c .before .before .before .before .loop .inv) (omega arith) (c .before .name-end .ensures) (c .if2 .taken))
 
 add-i : tie.Need-add-i Inv-loop μ-loop
 add-i c = omega arith
@@ -28,13 +27,13 @@ loop-less : tie.Need-loop-less Inv-loop μ-loop
 loop-less c = omega arith
 
 loop-again : tie.Need-loop-again Inv-loop μ-loop
-loop-again c = ends-next _ _ _ _ (c .before .before .before .before .loop .inv) (omega arith) (c .before .name-end .ensures) (c .if2 .left)
+loop-again c = let n = c .before .before .before .before .before .before .pre .head .names-are in ends-next _ _ _ _ (c .before .before .before .before .loop .inv) (omega arith) (c .before .name-end .ensures) (c .if2 .left)
 
 returns-2 : tie.Need-returns-2 Inv-loop μ-loop
-returns-2 c = sym (ends-bad _ _ _ (c .before .before .before .before .loop .inv) (omega arith) (λ e. c .if3 .taken (e ∙ sym (c .before .before .before .before .before .before .pre .bytes-are))))
+returns-2 c = let n = c .before .before .before .before .before .before .pre .head .names-are in sym (ends-bad _ _ _ (c .before .before .before .before .loop .inv) (omega arith) (λ e. c .if3 .taken (e ∙ sym (c .before .before .before .before .before .before .pre .head .bytes-are))))
 
 returns-3 : tie.Need-returns-3 Inv-loop μ-loop
-returns-3 c = sym (ends-good _ _ _ (c .before .before .before .before .loop .inv) (omega arith) (c .if3 .left ∙ c .before .before .before .before .before .before .pre .bytes-are))
+returns-3 c = let n = c .before .before .before .before .before .before .pre .head .names-are in sym (ends-good _ _ _ (c .before .before .before .before .loop .inv) (omega arith) (c .if3 .left ∙ c .before .before .before .before .before .before .pre .head .bytes-are))
 
 pub test-ends-spec : {M : Type 1} → statement M
 test-ends-spec =

@@ -4,7 +4,7 @@ use Rattle.ast.proofs.test_names.Statement.{statement}
 use Rattle.ast.proofs.test_names.Tie as tie
 
 test-ends-requires : tie.Need-test-ends-requires
-test-ends-requires c κs = c .before .pre .head
+test-ends-requires c κs = c .before .pre
 
 returns : tie.Need-returns
 returns c = sym (names-split _ _ (sym (c .before .test-ends .ensures)) (c .if1 .taken))

@@ -1,12 +1,11 @@
 use mathlib.Core.Path.{sym}
 use native.Mathlib.Omega.{arith}
 use Rattle.ast.proofs.Whole.{term-in, term-out}
-use borrow.Author.Needs.{needs}
 use Rattle.ast.proofs.test_term.Statement.{statement}
 use Rattle.ast.proofs.test_term.Tie as tie
 
 first-word-requires : tie.Need-first-word-requires
-first-word-requires c κs = search needs
+first-word-requires c κs = tt
 
 returns : tie.Need-returns
 returns c = sym (term-in _ _ _ (c .before .first-word .ensures) (omega arith))

@@ -1,4 +1,3 @@
-use borrow.Author.Needs.{needs}
 use mathlib.Core.Path.{sym, _∙_}
 use native.Mathlib.Omega.{arith}
 use Prim.Native.Nat.{_-_}
@@ -18,10 +17,10 @@ loop-holds : tie.Need-loop-holds Inv-loop μ-loop
 loop-holds c = run-begin _ _
 
 test-var-requires : tie.Need-test-var-requires Inv-loop μ-loop
-test-var-requires c κs = search needs
+test-var-requires c κs = (c .before .before .before .before .pre, omega arith)
 
 returns : tie.Need-returns Inv-loop μ-loop
-returns c = sym (run-stop _ _ _ _ (c .before .before .before .before .loop .inv) (omega arith) (sym (c .before .test-var .ensures)) (c .if2 .taken))
+returns c = let e = c .before .before .before .before .before .before .pre .head .nodes-are in sym (run-stop _ _ _ _ (c .before .before .before .before .loop .inv) (omega arith) (sym (c .before .test-var .ensures)) (c .if2 .taken))
 
 add-n : tie.Need-add-n Inv-loop μ-loop
 add-n c = omega arith
@@ -30,10 +29,10 @@ loop-less : tie.Need-loop-less Inv-loop μ-loop
 loop-less c = omega arith
 
 loop-again : tie.Need-loop-again Inv-loop μ-loop
-loop-again c = run-next _ _ _ (c .before .before .before .before .loop .inv) (omega arith) (sym (c .before .test-var .ensures) ∙ c .if2 .left)
+loop-again c = let e = c .before .before .before .before .before .before .pre .head .nodes-are in run-next _ _ _ (c .before .before .before .before .loop .inv) (omega arith) (sym (c .before .test-var .ensures) ∙ c .if2 .left)
 
 returns-2 : tie.Need-returns-2 Inv-loop μ-loop
-returns-2 c = sym (run-end _ _ _ (c .before .before .loop .inv) (omega arith))
+returns-2 c = let e = c .before .before .before .before .pre .head .nodes-are in sym (run-end _ _ _ (c .before .before .loop .inv) (omega arith))
 
 pub test-vars-spec : {M : Type 1} → statement M
 test-vars-spec =

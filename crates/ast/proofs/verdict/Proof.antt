@@ -1,9 +1,9 @@
+use native.Mathlib.Omega.{arith}
 use mathlib.Core.Path.{refl, sym, _∙_}
 use Rattle.ast.specs.Parts.{rowParts, caseKinds}
 use Rattle.ast.proofs.Whole.{verdict-sizes, verdict-names, verdict-nodes, verdict-tree, sized-within}
 use Rattle.ast.proofs.verdict.Statement.{statement}
 use Rattle.ast.proofs.verdict.Tie as tie
-use borrow.Author.Needs.{needs}
 
 sizes-of-requires : tie.Need-sizes-of-requires
 sizes-of-requires c κs = tt
@@ -24,14 +24,17 @@ check-nodes-requires : tie.Need-check-nodes-requires
 unfolding rowParts caseKinds
 check-nodes-requires c κs = (sized-within _ _ (c .before .before .before .before .before .before .before .sizes-of .ensures) (sym (c .before .before .before .before .before .before .test-sizes .ensures) ∙ c .before .before .before .before .before .if1 .left), (refl, refl))
 
+sub-result : tie.Need-sub-result
+sub-result c = omega arith
+
 returns-3 : tie.Need-returns-3
-returns-3 c = sym (verdict-nodes _ (sym (c .before .before .before .before .before .before .before .before .before .test-sizes .ensures) ∙ c .before .before .before .before .before .before .before .before .if1 .left) (sym (c .before .before .before .before .before .before .before .test-names .ensures) ∙ c .before .before .before .before .before .before .if2 .left) _ (sym (c .before .before .check-nodes .ensures .code)) (c .if3 .taken))
+returns-3 c = sym (verdict-nodes _ (sym (c .before .before .before .before .before .before .before .before .test-sizes .ensures) ∙ c .before .before .before .before .before .before .before .if1 .left) (sym (c .before .before .before .before .before .before .test-names .ensures) ∙ c .before .before .before .before .before .if2 .left) _ (sym (c .before .check-nodes .ensures .refusal)) (λ z. omega arith))
 
 test-tree-requires : tie.Need-test-tree-requires
-test-tree-requires c κs = (let g = c .before .before .before .check-nodes .ensures .went (c .before .if3 .left) in (sized-within _ _ (c .before .before .before .before .before .before .before .before .before .before .before .sizes-of .ensures) (sym (c .before .before .before .before .before .before .before .before .before .before .test-sizes .ensures) ∙ c .before .before .before .before .before .before .before .before .before .if1 .left), g .place, g .claimed))
+test-tree-requires c κs = let g = c .before .before .check-nodes .ensures .went (omega arith) in (sized-within _ _ (c .before .before .before .before .before .before .before .before .before .before .sizes-of .ensures) (sym (c .before .before .before .before .before .before .before .before .before .test-sizes .ensures) ∙ c .before .before .before .before .before .before .before .before .if1 .left), g .place, g .claimed)
 
 returns-4 : tie.Need-returns-4
-returns-4 c = c .test-tree .ensures ∙ sym (verdict-tree _ (sym (c .before .before .before .before .before .before .before .before .before .before .before .test-sizes .ensures) ∙ c .before .before .before .before .before .before .before .before .before .before .if1 .left) (sym (c .before .before .before .before .before .before .before .before .before .test-names .ensures) ∙ c .before .before .before .before .before .before .before .before .if2 .left) (sym (c .before .before .before .before .check-nodes .ensures .code) ∙ c .before .before .if3 .left))
+returns-4 c = c .test-tree .ensures ∙ sym (verdict-tree _ (sym (c .before .before .before .before .before .before .before .before .before .before .test-sizes .ensures) ∙ c .before .before .before .before .before .before .before .before .before .if1 .left) (sym (c .before .before .before .before .before .before .before .before .test-names .ensures) ∙ c .before .before .before .before .before .before .before .if2 .left) (sym (c .before .before .before .check-nodes .ensures .refusal) ∙ omega arith))
 
 pub verdict-spec : {M : Type 1} → statement M
 verdict-spec =
@@ -43,6 +46,7 @@ verdict-spec =
     test-names-requires
     returns-2
     check-nodes-requires
+    sub-result
     returns-3
     test-tree-requires
     returns-4)
