@@ -47,6 +47,17 @@ pub fn word(image: &[u8], offset: usize) -> u32
         + 16777216 * byte(image, offset + 3)
 }
 
+// The same, where it fits.
+pub fn word_in(image: &[u8], offset: usize) -> u32
+    requires { ⌜ offset + 4 ≤ length (now image) ⌝ }
+    ensures { λ r. ⌜ r ≡ «image-spec».word (now (image .entry)) offset ⌝ }
+{
+    byte(image, offset)
+        + 256 * byte(image, offset + 1)
+        + 65536 * byte(image, offset + 2)
+        + 16777216 * byte(image, offset + 3)
+}
+
 // The four words at the front: N, C, S, B.
 pub struct Sizes {
     pub nodes: u32,
@@ -168,7 +179,7 @@ pub fn field(image: &[u8], node: NodeId, j: usize) -> u32
     operand(image, wide(row_start(image, node)) + 2 + j)
 }
 
-fn less_one(x: u32) -> u32
+pub fn less_one(x: u32) -> u32
     ensures { λ r. ⌜ r ≡ x - 1 ⌝ }
 {
     if x == 0 { 0 } else { x - 1 }
