@@ -1,315 +1,262 @@
+use borrow.Author.Needs.{needs}
+use mathlib.Core.Path.{_≡_, refl, sym, ap, subst, _∙_}
+use mathlib.Core.Logic.{⊎-elim}
+use native.Mathlib.Omega.{arith}
+use Prim.Native.Nat.{_+_, _*_, _≤_}
+use Rattle.table.specs.Values.{optionOf}
+use Rattle.table.proofs.Overs.{begun, begun-rows, begun-climbs, gives, Over, over-start, over-any, over-block, over-hit, passed-row, passed-none, over-end, over-up, over-none, field-part, four-fits, word-fits, rows-fit, before-in, node-in, parent-in, start-in, node-fits}
 use Rattle.table.proofs.seek.Statement.{statement}
 use Rattle.table.proofs.seek.Tie as tie
-use Rattle.table.proofs.seek.Reads as reads
-use Rattle.table.proofs.seek.Lts as lts
-use Rattle.ast.proofs.node_count.Reads as node-count-reads
-use Rattle.ast.proofs.wide.Reads as wide-reads
-use Rattle.ast.proofs.word_in.Reads as word-in-reads
-use Rattle.table.proofs.is_named.Reads as is-named-reads
-use Rattle.table.proofs.rows_near.Reads as rows-near-reads
-use Rattle.table.proofs.seek_any.Reads as seek-any-reads
 
 abbrev Inv-loop : tie.InvT-loop
-Inv-loop image table symbols name n at₀ end₀ parents scopes nodes starts words at end = ?
+Inv-loop image table symbols name n at₀ end₀ parents scopes nodes starts words at end = Over image table n symbols at₀ name at end
 
 abbrev μ-loop : tie.MeasureT-loop
-μ-loop image table symbols name n at₀ end₀ parents scopes nodes starts words at end = ?
+μ-loop image table symbols name n at₀ end₀ parents scopes nodes starts words at end = at
 
--- src/lib.rt:328:23
 node-count-requires : tie.Need-node-count-requires Inv-loop μ-loop
-node-count-requires c κs = ?
+node-count-requires c κs = search needs
 
--- src/lib.rt:328:9
 wide-requires : tie.Need-wide-requires Inv-loop μ-loop
-wide-requires c κs = ?
+wide-requires c κs = search needs
 
--- src/lib.rt:329:9
 wide-requires-2 : tie.Need-wide-requires-2 Inv-loop μ-loop
-wide-requires-2 c κs = ?
+wide-requires-2 c κs = search needs
 
--- src/lib.rt:330:39
 wide-requires-3 : tie.Need-wide-requires-3 Inv-loop μ-loop
-wide-requires-3 c κs = ?
+wide-requires-3 c κs = search needs
 
--- src/lib.rt:330:9
 rows-near-requires : tie.Need-rows-near-requires Inv-loop μ-loop
-rows-near-requires c κs = ?
+rows-near-requires c κs = let h = c .before .before .before .before .before .before .pre in let a = h .within in let b = h .long in omega arith
 
--- src/lib.rt:332:9
 seek-any-requires : tie.Need-seek-any-requires Inv-loop μ-loop
-seek-any-requires c κs = ?
+seek-any-requires c κs = (begun-rows _ _ (begun _ _ (c .before .before .before .before .wide .ensures ∙ c .before .before .before .before .before .node-count .ensures) (omega arith) (c .before .before .before .before .before .before .before .before .pre) (c .before .before .wide3 .ensures) (c .before .rows-near .ensures)), omega arith)
 
--- src/lib.rt:332:9
 returns : tie.Need-returns Inv-loop μ-loop
-returns c = ?
+returns c = gives _ _ _ _ (c .before .before .before .before .wide2 .ensures) (begun-climbs _ _ (begun _ _ (c .before .before .before .before .before .wide .ensures ∙ c .before .before .before .before .before .before .node-count .ensures) (omega arith) (c .before .before .before .before .before .before .before .before .before .pre) (c .before .before .before .wide3 .ensures) (c .before .before .rows-near .ensures)) .same ∙ sym (c .seek-any .ensures))
 
--- src/lib.rt:334:27
 mul-if2 : tie.Need-mul-if2 Inv-loop μ-loop
-mul-if2 c = ?
+mul-if2 c = search needs
 
--- src/lib.rt:334:22
 add-if2 : tie.Need-add-if2 Inv-loop μ-loop
-add-if2 c = ?
+add-if2 c = search needs
 
--- src/lib.rt:335:9
 seek-any-requires-2 : tie.Need-seek-any-requires-2 Inv-loop μ-loop
-seek-any-requires-2 c κs = ?
+seek-any-requires-2 c κs = (begun-rows _ _ (begun _ _ (c .before .before .before .before .before .wide .ensures ∙ c .before .before .before .before .before .before .node-count .ensures) (omega arith) (c .before .before .before .before .before .before .before .before .before .pre) (c .before .before .before .wide3 .ensures) (c .before .before .rows-near .ensures)), omega arith)
 
--- src/lib.rt:335:9
 returns-2 : tie.Need-returns-2 Inv-loop μ-loop
-returns-2 c = ?
+returns-2 c = gives _ _ _ _ (c .before .before .before .before .before .wide2 .ensures) (begun-climbs _ _ (begun _ _ (c .before .before .before .before .before .before .wide .ensures ∙ c .before .before .before .before .before .before .before .node-count .ensures) (omega arith) (c .before .before .before .before .before .before .before .before .before .before .pre) (c .before .before .before .before .wide3 .ensures) (c .before .before .before .rows-near .ensures)) .same ∙ sym (c .seek-any2 .ensures))
 
--- src/lib.rt:337:30
 mul-parents : tie.Need-mul-parents Inv-loop μ-loop
-mul-parents c = ?
+mul-parents c = search needs
 
--- src/lib.rt:337:26
 add-parents : tie.Need-add-parents Inv-loop μ-loop
-add-parents c = ?
+add-parents c = search needs
 
--- src/lib.rt:337:19
 mul-parents-2 : tie.Need-mul-parents-2 Inv-loop μ-loop
-mul-parents-2 c = ?
+mul-parents-2 c = search needs
 
--- src/lib.rt:337:19
 sub-parents : tie.Need-sub-parents Inv-loop μ-loop
-sub-parents c = ?
+sub-parents c = search needs
 
--- src/lib.rt:337:19
 part-parents-start : tie.Need-part-parents-start Inv-loop μ-loop
-part-parents-start c = ?
+part-parents-start c = search needs
 
--- src/lib.rt:337:19
 part-parents-end : tie.Need-part-parents-end Inv-loop μ-loop
-part-parents-end c = ?
+part-parents-end c = search needs
 
--- src/lib.rt:338:29
 mul-scopes : tie.Need-mul-scopes Inv-loop μ-loop
-mul-scopes c = ?
+mul-scopes c = search needs
 
--- src/lib.rt:338:25
 add-scopes : tie.Need-add-scopes Inv-loop μ-loop
-add-scopes c = ?
+add-scopes c = search needs
 
--- src/lib.rt:338:18
 mul-scopes-2 : tie.Need-mul-scopes-2 Inv-loop μ-loop
-mul-scopes-2 c = ?
+mul-scopes-2 c = search needs
 
--- src/lib.rt:338:18
 sub-scopes : tie.Need-sub-scopes Inv-loop μ-loop
-sub-scopes c = ?
+sub-scopes c = search needs
 
--- src/lib.rt:338:18
 part-scopes-start : tie.Need-part-scopes-start Inv-loop μ-loop
-part-scopes-start c = ?
+part-scopes-start c = search needs
 
--- src/lib.rt:338:18
 part-scopes-end : tie.Need-part-scopes-end Inv-loop μ-loop
-part-scopes-end c = ?
+part-scopes-end c = search needs
 
--- src/lib.rt:339:28
 mul-nodes : tie.Need-mul-nodes Inv-loop μ-loop
-mul-nodes c = ?
+mul-nodes c = search needs
 
--- src/lib.rt:339:24
 add-nodes : tie.Need-add-nodes Inv-loop μ-loop
-add-nodes c = ?
+add-nodes c = search needs
 
--- src/lib.rt:339:17
 mul-nodes-2 : tie.Need-mul-nodes-2 Inv-loop μ-loop
-mul-nodes-2 c = ?
+mul-nodes-2 c = search needs
 
--- src/lib.rt:339:17
 sub-nodes : tie.Need-sub-nodes Inv-loop μ-loop
-sub-nodes c = ?
+sub-nodes c = search needs
 
--- src/lib.rt:339:17
 part-nodes-start : tie.Need-part-nodes-start Inv-loop μ-loop
-part-nodes-start c = ?
+part-nodes-start c = search needs
 
--- src/lib.rt:339:17
 part-nodes-end : tie.Need-part-nodes-end Inv-loop μ-loop
-part-nodes-end c = ?
+part-nodes-end c = search needs
 
--- src/lib.rt:340:30
 mul-starts : tie.Need-mul-starts Inv-loop μ-loop
-mul-starts c = ?
+mul-starts c = search needs
 
--- src/lib.rt:340:25
 add-starts : tie.Need-add-starts Inv-loop μ-loop
-add-starts c = ?
+add-starts c = search needs
 
--- src/lib.rt:340:18
 sub-starts : tie.Need-sub-starts Inv-loop μ-loop
-sub-starts c = ?
+sub-starts c = search needs
 
--- src/lib.rt:340:18
 part-starts-start : tie.Need-part-starts-start Inv-loop μ-loop
-part-starts-start c = ?
+part-starts-start c = search needs
 
--- src/lib.rt:340:18
 part-starts-end : tie.Need-part-starts-end Inv-loop μ-loop
-part-starts-end c = ?
+part-starts-end c = search needs
 
--- src/lib.rt:341:29
 mul-words : tie.Need-mul-words Inv-loop μ-loop
-mul-words c = ?
+mul-words c = search needs
 
--- src/lib.rt:341:24
 add-words : tie.Need-add-words Inv-loop μ-loop
-add-words c = ?
+add-words c = search needs
 
--- src/lib.rt:341:17
 sub-words : tie.Need-sub-words Inv-loop μ-loop
-sub-words c = ?
+sub-words c = search needs
 
--- src/lib.rt:341:17
 part-words-start : tie.Need-part-words-start Inv-loop μ-loop
-part-words-start c = ?
+part-words-start c = search needs
 
--- src/lib.rt:341:17
 part-words-end : tie.Need-part-words-end Inv-loop μ-loop
-part-words-end c = ?
+part-words-end c = search needs
 
--- src/lib.rt:342:5
 loop-holds : tie.Need-loop-holds Inv-loop μ-loop
-loop-holds c = ?
+loop-holds c = over-start _ _ (begun _ _ (c .before .before .before .before .before .before .before .before .before .before .wide .ensures ∙ c .before .before .before .before .before .before .before .before .before .before .before .node-count .ensures) (omega arith) (c .before .before .before .before .before .before .before .before .before .before .before .before .before .before .pre) (c .before .before .before .before .before .before .before .before .wide3 .ensures) (c .before .before .before .before .before .before .before .rows-near .ensures)) (omega arith) (omega arith)
 
--- src/lib.rt:343:27
 mul-wide : tie.Need-mul-wide Inv-loop μ-loop
-mul-wide c = ?
+mul-wide c = search needs
 
--- src/lib.rt:343:27
 shared-slice-read-wide : tie.Need-shared-slice-read-wide Inv-loop μ-loop
-shared-slice-read-wide c = ?
+shared-slice-read-wide c = search needs
 
--- src/lib.rt:343:13
 wide-requires-4 : tie.Need-wide-requires-4 Inv-loop μ-loop
-wide-requires-4 c κs = ?
+wide-requires-4 c κs = search needs
 
--- src/lib.rt:345:13
 seek-any-requires-3 : tie.Need-seek-any-requires-3 Inv-loop μ-loop
-seek-any-requires-3 c κs = ?
+seek-any-requires-3 c κs = over-any _ _ (c .before .before .before .before .loop .inv)
 
--- src/lib.rt:345:13
 returns-3 : tie.Need-returns-3 Inv-loop μ-loop
-returns-3 c = ?
+returns-3 c = gives _ _ _ _ (c .before .before .before .before .before .before .before .before .before .before .before .before .before .before .before .wide2 .ensures) (c .before .before .before .before .before .loop .inv .climbs .same ∙ sym (c .seek-any3 .ensures))
 
--- src/lib.rt:348:33
 sub-wide : tie.Need-sub-wide Inv-loop μ-loop
-sub-wide c = ?
+sub-wide c = search needs
 
--- src/lib.rt:348:26
 mul-wide-2 : tie.Need-mul-wide-2 Inv-loop μ-loop
-mul-wide-2 c = ?
+mul-wide-2 c = search needs
 
--- src/lib.rt:348:26
 shared-slice-read-wide-2 : tie.Need-shared-slice-read-wide-2 Inv-loop μ-loop
-shared-slice-read-wide-2 c = ?
+shared-slice-read-wide-2 c = before-in _ _ (c .before .before .before .before .before .before .loop .inv)
 
--- src/lib.rt:348:16
 wide-requires-5 : tie.Need-wide-requires-5 Inv-loop μ-loop
-wide-requires-5 c κs = ?
+wide-requires-5 c κs = search needs
 
--- src/lib.rt:349:17
 seek-any-requires-4 : tie.Need-seek-any-requires-4 Inv-loop μ-loop
-seek-any-requires-4 c κs = ?
+seek-any-requires-4 c κs = over-any _ _ (c .before .before .before .before .before .before .before .before .loop .inv)
 
--- src/lib.rt:349:17
 returns-4 : tie.Need-returns-4 Inv-loop μ-loop
-returns-4 c = ?
+returns-4 c = gives _ _ _ _ (c .before .before .before .before .before .before .before .before .before .before .before .before .before .before .before .before .before .before .before .wide2 .ensures) (c .before .before .before .before .before .before .before .before .before .loop .inv .climbs .same ∙ sym (c .seek-any4 .ensures))
 
--- src/lib.rt:351:24
 mul-node : tie.Need-mul-node Inv-loop μ-loop
-mul-node c = ?
+mul-node c = rows-fit _ _ (c .before .before .before .before .before .before .before .before .loop .inv)
 
--- src/lib.rt:351:24
 shared-slice-read-node : tie.Need-shared-slice-read-node Inv-loop μ-loop
-shared-slice-read-node c = ?
+shared-slice-read-node c = node-in _ _ (c .before .before .before .before .before .before .before .before .before .loop .inv)
 
--- src/lib.rt:352:21
 wide-requires-6 : tie.Need-wide-requires-6 Inv-loop μ-loop
-wide-requires-6 c κs = ?
+wide-requires-6 c κs = search needs
 
--- src/lib.rt:353:17
 seek-any-requires-5 : tie.Need-seek-any-requires-5 Inv-loop μ-loop
-seek-any-requires-5 c κs = ?
+seek-any-requires-5 c κs = over-any _ _ (c .before .before .before .before .before .before .before .before .before .before .before .loop .inv)
 
--- src/lib.rt:353:17
 returns-5 : tie.Need-returns-5 Inv-loop μ-loop
-returns-5 c = ?
+returns-5 c = gives _ _ _ _ (c .before .before .before .before .before .before .before .before .before .before .before .before .before .before .before .before .before .before .before .before .before .before .wide2 .ensures) (c .before .before .before .before .before .before .before .before .before .before .before .before .loop .inv .climbs .same ∙ sym (c .seek-any5 .ensures))
 
--- src/lib.rt:355:60
 wide-requires-7 : tie.Need-wide-requires-7 Inv-loop μ-loop
-wide-requires-7 c κs = ?
+wide-requires-7 c κs = search needs
 
--- src/lib.rt:355:56
 mul-word-in : tie.Need-mul-word-in Inv-loop μ-loop
-mul-word-in c = ?
+mul-word-in c = node-fits _ _ (c .before .before .before .before .before .before .before .before .before .before .before .before .loop .inv) (c .before .if6 .left) (c .before .before .wide6 .ensures) (c .wide7 .ensures)
 
--- src/lib.rt:355:35
 word-in-requires : tie.Need-word-in-requires Inv-loop μ-loop
-word-in-requires c κs = ?
+word-in-requires c κs = start-in _ _ (c .before .before .before .before .before .before .before .before .before .before .before .before .loop .inv) (c .before .if6 .left) (c .before .before .wide6 .ensures) (c .wide7 .ensures)
 
--- src/lib.rt:355:17
 wide-requires-8 : tie.Need-wide-requires-8 Inv-loop μ-loop
-wide-requires-8 c κs = ?
+wide-requires-8 c κs = search needs
 
--- src/lib.rt:357:17
 seek-any-requires-6 : tie.Need-seek-any-requires-6 Inv-loop μ-loop
-seek-any-requires-6 c κs = ?
+seek-any-requires-6 c κs = over-any _ _ (c .before .before .before .before .before .before .before .before .before .before .before .before .before .before .before .loop .inv)
 
--- src/lib.rt:357:17
 returns-6 : tie.Need-returns-6 Inv-loop μ-loop
-returns-6 c = ?
+returns-6 c = gives _ _ _ _ (c .before .before .before .before .before .before .before .before .before .before .before .before .before .before .before .before .before .before .before .before .before .before .before .before .before .before .wide2 .ensures) (c .before .before .before .before .before .before .before .before .before .before .before .before .before .before .before .before .loop .inv .climbs .same ∙ sym (c .seek-any6 .ensures))
 
--- src/lib.rt:359:44
 mul-word-in-2 : tie.Need-mul-word-in-2 Inv-loop μ-loop
-mul-word-in-2 c = ?
+mul-word-in-2 c = four-fits (c .before .before .word-in .ok) (c .before .wide8 .ensures)
 
--- src/lib.rt:359:17
 word-in-requires-2 : tie.Need-word-in-requires-2 Inv-loop μ-loop
-word-in-requires-2 c κs = ?
+word-in-requires-2 c κs = word-fits (c .if7 .left)
 
--- src/lib.rt:360:16
 is-named-requires : tie.Need-is-named-requires Inv-loop μ-loop
-is-named-requires c κs = ?
+is-named-requires c κs = field-part _ _ (c .before .before .before .before .before .before .before .before .before .before .before .before .before .before .before .before .loop .inv .rising .nodes-are) (c .before .before .before .before .before .before .before .before .before .before .before .before .before .before .before .before .loop .inv .long) (c .before .before .before .before .before .if6 .left) (c .before .before .before .before .before .before .wide6 .ensures) (c .before .before .before .before .wide7 .ensures) (c .before .before .before .word-in .ensures) (c .before .before .wide8 .ensures) (c .before .if7 .left) (c .word-in2 .ensures)
 
--- src/lib.rt:361:17
 returns-7 : tie.Need-returns-7 Inv-loop μ-loop
-returns-7 c = ?
+returns-7 c = gives _ _ _ _ (c .before .before .before .before .before .before .before .before .before .before .before .before .before .before .before .before .before .before .before .before .before .before .before .before .before .before .before .before .wide2 .ensures) (over-hit _ _ (c .before .before .before .before .before .before .before .before .before .before .before .before .before .before .before .before .before .before .loop .inv) (over-block _ _ (c .before .before .before .before .before .before .before .before .before .before .before .before .before .before .before .before .before .before .loop .inv) (c .before .before .before .before .before .before .before .before .before .before .before .before .before .before .before .before .before .loop-test .taken) (c .before .before .before .before .before .before .before .before .before .before .before .before .before .before .before .wide4 .ensures) (c .before .before .before .before .before .before .before .before .before .before .before .before .before .if4 .taken) (c .before .before .before .before .before .before .before .before .before .before .before .wide5 .ensures) (c .before .before .before .before .before .before .before .before .before .before .if5 .left)) (c .before .before .before .before .before .before .before .before .before .before .before .before .before .before .before .before .before .loop-test .taken) refl (sym (c .before .is-named .ensures) ∙ c .if8 .taken))
 
--- src/lib.rt:363:13
 sub-end : tie.Need-sub-end Inv-loop μ-loop
-sub-end c = ?
+sub-end c = search needs
 
--- src/lib.rt:365:32
 mul-wide-3 : tie.Need-mul-wide-3 Inv-loop μ-loop
-mul-wide-3 c = ?
+mul-wide-3 c = search needs
 
--- src/lib.rt:365:32
 shared-slice-read-wide-3 : tie.Need-shared-slice-read-wide-3 Inv-loop μ-loop
-shared-slice-read-wide-3 c = ?
+shared-slice-read-wide-3 c = parent-in _ _ (c .before .before .before .before .before .before .loop .inv)
 
--- src/lib.rt:365:13
 wide-requires-9 : tie.Need-wide-requires-9 Inv-loop μ-loop
-wide-requires-9 c κs = ?
+wide-requires-9 c κs = search needs
 
--- src/lib.rt:367:13
 returns-8 : tie.Need-returns-8 Inv-loop μ-loop
-returns-8 c = ?
+returns-8 c =
+    let o = c .before .before .before .before .before .before .before .before .loop .inv in
+    let z = c .before .before .before .before .before .before .before .loop-test .taken in
+    let s = c .before .before .before .before .before .wide4 .ensures in
+    let p =
+    ⊎-elim
+    (λ w.
+    let (same, _, before, other, _, _, _, _, _, _, _, _, named, miss, end) = w in
+    passed-row _ _ o (over-block _ _ o z s (same .taken) (before .ensures) (other .left)) z refl (sym (named .ensures) ∙ miss .left) end)
+    (λ w. let (other, end) = w in passed-none _ _ o z s (c .before .before .before .before .if3 .left) (other .left) end)
+    (c .before .before .before .if4 .came) in
+    gives _ _ _ _ (c .before .before .before .before .before .before .before .before .before .before .before .before .before .before .before .before .before .before .wide2 .ensures) (over-end _ _ o p (c .before .wide9 .ensures) (c .if9 .taken))
 
--- src/lib.rt:342:5
 loop-less : tie.Need-loop-less Inv-loop μ-loop
-loop-less c = ?
+loop-less c = search needs
 
--- src/lib.rt:342:5
 loop-again : tie.Need-loop-again Inv-loop μ-loop
-loop-again c = ?
+loop-again c =
+    let o = c .before .before .before .before .before .before .before .before .loop .inv in
+    let z = c .before .before .before .before .before .before .before .loop-test .taken in
+    let s = c .before .before .before .before .before .wide4 .ensures in
+    let p =
+    ⊎-elim
+    (λ w.
+    let (same, _, before, other, _, _, _, _, _, _, _, _, named, miss, end) = w in
+    passed-row _ _ o (over-block _ _ o z s (same .taken) (before .ensures) (other .left)) z refl (sym (named .ensures) ∙ miss .left) end)
+    (λ w. let (other, end) = w in passed-none _ _ o z s (c .before .before .before .before .if3 .left) (other .left) end)
+    (c .before .before .before .if4 .came) in
+    over-up _ _ o p (c .before .wide9 .ensures) (c .if9 .left)
 
--- src/lib.rt:324:1
 returns-9 : tie.Need-returns-9 Inv-loop μ-loop
-returns-9 c = ?
+returns-9 c = gives _ _ _ _ (c .before .before .before .before .before .before .before .before .before .before .before .wide2 .ensures) (over-none _ _ (c .before .loop .inv) (c .loop-test .left))
 
 pub seek-spec : {M : Type 1} → statement M
 seek-spec =
