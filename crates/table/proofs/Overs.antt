@@ -42,9 +42,8 @@ part-word img a o h =
     let e3 : getD img (a + (o + 3)) 0 ≡ getD img (a + o + 3) 0 = ap (λ (i : ℕ). getD img i 0) (omega arith) in
     omega arith
 
--- a place that fits four times
-pub four-fits : {v w : ℕ} → w < 4294967296 → v ≡ w → Fits w64 (4 * v)
-four-fits h e = omega arith
+pub four-fits : {v : ℕ} → v < 2 ^ 32 → Fits w64 (4 * v)
+four-fits h = omega arith
 
 pub word-fits : {st l : ℕ} → st < l / 4 → 4 * st + 4 ≤ l
 word-fits h = omega arith
@@ -57,13 +56,12 @@ module _ (img : List ℕ) where
       let g : word img (16 + 4 * n + 4 * m) ≡ word img (16 + 4 * nodes img + 4 * m) = ap (λ (k : ℕ). word img (16 + 4 * k + 4 * m)) e in
       ap (word img) (omega arith)
 
-  -- the same, by the parts: as the code has it, v and k are the node m, and st is p
-  pub field-part : {n st w v k p : ℕ} (m : ℕ) → n ≡ nodes img → 24 + 8 * n ≤ length img → k < n → k ≡ m → v ≡ m → p ≡ word (part img (16 + 4 * n)) (4 * v) → st ≡ p
+  -- the same, by the parts
+  pub field-part : {n st w : ℕ} (m : ℕ) → n ≡ nodes img → 24 + 8 * n ≤ length img → m < n → st ≡ word (part img (16 + 4 * n)) (4 * m)
       → st < length (part img (24 + 8 * n)) / 4 → w ≡ word (part img (24 + 8 * n)) (4 * st) → w ≡ field img m 0
-  field-part {n} {st} {w} {v} {k} {p} m e l b q u f d g h =
+  field-part {n} {st} {w} m e l k f g h =
       let z = part-length img (24 + 8 * n) in
-      let c : word (part img (16 + 4 * n)) (4 * v) ≡ word (part img (16 + 4 * n)) (4 * m) = ap (λ (i : ℕ). word (part img (16 + 4 * n)) (4 * i)) u in
-      h ∙ part-word img (24 + 8 * n) (4 * st) (omega arith) ∙ sym (field-as m e (d ∙ f ∙ c ∙ part-word img (16 + 4 * n) (4 * m) (omega arith)))
+      h ∙ part-word img (24 + 8 * n) (4 * st) (omega arith) ∙ sym (field-as m e (f ∙ part-word img (16 + 4 * n) (4 * m) (omega arith)))
 
   name-either : (m : ℕ) → (nameOf img m ≡ field img m 0) ⊎ (nameOf img m ≡ field img m 0 - 1)
   unfolding nameOf
@@ -127,6 +125,9 @@ module _ (img ws : List ℕ) where
     pub rows-fit : Fits w64 (r * 4)
     rows-fit = let (a, b) = room in let z = o .rising .small in omega arith
 
+    pub scope-in : r < length (part ws (2 + 3 * n))
+    scope-in = let (a, b) = room in let l = part-length ws (2 + 3 * n) in omega arith
+
     pub before-in : r - 1 < length (part ws (2 + 3 * n))
     before-in = let (a, b) = room in let l = part-length ws (2 + 3 * n) in omega arith
 
@@ -136,11 +137,8 @@ module _ (img ws : List ℕ) where
     pub parent-in : s < length (part ws (3 + 2 * n))
     parent-in = let (a, b) = room in let l = part-length ws (3 + 2 * n) in let z = o .below in omega arith
 
-    pub start-in : {v k m : ℕ} → k < n → k ≡ m → v ≡ m → 4 * v + 4 ≤ length (part img (16 + 4 * n))
-    start-in l e f = let z = part-length img (16 + 4 * n) in let h = o .long in omega arith
-
-    pub node-fits : {v k m : ℕ} → k < n → k ≡ m → v ≡ m → Fits w64 (4 * v)
-    node-fits l e f = let z = o .rising .small in omega arith
+    pub starts-in : 4 * n ≤ length (part img (16 + 4 * n))
+    starts-in = let z = part-length img (16 + 4 * n) in let h = o .long in omega arith
 
     scope-is : {v : ℕ} → 0 < r → v ≡ getD (part ws (2 + 3 * n)) r 0 → v ≡ scopeOf n ws (r - 1)
     scope-is {v} z e =

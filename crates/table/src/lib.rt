@@ -1,5 +1,6 @@
 // The lent table: its words, the steps that a walk makes on it, find in one scope, and lookup by climbing.
 ghost use mathlib.Core.Path.{_≡_};
+ghost use mathlib.Core.Bool.{false};
 ghost use Prim.Native.Nat.{ℕ, suc, _+_, _*_, _-_, _<_, _≤_, _^_};
 ghost use lib.ListN.{length, getD, set};
 ghost use lib.Dec.{eqb};
@@ -320,6 +321,37 @@ fn seek_any(image: &[u8], table: &[u32], n: usize, scope: usize, rows: usize, na
     }
 }
 
+// The number at a place of a part of the table.
+fn part_at(part: &[u32], i: usize) -> usize
+    requires { ⌜ i < length (now part) ⌝ }
+    ensures { λ r. ⌜ r ≡ getD (now (part .entry)) i 0 ⌝ }
+{
+    ast::wide(part[i])
+}
+
+// The scope has no place among the parents, or the image has not all starts.
+fn is_short(image: &[u8], n: usize, scope: usize) -> bool
+    requires { ⌜ n < 2 ^ 32 ⌝ }
+    ensures { λ r. ⌜ (r ≡ false → (scope < n) × (24 + 8 * n ≤ length (now (image .entry)))) ⌝ }
+{
+    if n <= scope {
+        return true;
+    }
+    image.len() < 24 + 8 * n
+}
+
+// The start of a node's row; the limit where the starts do not have it.
+fn start_of(starts: &[u8], n: usize, limit: usize, node: u32) -> usize
+    requires { ⌜ 4 * n ≤ length (now starts) ⌝ }
+    ensures { λ r. ⌜ (r < limit → (node < n) × (r < 2 ^ 32) × (r ≡ «image-spec».word (now (starts .entry)) (4 * node))) ⌝ }
+{
+    let i = ast::wide(node);
+    if n <= i {
+        return limit;
+    }
+    ast::wide(ast::word_in(starts, 4 * i))
+}
+
 // What lookup gives, where the rows stand by rising scope: quick over scopes with one row or none.
 pub fn seek(image: &[u8], table: &[u32], symbols: u32, scope: ScopeId, name: u32) -> Found
     requires { ⌜ Sorted («image-spec».nodes (now image)) symbols (now table) ⌝ }
@@ -328,10 +360,7 @@ pub fn seek(image: &[u8], table: &[u32], symbols: u32, scope: ScopeId, name: u32
     let n = ast::wide(ast::node_count(image));
     let mut at = ast::wide(scope.0);
     let mut end = rows_near(table, n, ast::wide(symbols), at);
-    if n <= at {
-        return seek_any(image, table, n, at, end, name);
-    }
-    if image.len() < 24 + 8 * n {
+    if is_short(image, n, at) {
         return seek_any(image, table, n, at, end, name);
     }
     let parents = &table[3 + 2 * n..];
@@ -339,21 +368,19 @@ pub fn seek(image: &[u8], table: &[u32], symbols: u32, scope: ScopeId, name: u32
     let nodes = &table[2 + 4 * n..];
     let starts = &image[16 + 4 * n..];
     let words = &image[24 + 8 * n..];
+    let limit = words.len() / 4;
     while 0 < end {
-        let s = ast::wide(scopes[end]);
+        let s = part_at(scopes, end);
         if at < s {
             return seek_any(image, table, n, at, end, name);
         }
         if s == at {
-            if ast::wide(scopes[end - 1]) == at {
+            if part_at(scopes, end - 1) == at {
                 return seek_any(image, table, n, at, end, name);
             }
             let node = nodes[end];
-            if n <= ast::wide(node) {
-                return seek_any(image, table, n, at, end, name);
-            }
-            let start = ast::wide(ast::word_in(starts, 4 * ast::wide(node)));
-            if words.len() / 4 <= start {
+            let start = start_of(starts, n, limit, node);
+            if limit <= start {
                 return seek_any(image, table, n, at, end, name);
             }
             let word = ast::word_in(words, 4 * start);
@@ -362,7 +389,7 @@ pub fn seek(image: &[u8], table: &[u32], symbols: u32, scope: ScopeId, name: u32
             }
             end -= 1;
         }
-        let parent = ast::wide(parents[at]);
+        let parent = part_at(parents, at);
         if parent >= at {
             return Found::Nothing;
         }
