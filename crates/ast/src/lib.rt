@@ -47,17 +47,6 @@ pub fn word(image: &[u8], offset: usize) -> u32
         + 16777216 * byte(image, offset + 3)
 }
 
-// The same, where it fits.
-pub fn word_in(image: &[u8], offset: usize) -> u32
-    requires { ⌜ offset + 4 ≤ length (now image) ⌝ }
-    ensures { λ r. ⌜ r ≡ «image-spec».word (now (image .entry)) offset ⌝ }
-{
-    byte(image, offset)
-        + 256 * byte(image, offset + 1)
-        + 65536 * byte(image, offset + 2)
-        + 16777216 * byte(image, offset + 3)
-}
-
 // The four words at the front: N, C, S, B.
 pub struct Sizes {
     pub nodes: u32,
@@ -198,6 +187,17 @@ pub fn name_of(image: &[u8], node: NodeId) -> u32
         return less_one(word);
     }
     word
+}
+
+// The little-endian word at a byte offset where it fits: no test.
+pub fn word_in(image: &[u8], offset: usize) -> u32
+    requires { ⌜ offset + 4 ≤ length (now image) ⌝ }
+    ensures { λ r. ⌜ r ≡ «image-spec».word (now (image .entry)) offset ⌝ }
+{
+    byte(image, offset)
+        + 256 * byte(image, offset + 1)
+        + 65536 * byte(image, offset + 2)
+        + 16777216 * byte(image, offset + 3)
 }
 
 // Refusals 1, 2, 3.

@@ -9,11 +9,10 @@ use native.Mathlib.Omega.{arith}
 use lib.ListN.{length, getD, take, drop, length-take, length-drop}
 use lib.Seq.{getD-take, getD-drop}
 use lib.Dec.{ltb, eqb}
-use borrow.Author.Tests.{eqb-true, ne-eqb}
 use mir.Val.{Fits}
 use mir.Syntax.{w64}
 use Rattle.ast.specs.Image.{nodes, kindAt, startAt, opAt, field, nameOf, word}
-use Rattle.ast.proofs.Words.{word-in, name-rule, name-arg, name-plain}
+use Rattle.ast.proofs.Words.{word-in}
 use Rattle.table.specs.Rows.{scopeOf, nodeAt, parentAt, Sorted, Cut, Before, Rising, Block}
 use Rattle.table.specs.Table.{findFrom, climb}
 use Rattle.table.proofs.Rising.{Among, among-start, among-hit, among-miss, among-end, rising-less, Climbs, climbs-start, climbs-cut, climbs-hit, climbs-end, climbs-up}
@@ -22,7 +21,7 @@ use Rattle.table.proofs.Rising.{Among, among-start, among-hit, among-mi
 abbrev pub part : List ℕ → ℕ → List ℕ
 part xs a = take (length xs - a) (drop a xs)
 
-pub part-at : (xs : List ℕ) (a i : ℕ) → a + i < length xs → getD (part xs a) i 0 ≡ getD xs (a + i) 0
+part-at : (xs : List ℕ) (a i : ℕ) → a + i < length xs → getD (part xs a) i 0 ≡ getD xs (a + i) 0
 part-at xs a i h = getD-take (length xs - a) (drop a xs) i 0 (omega arith) ∙ getD-drop a xs i 0
 
 part-length : (xs : List ℕ) (a : ℕ) → length (part xs a) ≡ length xs - a

@@ -321,7 +321,7 @@ fn seek_any(image: &[u8], table: &[u32], n: usize, scope: usize, rows: usize, na
     }
 }
 
-// The number at a place of a part of the table.
+// A number of a part of the table.
 fn part_at(part: &[u32], i: usize) -> usize
     requires { ⌜ i < length (now part) ⌝ }
     ensures { λ r. ⌜ r ≡ getD (now (part .entry)) i 0 ⌝ }
@@ -329,7 +329,7 @@ fn part_at(part: &[u32], i: usize) -> usize
     ast::wide(part[i])
 }
 
-// The scope has no place among the parents, or the image has not all starts.
+// The scope is none of n, or the image is too short for the starts of n rows.
 fn is_short(image: &[u8], n: usize, scope: usize) -> bool
     requires { ⌜ n < 2 ^ 32 ⌝ }
     ensures { λ r. ⌜ (r ≡ false → (scope < n) × (24 + 8 * n ≤ length (now (image .entry)))) ⌝ }
@@ -340,7 +340,7 @@ fn is_short(image: &[u8], n: usize, scope: usize) -> bool
     image.len() < 24 + 8 * n
 }
 
-// The start of a node's row; the limit where the starts do not have it.
+// The start of a node's row; the limit where the node is none of n.
 fn start_of(starts: &[u8], n: usize, limit: usize, node: u32) -> usize
     requires { ⌜ 4 * n ≤ length (now starts) ⌝ }
     ensures { λ r. ⌜ (r < limit → (node < n) × (r < 2 ^ 32) × (r ≡ «image-spec».word (now (starts .entry)) (4 * node))) ⌝ }
