@@ -31,7 +31,7 @@ fn byte(image: &[u8], i: usize) -> u32
 }
 
 // The little-endian word at a byte offset where it fits.
-fn word_in(image: &[u8], offset: usize) -> u32
+pub fn word_in(image: &[u8], offset: usize) -> u32
     requires { ⌜ offset + 4 ≤ length (now image) ⌝ }
     ensures { λ r. ⌜ r ≡ «image-spec».word (now (image .entry)) offset ⌝ }
 {
@@ -184,7 +184,7 @@ pub fn field(image: &[u8], node: NodeId, j: usize) -> u32
     operand(image, wide(row_start(image, node)) + 2 + j)
 }
 
-fn less_one(x: u32) -> u32
+pub fn less_one(x: u32) -> u32
     ensures { λ r. ⌜ r ≡ x - 1 ⌝ }
 {
     if x == 0 { 0 } else { x - 1 }

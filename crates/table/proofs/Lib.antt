@@ -1,4 +1,5 @@
 pub mod Finds
 pub mod Rising
+pub mod Overs
 pub mod Sounds
 pub mod Frames

@@ -11,7 +11,7 @@ use lib.ListN.{length, getD}
 use lib.Dec.{ltb, eqb}
 use borrow.Author.Tests.{ltb-true, eq-eqb, ne-eqb}
 use Rattle.ast.specs.Image.{nodes, nameOf}
-use Rattle.table.specs.Rows.{scopeOf, nodeAt, parentAt, Sorted, Cut, Before, Block}
+use Rattle.table.specs.Rows.{scopeOf, nodeAt, parentAt, Sorted, Cut, Before, Rising, Block}
 use Rattle.table.specs.Table.{rowIs, findFrom, climb}
 use Rattle.table.proofs.Finds.{row-out, row-in, find-hit, find-miss, find-end, orElse, orElse-same, climb-hit, climb-end, climb-up}
 
@@ -60,14 +60,6 @@ between-end {n} {y} {s} {low} {high} {ws} b h =
 pub cut-more : {n y s r v : ℕ} {ws : List ℕ} → 0 < y → v ≡ scopeOf n ws (y - 1) → s < v → Cut n (y - 1) ws s r → Cut n y ws s r
 cut-more {n} {y} {s} {r} {v} {ws} z e l c =
     record { within = (let w = c .within in omega arith); low = c .low; high = λ h. ⊎-elim (λ q. let f = ap (scopeOf n ws) q in omega arith) (λ k. c .high k) (eq-or-lt-of-le (c .within)) }
-
-pub cut-none : {n y s v : ℕ} {ws : List ℕ} → y ≡ 1 → v ≡ scopeOf n ws (y - 1) → s < v → Cut n y ws s 0
-cut-none {n} {y} {s} {v} {ws} q e l =
-    record { within = omega arith; low = λ h. absurd (omega arith); high = λ h. let z : y - 1 ≡ 0 = omega arith in let f = ap (scopeOf n ws) z in omega arith }
-
-pub cut-one : {n y s v u : ℕ} {ws : List ℕ} → v ≡ scopeOf n ws (y - 1) → s < v → u ≡ scopeOf n ws (y - 2) → u ≤ s → Cut n y ws s (y - 1)
-cut-one {n} {y} {s} {v} {u} {ws} e l f k =
-    record { within = omega arith; low = λ h. let z : y - 1 - 1 ≡ y - 2 = omega arith in let g = ap (scopeOf n ws) z in omega arith; high = λ h. omega arith }
 
 pub before-none : {n y s : ℕ} {ws : List ℕ} → s ≡ 0 → Before n y ws s 0
 before-none e = record { within = omega arith; low = λ h. absurd (omega arith); high = λ h. omega arith }
@@ -136,15 +128,15 @@ module _ (img ws : List ℕ) where
 
   block-in : {n f y s : ℕ} → Block img ws n f y s → (j : ℕ) → f ≤ j → j < y → scopeOf n ws j ≡ s
   block-in {n} {f} {y} {s} b j l k =
-      let a = cut-low (b .sorted) (b .cut) j k in
-      let c = b .sorted .rises f j l k in
+      let a = cut-low (b .rising .sorted) (b .cut) j k in
+      let c = b .rising .sorted .rises f j l k in
       let d = b .before .high (omega arith) in
       omega arith
 
   block-out : {n f y s : ℕ} → Block img ws n f y s → (j : ℕ) → j < f → scopeOf n ws j ≡ s → ⊥
   block-out {n} {f} {y} {s} b j l e =
       let w = b .before .within in
-      let c = b .sorted .rises j (f - 1) (omega arith) (omega arith) in
+      let c = b .rising .sorted .rises j (f - 1) (omega arith) (omega arith) in
       let d = b .before .low (omega arith) in
       omega arith
 
@@ -167,24 +159,24 @@ module _ (img ws : List ℕ) where
       record {
         from = omega arith;
         within = b .before .within;
-        same = find-skip f y s x (b .before .within) (λ i l e. block-out b i l (ap (λ (m : ℕ). scopeOf m ws i) (b .nodes-are) ∙ e));
+        same = find-skip f y s x (b .before .within) (λ i l e. block-out b i l (ap (λ (m : ℕ). scopeOf m ws i) (b .rising .nodes-are) ∙ e));
       }
 
   row-as : {n f y s j : ℕ} (x : ℕ) → Block img ws n f y s → f ≤ j → j < y → rowIs img ws j s x ≡ eqb (nameOf img (nodeAt (nodes img) ws j)) x
-  row-as {n} {f} {y} {s} {j} x b l k = row-in img ws j s x (ap (λ (m : ℕ). scopeOf m ws j) (sym (b .nodes-are)) ∙ block-in b j l k)
+  row-as {n} {f} {y} {s} {j} x b l k = row-in img ws j s x (ap (λ (m : ℕ). scopeOf m ws j) (sym (b .rising .nodes-are)) ∙ block-in b j l k)
 
-  pub among-hit : {n f y s x j u m : ℕ} → Block img ws n f y s → Among f y s x j → j < y → u ≡ nodeAt n ws j → m ≡ nameOf img u → m ≡ x → findFrom img y ws 0 s x ≡ some u
-  among-hit {n} {f} {y} {s} {x} {j} {u} {m} b a l e g k =
-      let c = e ∙ ap (λ (i : ℕ). nodeAt i ws j) (b .nodes-are) in
-      a .same ∙ find-hit img ws y j s x l (row-as x b (a .from) l ∙ eq-eqb _ _ (ap (nameOf img) (sym c) ∙ sym g ∙ k)) ∙ ap some (sym c)
+  pub among-hit : {n f y s x j u : ℕ} → Block img ws n f y s → Among f y s x j → j < y → u ≡ nodeAt n ws j → eqb (nameOf img u) x ≡ true → findFrom img y ws 0 s x ≡ some u
+  among-hit {n} {f} {y} {s} {x} {j} {u} b a l e g =
+      let c = e ∙ ap (λ (i : ℕ). nodeAt i ws j) (b .rising .nodes-are) in
+      a .same ∙ find-hit img ws y j s x l (row-as x b (a .from) l ∙ ap (λ (i : ℕ). eqb (nameOf img i) x) (sym c) ∙ g) ∙ ap some (sym c)
 
-  pub among-miss : {n f y s x j u m : ℕ} → Block img ws n f y s → Among f y s x j → j < y → u ≡ nodeAt n ws j → m ≡ nameOf img u → (m ≡ x → ⊥) → Among f y s x (j + 1)
-  among-miss {n} {f} {y} {s} {x} {j} {u} {m} b a l e g k =
-      let c = e ∙ ap (λ (i : ℕ). nodeAt i ws j) (b .nodes-are) in
+  pub among-miss : {n f y s x j u : ℕ} → Block img ws n f y s → Among f y s x j → j < y → u ≡ nodeAt n ws j → eqb (nameOf img u) x ≡ false → Among f y s x (j + 1)
+  among-miss {n} {f} {y} {s} {x} {j} {u} b a l e g =
+      let c = e ∙ ap (λ (i : ℕ). nodeAt i ws j) (b .rising .nodes-are) in
       record {
         from = (let z = a .from in omega arith);
         within = omega arith;
-        same = a .same ∙ find-miss img ws y j s x l (row-as x b (a .from) l ∙ ne-eqb _ _ (λ z. k (g ∙ ap (nameOf img) c ∙ z)));
+        same = a .same ∙ find-miss img ws y j s x l (row-as x b (a .from) l ∙ ap (λ (i : ℕ). eqb (nameOf img i) x) (sym c) ∙ g);
       }
 
   pub among-end : {f y s x j : ℕ} → Among f y s x j → y ≤ j → findFrom img y ws 0 s x ≡ none
@@ -198,18 +190,24 @@ module _ (img ws : List ℕ) where
   pub climbs-start : {y t x : ℕ} → Climbs y t x t y
   climbs-start = record { within = omega arith; same = refl }
 
-  pub climbs-cut : {n y t x s r q : ℕ} → n ≡ nodes img → Sorted (nodes img) y ws → Climbs y t x s r → Cut n r ws s q → Climbs y t x s q
-  climbs-cut {n} {y} {t} {x} {s} {r} {q} e h k c =
+  pub rising-less : {n y z : ℕ} → Rising img ws n y → z ≤ y → Rising img ws n z
+  rising-less h l = record { nodes-are = h .nodes-are; small = h .small; sorted = sorted-less (h .sorted) l }
+
+  -- the rows that are left, by the image's own number of nodes
+  left : {n y t x s r : ℕ} → Rising img ws n y → Climbs y t x s r → Sorted (nodes img) r ws
+  left {r = r} h k = subst (λ (m : ℕ). Sorted m r ws) (h .nodes-are) (sorted-less (h .sorted) (k .within))
+
+  pub climbs-cut : {n y t x s r q : ℕ} → Rising img ws n y → Climbs y t x s r → Cut n r ws s q → Climbs y t x s q
+  climbs-cut {n} {y} {t} {x} {s} {r} {q} h k c =
       record {
         within = (let a = k .within in let b = c .within in omega arith);
-        same = k .same ∙ climb-less (suc s) r q s s x (sorted-less h (k .within)) (subst (λ (m : ℕ). Cut m r ws s q) e c) (omega arith);
+        same = k .same ∙ climb-less (suc s) r q s s x (left h k) (subst (λ (m : ℕ). Cut m r ws s q) (h .nodes-are) c) (omega arith);
       }
 
-  pub climbs-find : {n y t x s r q f : ℕ} → n ≡ nodes img → Sorted (nodes img) y ws → Climbs y t x s r → Cut n r ws s q → Before n q ws s f → Block img ws n f q s
-  climbs-find {n} {y} {t} {x} {s} {r} {q} {f} e h k c b =
+  pub climbs-find : {n y t x s r q f : ℕ} → Rising img ws n y → Climbs y t x s r → Cut n r ws s q → Before n q ws s f → Block img ws n f q s
+  climbs-find {n} {y} {t} {x} {s} {r} {q} {f} h k c b =
       record {
-        nodes-are = e;
-        sorted = subst (λ (m : ℕ). Sorted m q ws) (sym e) (sorted-less h (let a = k .within in let d = c .within in omega arith));
+        rising = rising-less h (let a = k .within in let d = c .within in omega arith);
         cut = record { within = omega arith; low = c .low; high = λ z. absurd (omega arith) };
         before = b;
       }
@@ -217,18 +215,18 @@ module _ (img ws : List ℕ) where
   pub climbs-hit : {y t x s r m : ℕ} → Climbs y t x s r → findFrom img r ws 0 s x ≡ some m → climb img (suc t) ws y t x ≡ some m
   climbs-hit {y} {t} {x} {s} {r} {m} k f = k .same ∙ climb-hit img ws r s x m f
 
-  pub climbs-end : {n y t x s r p : ℕ} → n ≡ nodes img → Climbs y t x s r → findFrom img r ws 0 s x ≡ none → p ≡ parentAt n ws s → s ≤ p → climb img (suc t) ws y t x ≡ none
-  climbs-end {n} {y} {t} {x} {s} {r} {p} e k f g l = k .same ∙ climb-end img ws r s x p f (g ∙ ap (λ (m : ℕ). parentAt m ws s) e) l
+  pub climbs-end : {n y t x s r p : ℕ} → Rising img ws n y → Climbs y t x s r → findFrom img r ws 0 s x ≡ none → p ≡ parentAt n ws s → s ≤ p → climb img (suc t) ws y t x ≡ none
+  climbs-end {n} {y} {t} {x} {s} {r} {p} h k f g l = k .same ∙ climb-end img ws r s x p f (g ∙ ap (λ (m : ℕ). parentAt m ws s) (h .nodes-are)) l
 
-  pub climbs-up : {n y t x s r p f : ℕ} → n ≡ nodes img → Sorted (nodes img) y ws → Climbs y t x s r → findFrom img r ws 0 s x ≡ none → p ≡ parentAt n ws s → p < s → Before n r ws s f → Climbs y t x p f
-  climbs-up {n} {y} {t} {x} {s} {r} {p} {f} e h k g q l b =
+  pub climbs-up : {n y t x s r p f : ℕ} → Rising img ws n y → Climbs y t x s r → findFrom img r ws 0 s x ≡ none → p ≡ parentAt n ws s → p < s → Before n r ws s f → Climbs y t x p f
+  climbs-up {n} {y} {t} {x} {s} {r} {p} {f} h k g q l b =
       record {
         within = (let a = k .within in let d = b .within in omega arith);
         same =
-            k .same ∙ climb-up img ws r s x p g (q ∙ ap (λ (m : ℕ). parentAt m ws s) e) l
-            ∙ climb-less (suc p) r f (s - 1) p x (sorted-less h (k .within)) (subst (λ (m : ℕ). Cut m r ws (s - 1) f) e (before-cut l b)) (omega arith);
+            k .same ∙ climb-up img ws r s x p g (q ∙ ap (λ (m : ℕ). parentAt m ws s) (h .nodes-are)) l
+            ∙ climb-less (suc p) r f (s - 1) p x (left h k) (subst (λ (m : ℕ). Cut m r ws (s - 1) f) (h .nodes-are) (before-cut l b)) (omega arith);
       }
 
   -- the rows that a search reads are there
-  pub climbs-in : {n y t x s r : ℕ} → n ≡ nodes img → Sorted (nodes img) y ws → Climbs y t x s r → 3 + 3 * n + r ≤ length ws
-  climbs-in e h k = let a = h .within in let b = h .long in let c = k .within in omega arith
+  pub climbs-in : {n y t x s r : ℕ} → Rising img ws n y → Climbs y t x s r → 3 + 3 * n + r ≤ length ws
+  climbs-in h k = let a = h .sorted .within in let b = h .sorted .long in let c = k .within in omega arith

@@ -1,7 +1,7 @@
 -- Symbol rows that stand by rising scope: what the faster find in one scope rests on.
 use mathlib.Core.Path.{_≡_}
 use mathlib.Core.List.{List}
-use Prim.Native.Nat.{ℕ, _+_, _*_, _-_, _<_, _≤_}
+use Prim.Native.Nat.{ℕ, _+_, _*_, _-_, _<_, _≤_, _^_}
 use lib.ListN.{length, getD}
 use Rattle.ast.specs.Image.{nodes}
 use Rattle.table.specs.Layout.{parentPlace, scopePlace, nodePlace, tableLength}
@@ -36,9 +36,14 @@ pub record Before (n y : ℕ) (ws : List ℕ) (s r : ℕ) : Type 0 where
   pub low : 0 < r → scopeOf n ws (r - 1) < s
   pub high : r < y → s ≤ scopeOf n ws r
 
+-- the first y rows of the image's table stand by rising scope
+pub record Rising (img ws : List ℕ) (n y : ℕ) : Type 0 where
+  pub nodes-are : n ≡ nodes img
+  pub small : n < 2 ^ 32
+  pub sorted : Sorted n y ws
+
 -- the rows of the scope s are those from f to y
 pub record Block (img ws : List ℕ) (n f y s : ℕ) : Type 0 where
-  pub nodes-are : n ≡ nodes img
-  pub sorted : Sorted n y ws
+  pub rising : Rising img ws n y
   pub cut : Cut n y ws s y
   pub before : Before n y ws s f

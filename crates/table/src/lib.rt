@@ -1,14 +1,16 @@
 // The lent table: its words, the steps that a walk makes on it, find in one scope, and lookup by climbing.
 ghost use mathlib.Core.Path.{_≡_};
+ghost use mathlib.Core.Bool.{false};
 ghost use Prim.Native.Nat.{ℕ, suc, _+_, _*_, _-_, _<_, _≤_, _^_};
 ghost use lib.ListN.{length, getD, set};
+ghost use lib.Dec.{eqb};
 ghost use Rattle.ast.specs.Image as «image-spec»;
 ghost use Rattle.ast.specs.Tests.{run};
 ghost use Rattle.table.specs.Layout.{parentPlace, scopePlace, nodePlace};
 ghost use Rattle.table.specs.Table as «table-spec»;
 ghost use Rattle.table.specs.State.{childScope, ownSymbol, introduce, marked, unmarked};
 ghost use Rattle.table.specs.Sound.{hasName, isSymbol, parentBelow, rowSound, testSound};
-ghost use Rattle.table.specs.Rows.{scopeOf, nodeAt, parentAt, Sorted, Cut, Before, Block};
+ghost use Rattle.table.specs.Rows.{scopeOf, nodeAt, parentAt, Sorted, Cut, Before, Rising, Block};
 ghost use Rattle.table.specs.Values.{tableOf, exitOf, optionOf};
 use ast::NodeId;
 
@@ -167,33 +169,34 @@ pub fn lookup(image: &[u8], table: &[u32], symbols: u32, scope: ScopeId, name: u
 }
 
 // The scope of row j.
-pub fn row_scope(table: &[u32], n: u32, j: u32) -> u32
+fn row_scope(table: &[u32], n: usize, j: usize) -> usize
     requires { ⌜ 3 + 3 * n + j < length (now table) ⌝ }
     ensures { λ r. ⌜ r ≡ scopeOf n (now (table .entry)) j ⌝ }
 {
-    table[3 + 3 * ast::wide(n) + ast::wide(j)]
+    ast::wide(table[3 + 3 * n + j])
 }
 
 // The node of row j.
-pub fn row_node(table: &[u32], n: u32, j: u32) -> u32
+fn row_node(table: &[u32], n: usize, j: usize) -> u32
     requires { ⌜ 3 + 4 * n + j < length (now table) ⌝ }
     ensures { λ r. ⌜ r ≡ nodeAt n (now (table .entry)) j ⌝ }
 {
-    table[3 + 4 * ast::wide(n) + ast::wide(j)]
+    table[3 + 4 * n + j]
 }
 
-pub fn parent_at(table: &[u32], n: u32, scope: u32) -> u32
+fn parent_at(table: &[u32], n: usize, scope: usize) -> usize
+    requires { ⌜ 3 + 2 * n + scope < 2 ^ 64 ⌝ }
     ensures { λ r. ⌜ r ≡ parentAt n (now (table .entry)) scope ⌝ }
 {
-    get(table, 3 + 2 * ast::wide(n) + ast::wide(scope))
+    ast::wide(get(table, 3 + 2 * n + scope))
 }
 
 // How many of the first `end` rows have scopes up to `scope`, where they stand by rising scope.
-pub fn rows_up_to(table: &[u32], n: u32, end: u32, scope: u32) -> u32
+fn rows_up_to(table: &[u32], n: usize, end: usize, scope: usize) -> usize
     requires { ⌜ 3 + 3 * n + end ≤ length (now table) ⌝ }
     ensures { λ r. ⌜ Cut n end (now (table .entry)) scope r ⌝ }
 {
-    let mut low = 0u32;
+    let mut low = 0usize;
     let mut high = end;
     while low < high {
         let middle = low + (high - low) / 2;
@@ -206,28 +209,32 @@ pub fn rows_up_to(table: &[u32], n: u32, end: u32, scope: u32) -> u32
     low
 }
 
-// The same, quick where at most one row has a scope above.
-pub fn rows_near(table: &[u32], n: u32, end: u32, scope: u32) -> u32
+// The same, quick where the last row is such a one, or each scope above has one row: a guess, which is checked.
+fn rows_near(table: &[u32], n: usize, end: usize, scope: usize) -> usize
     requires { ⌜ 3 + 3 * n + end ≤ length (now table) ⌝ }
     ensures { λ r. ⌜ Cut n end (now (table .entry)) scope r ⌝ }
 {
     if end == 0 {
         return 0;
     }
-    if row_scope(table, n, end - 1) <= scope {
+    let last = row_scope(table, n, end - 1);
+    if last <= scope {
         return end;
     }
-    if end == 1 {
-        return 0;
-    }
-    if row_scope(table, n, end - 2) <= scope {
-        return end - 1;
+    let back = last - scope;
+    if back < end {
+        let guess = end - back;
+        if row_scope(table, n, guess - 1) <= scope {
+            if scope < row_scope(table, n, guess) {
+                return guess;
+            }
+        }
     }
     rows_up_to(table, n, end - 1, scope)
 }
 
 // How many of the first `end` rows have scopes below `scope`.
-pub fn rows_before(table: &[u32], n: u32, end: u32, scope: u32) -> u32
+fn rows_before(table: &[u32], n: usize, end: usize, scope: usize) -> usize
     requires { ⌜ 3 + 3 * n + end ≤ length (now table) ⌝ }
     ensures { λ r. ⌜ Before n end (now (table .entry)) scope r ⌝ }
 {
@@ -237,14 +244,41 @@ pub fn rows_before(table: &[u32], n: u32, end: u32, scope: u32) -> u32
     rows_near(table, n, end, scope - 1)
 }
 
+// The first word of a node's row after its two location words.
+fn row_word(image: &[u8], n: usize, node: NodeId) -> u32
+    requires { ⌜ (n ≡ «image-spec».nodes (now image)) × (n < 2 ^ 32) ⌝ }
+    ensures { λ r. ⌜ r ≡ «image-spec».field (now (image .entry)) (node .0) 0 ⌝ }
+{
+    let start = ast::word(image, 16 + 4 * n + 4 * ast::wide(node.0));
+    ast::word(image, 24 + 8 * n + 4 * ast::wide(start))
+}
+
+// The node, whose row has that first word, has the name: most others are told by the word alone.
+fn is_named(image: &[u8], node: NodeId, word: u32, name: u32) -> bool
+    requires { ⌜ word ≡ «image-spec».field (now image) (node .0) 0 ⌝ }
+    ensures { λ r. ⌜ r ≡ eqb («image-spec».nameOf (now (image .entry)) (node .0)) name ⌝ }
+{
+    if 1 < std::num::wrapping_sub_u32(word, name) {
+        return false;
+    }
+    let kind = ast::kind_at(image, node);
+    if kind == 6 {
+        return ast::less_one(word) == name;
+    }
+    if kind == 10 {
+        return ast::less_one(word) == name;
+    }
+    word == name
+}
+
 // The first symbol of the name in the scope, whose rows are those from `first` to `end`.
-pub fn find_among(
+fn find_among(
     image: &[u8],
     table: &[u32],
-    n: u32,
-    first: u32,
-    end: u32,
-    scope: u32,
+    n: usize,
+    first: usize,
+    end: usize,
+    scope: usize,
     name: u32,
 ) -> Found
     requires { ⌜ Block (now image) (now table) n first end scope ⌝ }
@@ -253,7 +287,8 @@ pub fn find_among(
     let mut j = first;
     while j < end {
         let node = row_node(table, n, j);
-        if ast::name_of(image, NodeId(node)) == name {
+        let word = row_word(image, n, NodeId(node));
+        if is_named(image, NodeId(node), word, name) {
             return Found::At(NodeId(node));
         }
         j += 1;
@@ -261,14 +296,13 @@ pub fn find_among(
     Found::Nothing
 }
 
-// What lookup gives, where the rows stand by rising scope.
-pub fn seek(image: &[u8], table: &[u32], symbols: u32, scope: ScopeId, name: u32) -> Found
-    requires { ⌜ Sorted («image-spec».nodes (now image)) symbols (now table) ⌝ }
-    ensures { λ r. ⌜ optionOf r ≡ «table-spec».climb (now (image .entry)) (suc (scope .0)) (now (table .entry)) symbols (scope .0) name ⌝ }
+// What lookup gives from a scope on by the first `rows` rows, which stand by rising scope.
+fn seek_any(image: &[u8], table: &[u32], n: usize, scope: usize, rows: usize, name: u32) -> Found
+    requires { ⌜ Rising (now image) (now table) n rows × (scope < 2 ^ 32) ⌝ }
+    ensures { λ r. ⌜ optionOf r ≡ «table-spec».climb (now (image .entry)) (suc scope) (now (table .entry)) rows scope name ⌝ }
 {
-    let n = ast::node_count(image);
-    let mut at = scope.0;
-    let mut end = symbols;
+    let mut at = scope;
+    let mut end = rows;
     loop {
         let last = rows_near(table, n, end, at);
         let first = rows_before(table, n, last, at);
@@ -285,6 +319,83 @@ pub fn seek(image: &[u8], table: &[u32], symbols: u32, scope: ScopeId, name: u32
         at = parent;
         end = first;
     }
+}
+
+// A number of a part of the table.
+fn part_at(part: &[u32], i: usize) -> usize
+    requires { ⌜ i < length (now part) ⌝ }
+    ensures { λ r. ⌜ r ≡ getD (now (part .entry)) i 0 ⌝ }
+{
+    ast::wide(part[i])
+}
+
+// The scope is none of n, or the image is too short for the starts of n rows.
+fn is_short(image: &[u8], n: usize, scope: usize) -> bool
+    requires { ⌜ n < 2 ^ 32 ⌝ }
+    ensures { λ r. ⌜ (r ≡ false → (scope < n) × (24 + 8 * n ≤ length (now (image .entry)))) ⌝ }
+{
+    if n <= scope {
+        return true;
+    }
+    image.len() < 24 + 8 * n
+}
+
+// The start of a node's row; the limit where the node is none of n.
+fn start_of(starts: &[u8], n: usize, limit: usize, node: u32) -> usize
+    requires { ⌜ 4 * n ≤ length (now starts) ⌝ }
+    ensures { λ r. ⌜ (r < limit → (node < n) × (r < 2 ^ 32) × (r ≡ «image-spec».word (now (starts .entry)) (4 * node))) ⌝ }
+{
+    let i = ast::wide(node);
+    if n <= i {
+        return limit;
+    }
+    ast::wide(ast::word_in(starts, 4 * i))
+}
+
+// What lookup gives, where the rows stand by rising scope: quick over scopes with one row or none.
+pub fn seek(image: &[u8], table: &[u32], symbols: u32, scope: ScopeId, name: u32) -> Found
+    requires { ⌜ Sorted («image-spec».nodes (now image)) symbols (now table) ⌝ }
+    ensures { λ r. ⌜ optionOf r ≡ «table-spec».climb (now (image .entry)) (suc (scope .0)) (now (table .entry)) symbols (scope .0) name ⌝ }
+{
+    let n = ast::wide(ast::node_count(image));
+    let mut at = ast::wide(scope.0);
+    let mut end = rows_near(table, n, ast::wide(symbols), at);
+    if is_short(image, n, at) {
+        return seek_any(image, table, n, at, end, name);
+    }
+    let parents = &table[3 + 2 * n..];
+    let scopes = &table[2 + 3 * n..];
+    let nodes = &table[2 + 4 * n..];
+    let starts = &image[16 + 4 * n..];
+    let words = &image[24 + 8 * n..];
+    let limit = words.len() / 4;
+    while 0 < end {
+        let s = part_at(scopes, end);
+        if at < s {
+            return seek_any(image, table, n, at, end, name);
+        }
+        if s == at {
+            if part_at(scopes, end - 1) == at {
+                return seek_any(image, table, n, at, end, name);
+            }
+            let node = nodes[end];
+            let start = start_of(starts, n, limit, node);
+            if limit <= start {
+                return seek_any(image, table, n, at, end, name);
+            }
+            let word = ast::word_in(words, 4 * start);
+            if is_named(image, NodeId(node), word, name) {
+                return Found::At(NodeId(node));
+            }
+            end -= 1;
+        }
+        let parent = part_at(parents, at);
+        if parent >= at {
+            return Found::Nothing;
+        }
+        at = parent;
+    }
+    Found::Nothing
 }
 
 // A Var or a Const.

@@ -17,13 +17,16 @@ loop-holds : tie.Need-loop-holds Inv-loop μ-loop
 loop-holds c = among-start _ _ (c .before .before .pre)
 
 row-node-requires : tie.Need-row-node-requires Inv-loop μ-loop
-row-node-requires c κs = let h = c .before .before .before .before .pre .sorted in let a = h .within in let b = h .long in omega arith
+row-node-requires c κs = let h = c .before .before .before .before .pre .rising .sorted in let a = h .within in let b = h .long in omega arith
 
-name-of-requires : tie.Need-name-of-requires Inv-loop μ-loop
-name-of-requires c κs = search needs
+row-word-requires : tie.Need-row-word-requires Inv-loop μ-loop
+row-word-requires c κs = (c .before .before .before .before .before .pre .rising .nodes-are, c .before .before .before .before .before .pre .rising .small)
+
+is-named-requires : tie.Need-is-named-requires Inv-loop μ-loop
+is-named-requires c κs = search needs
 
 returns : tie.Need-returns Inv-loop μ-loop
-returns c = sym (among-hit _ _ (c .before .before .before .before .before .before .before .pre) (c .before .before .before .before .loop .inv) (c .before .before .before .loop-test .taken) (c .before .before .row-node .ensures) (c .before .name-of .ensures) (c .if1 .taken))
+returns c = sym (among-hit _ _ (c .before .before .before .before .before .before .before .before .pre) (c .before .before .before .before .before .loop .inv) (c .before .before .before .before .loop-test .taken) (c .before .before .before .row-node .ensures) (sym (c .before .is-named .ensures) ∙ c .if1 .taken))
 
 add-j : tie.Need-add-j Inv-loop μ-loop
 add-j c = search needs
@@ -32,7 +35,7 @@ loop-less : tie.Need-loop-less Inv-loop μ-loop
 loop-less c = search needs
 
 loop-again : tie.Need-loop-again Inv-loop μ-loop
-loop-again c = among-miss _ _ (c .before .before .before .before .before .before .before .pre) (c .before .before .before .before .loop .inv) (c .before .before .before .loop-test .taken) (c .before .before .row-node .ensures) (c .before .name-of .ensures) (c .if1 .left)
+loop-again c = among-miss _ _ (c .before .before .before .before .before .before .before .before .pre) (c .before .before .before .before .before .loop .inv) (c .before .before .before .before .loop-test .taken) (c .before .before .before .row-node .ensures) (sym (c .before .is-named .ensures) ∙ c .if1 .left)
 
 returns-2 : tie.Need-returns-2 Inv-loop μ-loop
 returns-2 c = sym (among-end _ _ (c .before .loop .inv) (c .loop-test .left))
@@ -45,7 +48,8 @@ find-among-spec =
     μ-loop
     loop-holds
     row-node-requires
-    name-of-requires
+    row-word-requires
+    is-named-requires
     returns
     add-j
     loop-less

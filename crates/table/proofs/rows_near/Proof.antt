@@ -1,5 +1,5 @@
 use native.Mathlib.Omega.{arith}
-use Rattle.table.proofs.Rising.{cut-none, cut-one, cut-more}
+use Rattle.table.proofs.Rising.{cut-more}
 use borrow.Author.Needs.{needs}
 use Rattle.table.proofs.rows_near.Statement.{statement}
 use Rattle.table.proofs.rows_near.Tie as tie
@@ -16,8 +16,11 @@ row-scope-requires c κs = search needs
 returns-2 : tie.Need-returns-2
 returns-2 c = search needs
 
-returns-3 : tie.Need-returns-3
-returns-3 c = cut-none (c .if3 .taken) (c .before .before .row-scope .ensures) (c .before .if2 .left)
+sub-back : tie.Need-sub-back
+sub-back c = search needs
+
+sub-guess : tie.Need-sub-guess
+sub-guess c = search needs
 
 sub-row-scope-2 : tie.Need-sub-row-scope-2
 sub-row-scope-2 c = search needs
@@ -25,11 +28,11 @@ sub-row-scope-2 c = search needs
 row-scope-requires-2 : tie.Need-row-scope-requires-2
 row-scope-requires-2 c κs = search needs
 
-sub-result : tie.Need-sub-result
-sub-result c = search needs
+row-scope-requires-3 : tie.Need-row-scope-requires-3
+row-scope-requires-3 c κs = search needs
 
-returns-4 : tie.Need-returns-4
-returns-4 c = cut-one (c .before .before .before .before .row-scope .ensures) (c .before .before .before .if2 .left) (c .before .row-scope2 .ensures) (c .if4 .taken)
+returns-3 : tie.Need-returns-3
+returns-3 c = search needs
 
 sub-rows-up-to : tie.Need-sub-rows-up-to
 sub-rows-up-to c = search needs
@@ -37,8 +40,8 @@ sub-rows-up-to c = search needs
 rows-up-to-requires : tie.Need-rows-up-to-requires
 rows-up-to-requires c κs = search needs
 
-returns-5 : tie.Need-returns-5
-returns-5 c = cut-more (omega arith) (c .before .before .before .before .before .row-scope .ensures) (c .before .before .before .before .if2 .left) (c .rows-up-to .ensures)
+returns-4 : tie.Need-returns-4
+returns-4 c = cut-more (omega arith) (c .before .before .before .row-scope .ensures) (c .before .before .if2 .left) (c .rows-up-to .ensures)
 
 pub rows-near-spec : {M : Type 1} → statement M
 rows-near-spec =
@@ -48,11 +51,12 @@ rows-near-spec =
     sub-row-scope
     row-scope-requires
     returns-2
-    returns-3
+    sub-back
+    sub-guess
     sub-row-scope-2
     row-scope-requires-2
-    sub-result
-    returns-4
+    row-scope-requires-3
+    returns-3
     sub-rows-up-to
     rows-up-to-requires
-    returns-5)
+    returns-4)
