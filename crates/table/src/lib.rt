@@ -106,25 +106,31 @@ pub fn leave_bare(image: &[u8], table: &mut [u32], node: NodeId, w: Walked) -> W
     w
 }
 
+// The i-th word of an array of the table: 2 the parents, 3 the symbols' scopes, 4 their nodes.
+fn word_of(image: &[u8], table: &[u32], array: usize, i: u32) -> u32
+    requires { ⌜ array ≤ 4 ⌝ }
+    ensures { λ r. ⌜ r ≡ getD (now (table .entry)) (3 + array * «image-spec».nodes (now (image .entry)) + i) 0 ⌝ }
+{
+    let n = ast::wide(ast::node_count(image));
+    get(table, 3 + array * n + ast::wide(i))
+}
+
 pub fn parent_of(image: &[u8], table: &[u32], scope: ScopeId) -> u32
     ensures { λ r. ⌜ r ≡ getD (now (table .entry)) (3 + 2 * «image-spec».nodes (now (image .entry)) + scope .0) 0 ⌝ }
 {
-    let n = ast::wide(ast::node_count(image));
-    get(table, 3 + 2 * n + ast::wide(scope.0))
+    word_of(image, table, 2, scope.0)
 }
 
 pub fn symbol_scope(image: &[u8], table: &[u32], j: u32) -> u32
     ensures { λ r. ⌜ r ≡ getD (now (table .entry)) (3 + 3 * «image-spec».nodes (now (image .entry)) + j) 0 ⌝ }
 {
-    let n = ast::wide(ast::node_count(image));
-    get(table, 3 + 3 * n + ast::wide(j))
+    word_of(image, table, 3, j)
 }
 
 pub fn symbol_node(image: &[u8], table: &[u32], j: u32) -> u32
     ensures { λ r. ⌜ r ≡ getD (now (table .entry)) (3 + 4 * «image-spec».nodes (now (image .entry)) + j) 0 ⌝ }
 {
-    let n = ast::wide(ast::node_count(image));
-    get(table, 3 + 4 * n + ast::wide(j))
+    word_of(image, table, 4, j)
 }
 
 // Row j is a symbol of the scope with the name.
