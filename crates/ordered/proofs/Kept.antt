@@ -1,4 +1,4 @@
--- What the walk keeps of its table: the rows stand by rising scope, all below the count of scopes.
+-- The steps of a walk keep what it keeps of its table.
 use mathlib.Core.Path.{_≡_, refl, ap, _∙_}
 use mathlib.Core.Logic.{⊎-elim}
 use mathlib.Core.List.{List}
@@ -9,15 +9,11 @@ use lib.ListN.{length, set, drop, length-set}
 use lib.Seq.{getD-set-same, getD-set-other, drop-set-lt}
 use Rattle.ast.specs.Image.{nodes}
 use Rattle.table.specs.Layout.{tableLength}
-use Rattle.table.specs.Rows.{scopeOf, Sorted}
+use Rattle.table.specs.Rows.{scopeOf}
 use Rattle.table.specs.Table.{Table, mark, newScope, newSymbol}
+use Rattle.ordered.specs.Kept.{Kept}
 
 module _ (img : List ℕ) where
-  -- the rows stand by rising scope, each of a scope that is there
-  pub record Kept (t : Table) : Type 0 where
-    pub rising : Sorted (nodes img) (t .symbols) (t .words)
-    pub under : (j : ℕ) → j < t .symbols → scopeOf (nodes img) (t .words) j < t .scopes
-
   -- a store before the rows keeps them
   stored : (ws : List ℕ) (i v j : ℕ) → i < 3 + 3 * nodes img → scopeOf (nodes img) (set ws i v) j ≡ scopeOf (nodes img) ws j
   stored ws i v j h = getD-set-other ws i (3 + 3 * nodes img + j) v 0 (λ q. omega arith)
@@ -66,19 +62,19 @@ module _ (img : List ℕ) where
 
   -- the same rows, and as many
   kept-same : (t u : Table) → u .symbols ≡ t .symbols → t .scopes ≤ u .scopes → length (u .words) ≡ length (t .words)
-      → ((j : ℕ) → scopeOf (nodes img) (u .words) j ≡ scopeOf (nodes img) (t .words) j) → Kept t → Kept u
+      → ((j : ℕ) → scopeOf (nodes img) (u .words) j ≡ scopeOf (nodes img) (t .words) j) → Kept img t → Kept img u
   kept-same t u y k l r s =
       record {
         rising = record { within = (let w = s .rising .within in omega arith); long = (let z = s .rising .long in omega arith); rises = λ i j a b. let p = r i in let q = r j in let z = s .rising .rises i j a (omega arith) in omega arith };
         under = λ j b. let q = r j in let z = s .under j (omega arith) in omega arith;
       }
 
-  pub mark-kept : (n a b : ℕ) (t : Table) → n < nodes img → Kept t → Kept (mark img n a b t)
+  pub mark-kept : (n a b : ℕ) (t : Table) → n < nodes img → Kept img t → Kept img (mark img n a b t)
   unfolding mark
   mark-kept n a b t h s =
       kept-same t (mark img n a b t) refl (omega arith) (mark-length n a b t) (mark-rows n a b t h) s
 
-  pub scope-kept : (p : ℕ) (t : Table) → t .scopes < nodes img → Kept t → Kept (newScope img p t)
+  pub scope-kept : (p : ℕ) (t : Table) → t .scopes < nodes img → Kept img t → Kept img (newScope img p t)
   unfolding newScope
   scope-kept p t h s = kept-same t (newScope img p t) refl (omega arith) (scope-length p t) (scope-rows p t h) s
 
@@ -93,7 +89,7 @@ module _ (img : List ℕ) where
   symbol-length s n t = length-set (set (t .words) (3 + 3 * nodes img + t .symbols) s) (3 + 4 * nodes img + t .symbols) n ∙ length-set (t .words) (3 + 3 * nodes img + t .symbols) s
 
   -- a symbol of the newest scope
-  pub symbol-kept : (s n : ℕ) (t : Table) → t .symbols < nodes img → suc s ≡ t .scopes → Kept t → Kept (newSymbol img s n t)
+  pub symbol-kept : (s n : ℕ) (t : Table) → t .symbols < nodes img → suc s ≡ t .scopes → Kept img t → Kept img (newSymbol img s n t)
   unfolding newSymbol
   symbol-kept s n t h e d =
       record {

@@ -16,8 +16,10 @@ use Rattle.table.specs.Table.{find, mark, newScope, newSymbol}
 use Rattle.ordered.specs.Walk.{occurs, walkSeq}
 use Rattle.ordered.specs.Walkers.{Few}
 use Rattle.ordered.proofs.Grows.{seq-grows}
-use Rattle.ordered.proofs.Kept.{Kept, past, mark-kept, scope-kept, symbol-kept, mark-past, scope-past, symbol-past, mark-length, scope-length, symbol-length, mark-rows, scope-rows}
-use Rattle.ordered.proofs.Size.{size, sizes, seq-within}
+use Rattle.ordered.specs.Kept.{Kept}
+use Rattle.ordered.proofs.Kept.{past, mark-kept, scope-kept, symbol-kept, mark-past, scope-past, symbol-past, mark-length, scope-length, symbol-length, mark-rows, scope-rows}
+use Rattle.ordered.specs.Size.{size, sizes}
+use Rattle.ordered.proofs.Size.{seq-within}
 use Rattle.scopes.specs.Walk.{Listed, done, twice, enterName, enterRule, andThen, enter, enterAll, visit, visitAll}
 use Rattle.scopes.specs.Lists.{ent, ents, vis, viss, Fits}
 

@@ -18,7 +18,7 @@ use Rattle.table.specs.Table.{find, mark}
 use Rattle.table.proofs.Frames.{own, find-none, find-mark, find-symbol}
 use Rattle.table.proofs.Rising.{either}
 use Rattle.ordered.proofs.Kept.{mark-length}
-use Rattle.ordered.proofs.Size.{size, sizes}
+use Rattle.ordered.specs.Size.{size, sizes}
 use Rattle.scopes.specs.Walk.{Listed, done, twice, enterName, enterRule, andThen, enter, enterAll, visit, visitAll}
 use Rattle.scopes.specs.Lists.{ent, ents, vis, viss, Fits}
 use Rattle.scopes.specs.Clash.{Clash, orElse, ruleNode, declared, declaredAll, earliest, clashFrom, modelClash, modelClashes}

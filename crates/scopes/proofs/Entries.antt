@@ -24,7 +24,7 @@ use Rattle.table.specs.Table.{find, findFrom, mark}
 use Rattle.table.specs.Values.{exitOf}
 use Rattle.table.specs.declared.Walked.{Walked}
 use Rattle.ast.specs.declared.NodeId.{NodeId}
-use Rattle.ordered.proofs.Size.{size}
+use Rattle.ordered.specs.Size.{size}
 use Rattle.ordered.proofs.Kept.{past, mark-past, mark-length, symbol-past}
 use Rattle.scopes.specs.Walk.{Listed, done, twice, enterName, enterRule, andThen, enter, enterAll, visit}
 use Rattle.scopes.specs.Lists.{listedOf, ent, ents, vis, restEnter, Seen, Entering, Enters, Signature, Lists, Stamped}

@@ -26,8 +26,10 @@ use Rattle.table.specs.State.{Exit, marked}
 use Rattle.table.specs.Table.{Table, mark, newScope}
 use Rattle.table.proofs.Sounds.{parent-low, row-yes, sound-rest}
 use Rattle.ordered.specs.Walkers.{Few}
-use Rattle.ordered.proofs.Kept.{Kept, past, mark-kept, scope-kept, mark-past, scope-past, mark-length, scope-length}
-use Rattle.ordered.proofs.Size.{size, size-nodes}
+use Rattle.ordered.specs.Kept.{Kept}
+use Rattle.ordered.proofs.Kept.{past, mark-kept, scope-kept, mark-past, scope-past, mark-length, scope-length}
+use Rattle.ordered.specs.Size.{size}
+use Rattle.ordered.proofs.Size.{size-nodes}
 use Rattle.scopes.specs.Walk.{Listed, done, twice, enterAll, visitAll, resolveTree}
 use Rattle.scopes.specs.Resolve.{Outcome, testTable, zeroed, walked, headed, outcomeOf, resolve}
 use Rattle.scopes.specs.Clash.{Clash, clashIn, firstClash}

@@ -20,7 +20,8 @@ use Rattle.table.specs.Layout.{allOnes, tableLength}
 use Rattle.table.specs.State.{Exit, childScope, marked}
 use Rattle.table.specs.Values.{tableOf, exitOf}
 use Rattle.table.specs.declared.Walked.{Walked}
-use Rattle.ordered.proofs.Size.{size, sizes, size-nodes}
+use Rattle.ordered.specs.Size.{size, sizes}
+use Rattle.ordered.proofs.Size.{size-nodes}
 use Rattle.rows.specs.Rows.{cleared}
 use Rattle.scopes.specs.Walk.{andThen, enterAll, visitAll, resolveTree}
 use Rattle.scopes.specs.Resolve.{testTable, zeroed, walked, headed, resolve}
