@@ -24,7 +24,8 @@ use Rattle.scopes.specs.Walk.{twice}
 use Rattle.scopes.specs.Resolve.{testTable, walked}
 use Rattle.scopes.specs.Clash.{Clash, orElse, ruleNode, declared, declaredAll, earliest, clashFrom, modelClash, modelClashes, clashIn, firstClash}
 use Rattle.scopes.proofs.Clashes.{shows}
-use Rattle.scopes.proofs.Namings.{Fit, namedBy, enters, tree-fits}
+use Rattle.ordered.proofs.Moves.{namedBy, enters}
+use Rattle.scopes.proofs.Namings.{Fit, tree-fits}
 use Rattle.scopes.proofs.Resolving.{table-accepted, walked-shown}
 use Rattle.exports.specs.Packed.{Fits}
 

@@ -18,34 +18,7 @@ use Rattle.ast.proofs.Unfold.{treeAt-is}
 use Rattle.ast.proofs.Vars.{Everywhere, everywhere, every-kind}
 use Rattle.table.specs.Sound.{hasName, isSymbol}
 use Rattle.table.proofs.Sounds.{named-yes, symbol-rule, symbol-arg, symbol-var, symbol-decl}
-
--- an optional name, by the shape
-unfoldable pub namedBy : List ℕ → Bool
-namedBy [] = false
-namedBy (zero ∷ sh) = false
-namedBy (suc c ∷ sh) = true
-
--- the walk enters the node as a symbol
-unfoldable pub enters : Class → List ℕ → Bool
-unfolding namedBy
-enters (outer root) sh = false
-enters (outer decl) sh = false
-enters (outer signature) sh = true
-enters (outer rule) sh = namedBy sh
-enters (outer enum) sh = true
-enters (outer model) sh = true
-enters (inner plain) sh = false
-enters (inner term) sh = false
-enters (inner ident) sh = true
-enters (inner head) sh = false
-enters (inner headMember) sh = false
-enters (inner member) sh = false
-enters (inner branch) sh = false
-enters (inner match) sh = false
-enters (inner case) sh = false
-enters (inner ifVar) sh = false
-enters (inner definedThen) sh = false
-enters (inner arg) sh = namedBy sh
+use Rattle.ordered.proofs.Moves.{namedBy, enters}
 
 -- the kinds of these classes
 declares : ℕ → Bool

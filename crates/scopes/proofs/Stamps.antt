@@ -13,12 +13,13 @@ use lib.ListN.{length, getD, set, length-set}
 use lib.Seq.{getD-set-same, getD-set-other}
 use borrow.Author.Tests.{eqb-true, eqb-false, ne-eqb}
 use Rattle.ast.specs.Image.{nodes, nameOf}
-use Rattle.table.specs.Layout.{tableLength}
+use Rattle.table.specs.Layout.{scopePlace, nodePlace, tableLength}
 use Rattle.table.specs.Rows.{scopeOf, nodeAt}
 use Rattle.table.specs.State.{Exit, ownSymbol, marked}
 use Rattle.table.specs.Table.{Table, rowIs, findFrom, mark, newSymbol}
 use Rattle.table.proofs.Finds.{row-out, row-in}
 use Rattle.table.proofs.Frames.{SameRows, symbol-same, symbol-node}
+use Rattle.ordered.proofs.Kept.{mark-word}
 use Rattle.scopes.specs.Lists.{Seen, Stamped}
 
 no-false : false ≡ true → ⊥
@@ -51,11 +52,11 @@ module _ (img : List ℕ) where
 
   -- marks change no row
   mark-same : (n a b : ℕ) (t : Table) → n < nodes img → SameRows (nodes img) (t .symbols) ((mark img n a b t) .words) (t .words)
-  unfolding mark
-  mark-same n a b t l = record { scopes = λ j k. word (3 + 3 * nodes img + j) (omega arith); nodes = λ j k. word (3 + 4 * nodes img + j) (omega arith) }
-    where
-      word : (i : ℕ) → 3 + 2 * nodes img ≤ i → getD ((mark img n a b t) .words) i 0 ≡ getD (t .words) i 0
-      word i h = getD-set-other (set (t .words) (3 + n) a) (3 + nodes img + n) i b 0 (λ q. omega arith) ∙ getD-set-other (t .words) (3 + n) i a 0 (λ q. omega arith)
+  mark-same n a b t l =
+      record {
+        scopes = λ j k. mark-word img n a b t (scopePlace (nodes img) j) (omega arith) (omega arith);
+        nodes = λ j k. mark-word img n a b t (nodePlace (nodes img) j) (omega arith) (omega arith);
+      }
 
   -- a scope above all rows: whatever the stamps are
   pub seen-start : (seen : List ℕ) (e : Exit) → ((j : ℕ) → j < e .table .symbols → scopeOf (nodes img) (e .table .words) j < e .scope) → Seen img seen e
