@@ -23,11 +23,12 @@ use Rattle.scopes.specs.Walk.{Listed, done, twice}
 use Rattle.scopes.specs.Resolve.{testTable, zeroed, walked, headed, resolve}
 use Rattle.scopes.specs.Resolve as resolving
 use Rattle.scopes.specs.Rows.{testRows, Outcome}
-use Rattle.scopes.proofs.Resolving.{Ended, Ways, refuses, stops, fills, ways, refuses-outcome, stops-outcome, fills-outcome, Fills, filled, walked-ended, table-accepted, headed-word, headed-length}
+use Rattle.scopes.proofs.Resolving.{Ended, Ways, refuses, stops, fills, ways, refuses-outcome, stops-outcome, fills-outcome, Fills, filled, walked-ended, table-accepted, headed-word}
+use Rattle.scopes.proofs.Headed.{headed-lookup, headed-exit, headed-sorted}
 use Rattle.occurrences.specs.Sight.{Spot, moduleRules}
 use Rattle.occurrences.specs.Occurrences.{found, occurrenceRows, lone, rowsByRule, onceAnswer, occurrencesOf, occurrences, onceOf, once}
 use Rattle.occurrences.specs.Collect.{sought, Whole, Nodes}
-use Rattle.occurrences.proofs.Resolving.{tableOf, resolved, headed-lookup, headed-symbols}
+use Rattle.occurrences.proofs.Resolving.{resolved}
 use Rattle.occurrences.proofs.RowLaws.{rows-few}
 use Rattle.occurrences.proofs.CollectRules.{same-lists, same-all}
 
@@ -38,19 +39,6 @@ and-left false b e = e
 symbol-low : (img : List ℕ) (n : ℕ) → isSymbol img n ≡ true → n < nodes img
 unfolding isSymbol
 symbol-low img n e = ltb-true _ _ (and-left _ _ e)
-
--- the counts in front leave the symbol rows by rising scope
-headed-sorted : (img : List ℕ) (t : Table) → Sorted (nodes img) (t .symbols) (t .words) → Sorted (nodes img) (t .symbols) (headed img t)
-headed-sorted img t s =
-    record {
-      within = s .within;
-      long = (let a = headed-length img t in let b = s .long in omega arith);
-      rises = λ i j l k.
-          let a = headed-word img t (scopePlace (nodes img) i) (omega arith) in
-          let b = headed-word img t (scopePlace (nodes img) j) (omega arith) in
-          let c = s .rises i j l k in
-          omega arith;
-    }
 
 module _ (img tab : List ℕ) where
   -- a table that Resolve filled, with its counts: what the collectors ask, and where the walk ended
@@ -69,12 +57,9 @@ module _ (img tab : List ℕ) where
     same-found : (s : Spot) → found img (e .table) s ≡ found img (sought (headed img (e .table)) (e .table .symbols)) s
     unfolding lookup
     same-found s =
-        let ws = headed img (e .table) in
-        let n = exitAt img (e .table .words) (s .node) in
         let x = nameOf img (s .ident) in
-        sym (headed-lookup img tab e accepted is n x)
-        ∙ ap (λ (c : ℕ). climb img (suc n) ws c n x) (headed-symbols img tab e accepted is)
-        ∙ ap (λ (m : ℕ). climb img (suc m) ws (e .table .symbols) m x) (sym (headed-word img (e .table) (exitPlace (nodes img) (s .node)) (omega arith)))
+        headed-lookup img (e .table) (exitAt img (e .table .words) (s .node)) x
+        ∙ ap (λ (m : ℕ). climb img (suc m) (headed img (e .table)) (e .table .symbols) m x) (headed-exit img (e .table) (s .node))
 
     given-end : Given (e .table .symbols) (headed img (e .table))
     given-end =

@@ -40,7 +40,11 @@ use Rattle.scopes.proofs.Clashes.{shows, list-shown, visitAll-shown}
 use Rattle.scopes.proofs.Namings.{Fit, tree-fits}
 use Rattle.scopes.proofs.Moves.{Good, good-mark, moves-good, enterAll-ends, visitAll-ends, ends-and}
 
--- the module's own scope, in a table with no scope and no symbol
+-- a table with no scope and no symbol
+pub none-kept : (img ws : List ℕ) → tableLength (nodes img) ≤ length ws → Kept img (record { words = ws; scopes = 0; symbols = 0 })
+none-kept img ws long = record { rising = record { within = omega arith; long = long; rises = λ i j a b. absurd (omega arith) }; under = λ j b. absurd (omega arith) }
+
+-- the module's own scope in it
 module _ (img ws : List ℕ) (n : ℕ) (below : n < nodes img) (long : tableLength (nodes img) ≤ length ws) where
   abbrev empty : Table
   empty = record { words = ws; scopes = 0; symbols = 0 }
@@ -56,7 +60,7 @@ module _ (img ws : List ℕ) (n : ℕ) (below : n < nodes img) (long : tableLeng
   unfolding marked mark newScope
   begun-newest =
       record {
-        kept = mark-kept img n 0 0 (newScope img allOnes empty) below (scope-kept img allOnes empty (omega arith) (record { rising = record { within = omega arith; long = long; rises = λ i j a b. absurd (omega arith) }; under = λ j b. absurd (omega arith) }));
+        kept = mark-kept img n 0 0 (newScope img allOnes empty) below (scope-kept img allOnes empty (omega arith) (none-kept img ws long));
         last = (let z : suc 0 ≡ 0 + 1 = omega arith in z);
       }
 
