@@ -12,12 +12,6 @@ use Rattle.table.specs.Table.{Table, lookup, climb, isKind, entryAt, exitAt}
 use Rattle.rows.specs.Rows.{Row, row}
 use Rattle.bindings.specs.Errors.{when, sameNode, atEntry, atExit, introduces, introducedRow}
 
--- lookup from a scope, by what a search gives
-pub looked-up : (img : List ℕ) (t : Table) (s : ℕ) (x : ℕ) (i : ℕ) (o : Option ℕ) (z : ℕ) → s ≡ z → x ≡ nameOf img i
-    → o ≡ climb img (suc s) (t .words) (t .symbols) s x → o ≡ lookup img t z (nameOf img i)
-unfolding lookup
-looked-up img t s x i o z q p e = e ∙ ap₂ (λ (a b : ℕ). climb img (suc a) (t .words) (t .symbols) a b) q p
-
 module _ (img : List ℕ) (t : Table) (n i : ℕ) where
   -- introduces, by what lookup gives at the exit
   pub introduces-none : {o : Option ℕ} → o ≡ atExit img t n i → o ≡ nothing → introduces img t n i ≡ false

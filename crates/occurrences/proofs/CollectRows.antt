@@ -21,11 +21,6 @@ use Rattle.occurrences.specs.Sight.{Spot, spots, spotsSeq, spotsBack, sp
 use Rattle.occurrences.specs.Occurrences.{listed, found, rowsFor}
 use Rattle.occurrences.specs.Collect.{sought, spot, identRows, rowsIn, rowsAt}
 
--- what lookup finds for a spot, by the code's own values
-pub found-is : (img ws : List ℕ) (y n i : ℕ) {x s : ℕ} {o : Option ℕ} → o ≡ climb img (suc s) ws y s x → s ≡ exitAt img ws n → x ≡ nameOf img i → o ≡ found img (sought ws y) (spot n i)
-unfolding lookup
-found-is img ws y n i p q r = p ∙ ap₂ (λ (s x : ℕ). climb img (suc s) ws y s x) q r
-
 -- any class but an IdentTerm's: its spots do not depend on the node above
 unfoldable pub bare : Class → Bool
 bare (outer o) = true

@@ -12,6 +12,12 @@ use Rattle.table.specs.Rows.{scopeOf, nodeAt, parentAt}
 use Rattle.table.specs.Table.{Table, findFrom, find, climb, lookup}
 use Rattle.table.proofs.Frames.{SameRows}
 
+-- lookup from a scope, by what a search gives
+pub looked-up : (img : List ℕ) (t : Table) (s : ℕ) (x : ℕ) (i : ℕ) (o : Option ℕ) (z : ℕ) → s ≡ z → x ≡ nameOf img i
+    → o ≡ climb img (suc s) (t .words) (t .symbols) s x → o ≡ lookup img t z (nameOf img i)
+unfolding lookup
+looked-up img t s x i o z q p e = e ∙ ap₂ (λ (a b : ℕ). climb img (suc a) (t .words) (t .symbols) a b) q p
+
 abbrev pub through : Bool → Option ℕ → Option ℕ
 through b rest = elim b [ true ↦ rest | false ↦ none ]
 
