@@ -24,9 +24,9 @@ use Rattle.ast.proofs.Count.{nodesOf, nodesAll, sumOf, sumTo, is-same, is-other
 use Rattle.scopes.specs.Twice.{among}
 use Rattle.table.specs.Table.{Table}
 use Rattle.rows.specs.Rows.{Row, row, rights}
+use Rattle.ordered.proofs.Bools.{false-true}
 use Rattle.bindings.specs.Errors.{when, argsOf, repeated, repeatedIn, repeatedTo, strictFrom, strictRows, isStrict, plainRows, errorRows}
 use Rattle.bindings.specs.Places.{Node, Unnamed, Repeated}
-use Rattle.bindings.proofs.Bools.{false-true}
 use Rattle.bindings.proofs.Leaves.{when-true}
 use Rattle.bindings.proofs.Reached.{ops-mem}
 use Rattle.bindings.proofs.Fine.{Fine, rights-append}

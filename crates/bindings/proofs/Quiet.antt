@@ -19,7 +19,7 @@ use Rattle.ast.proofs.Accepted.{formed}
 use Rattle.ast.proofs.Vars.{every-kind, Each}
 use Rattle.table.specs.Table.{Table}
 use Rattle.rows.specs.Rows.{Row}
-use Rattle.bindings.proofs.Bools.{and-both, not-or, is-false}
+use Rattle.ordered.proofs.Bools.{and-both, not-or, is-false}
 use Rattle.bindings.specs.Errors.{asked, introducedRow, rowsOf, rowsSeq, rowsFirst}
 
 -- the kinds from Term to IfAtom, the atoms but DefinedThenAtom, and IfStmt

@@ -26,10 +26,10 @@ use Rattle.ast.proofs.Count.{is-same, times-append, parents}
 use Rattle.ast.proofs.Kids.{childKind, kid-admitted, kids-admitted, every-pair, all-mem}
 use Rattle.table.specs.Table.{Table, isVar, isKind}
 use Rattle.rows.specs.Rows.{Row, row}
+use Rattle.ordered.proofs.Bools.{and-both, not-or, is-true, is-false, false-true, not-equal, and-true, true-is}
 use Rattle.bindings.specs.Errors.{when, asked, atEntry, atExit, introduces, introducedRow, isCtor, argRow, argRows, definedRow, rowsOf, rowsSeq, declRows, plainRows}
 use Rattle.bindings.specs.Checks.{inside, listed, declared, ofPattern, ofArgs}
 use Rattle.bindings.specs.Places.{Node, IdentTerm, Stands, Determines, InThen, atom, down, Introduced, NotNew, NotFresh}
-use Rattle.bindings.proofs.Bools.{and-both, not-or, is-true, is-false, false-true, not-equal, and-true, true-is}
 use Rattle.bindings.proofs.RowLaws.{rowsAt, declKinds, kids-of, plain-rows, term-rows, ident-rows, member-rows, receiver-rows, head-ident, head-other, branch-rows, match-rows, case-rows, defined-none, defined-some, case-inside, args-inside, arg-none, arg-ident, defined-ident, defined-wild, ctor-ident, ctor-none, decl-child, decl-none, rule-rows, model-rows, module-rows}
 use Rattle.bindings.proofs.Quiet.{quiet}
 use Rattle.bindings.proofs.Bodies.{atomKinds, case-pattern, no-pattern, applied, applied-yes, applied-no, Applied, case-whole, Defined, then-some}
@@ -243,7 +243,7 @@ module _ (img : List ℕ) (t : Table) (accepted : verdict img ≡ 0) where
   abbrev Claim : ℕ → Type 0
   Claim n = (a : Bool) → (a ≡ true → InThen img n) → T (ordinary (kindAt img n)) → (o : ℕ) → FineAt img t n (rowsAt img t a o n)
 
-  is-at : {k n : ℕ} → n < nodes img → kindAt img n ≡ k → Is img (kindOf k) n
+  pub is-at : {k n : ℕ} → n < nodes img → kindAt img n ≡ k → Is img (kindOf k) n
   is-at l e = record { accepted = accepted; below = l; kind = ap kindOf e }
 
   ordinary-at : (n : ℕ) {k : ℕ} → kindAt img n ≡ k → T (ordinary k) → T (ordinary (kindAt img n))

@@ -24,6 +24,7 @@ use Rattle.scopes.specs.Resolve.{testTable, zeroed, walked, headed, resolve}
 use Rattle.scopes.specs.Resolve as resolving
 use Rattle.scopes.specs.Rows.{testRows, Outcome}
 use Rattle.scopes.proofs.Resolving.{Ended, Ways, refuses, stops, fills, ways, refuses-outcome, stops-outcome, fills-outcome, Fills, filled, walked-ended, table-accepted, headed-word}
+use Rattle.scopes.proofs.Namings.{symbol-below}
 use Rattle.scopes.proofs.Headed.{headed-lookup, headed-exit, headed-sorted}
 use Rattle.occurrences.specs.Sight.{Spot, moduleRules}
 use Rattle.occurrences.specs.Occurrences.{found, occurrenceRows, lone, rowsByRule, onceAnswer, occurrencesOf, occurrences, onceOf, once}
@@ -31,14 +32,6 @@ use Rattle.occurrences.specs.Collect.{sought, Whole, Nodes}
 use Rattle.occurrences.proofs.Resolving.{resolved}
 use Rattle.occurrences.proofs.RowLaws.{rows-few}
 use Rattle.occurrences.proofs.CollectRules.{same-lists, same-all}
-
-and-left : (a b : Bool) → a && b ≡ true → a ≡ true
-and-left true b e = refl
-and-left false b e = e
-
-symbol-low : (img : List ℕ) (n : ℕ) → isSymbol img n ≡ true → n < nodes img
-unfolding isSymbol
-symbol-low img n e = ltb-true _ _ (and-left _ _ e)
 
 module _ (img tab : List ℕ) where
   -- a table that Resolve filled, with its counts: what the collectors ask, and where the walk ended
@@ -74,7 +67,7 @@ module _ (img tab : List ℕ) where
             sorted = headed-sorted img (e .table) (d .kept .rising);
             few = subst (λ (l : List Row). length l ≤ nodes img) (same-all img (e .table) _ same-found) (rows-few img (e .table) accepted ((resolved img tab e accepted is) .walks));
           };
-          symbols = λ j l. let a = headed-word img (e .table) (nodePlace (nodes img) j) (omega arith) in let b = symbol-low img _ (d .good .symbols j l) in omega arith;
+          symbols = λ j l. let a = headed-word img (e .table) (nodePlace (nodes img) j) (omega arith) in let b = symbol-below img _ (d .good .symbols j l) in omega arith;
         }
 
   pub given : {k y : ℕ} {vs : List ℕ} → result k y ≡ (resolve img tab) .answer → vs ≡ (resolve img tab) .table → Given y vs

@@ -22,6 +22,7 @@ use Rattle.ast.proofs.Formed.{Formed}
 use Rattle.table.specs.Table.{Table}
 use Rattle.table.specs.Rows.{Sorted}
 use Rattle.rows.specs.Rows.{Row, row as rowOf, Appended}
+use Rattle.scopes.proofs.Rooting.{root-is}
 use Rattle.occurrences.specs.Sight.{Spot, spots, spotsSeq, spotsBack, spotsFirst, ruleSpots, orElse, Rule, saysAll, rules, rulesAll, rulesOf, moduleRules}
 use Rattle.occurrences.specs.Occurrences.{found, listed, rowsFor, ruleRows, allRows, occurrenceRows, rowsByRule}
 use Rattle.occurrences.specs.Collect.{sought, rowsIn, rowsAt, joined, listsIn, listsAt, Room, Run, Listing, ListingRun, Whole}
@@ -276,13 +277,10 @@ module _ (img : List ℕ) (t : Table) where
   decls-end n j {count} {i} h l = left-end h (ap joined (items-done n j count i l))
 
   -- the module --------------------------------------------------------------------------------------------------------------
-  root-is : verdict img ≡ 0 → Is img (kindOf 0) (last img)
-  root-is e = record { accepted = e; below = last-below img e; kind = ap kindOf ((formed img e) .root) }
-
   module-lists : verdict img ≡ 0 → rowsByRule img t (moduleRules img) ≡ listsAt img t (last img) (field img (last img) 0) 1
   unfolding moduleRules rulesOf listsAt nodeOf kindOf allKids ordered
   module-lists e =
-      ap (λ (u : Tree). rowsByRule img t (rulesOf img u)) (tree-of img (root-is e))
+      ap (λ (u : Tree). rowsByRule img t (rulesOf img u)) (tree-of img (root-is img e))
       ∙ free-all img t _ unmeant (append (items img (last img) (field img (last img) 0) 1) none)
       ∙ ap (λ (us : Trees). rowsByRule img t (rulesAll img unmeant us)) (append-none (items img (last img) (field img (last img) 0) 1))
 
@@ -298,7 +296,7 @@ module _ (img : List ℕ) (t : Table) where
       (record { run = runOf is ((row img is) .0) ((formed-row img is) .short) (p .sorted) (subst (λ (l : List Row). 0 + length l ≤ nodes img) w (let f = p .few in omega arith)); by-rule = b; whole = w }))
     where
       is : Is img (kindOf 0) (last img)
-      is = root-is (p .accepted)
+      is = root-is img (p .accepted)
 
       b : rowsByRule img t (moduleRules img) ≡ listsAt img t (last img) (field img (last img) 0) 1
       b = module-lists (p .accepted)

@@ -18,6 +18,7 @@ use Rattle.ast.proofs.Shapes.{termKinds, headKinds, one-more, formed-row, row, 
 use Rattle.table.specs.Table.{Table}
 use Rattle.rows.specs.Rows.{Row, row as rowOf, putRows, Appended}
 use Rattle.rows.proofs.Appends.{appended-none, appended-next}
+use Rattle.ordered.proofs.Blocks.{BlocksFrom, blocks-from, blocks-place as place-of-blocks, NextBlock, next-block}
 use Rattle.occurrences.specs.Sight.{spots, spotsFirst}
 use Rattle.occurrences.specs.Occurrences.{found, rowsFor}
 use Rattle.occurrences.specs.Collect.{spot, identRows, rowsIn, rowsAt, Room, Ready, Run}
@@ -344,29 +345,19 @@ module _ (img : List ℕ) (t : Table) where
 
   -- a loop over the blocks of a branch: after i of them it stands at place j
   pub record BlocksLeft (N n count i j c : ℕ) (ws : List ℕ) (d : ℕ) (us : List ℕ) : Type 0 where
-    pub within : i ≤ count
-    pub formed : FormedBlocks img n 36 (count - i) j
-    pub short : blocksEnd img n (count - i) j ≤ 8192
+    pub from : BlocksFrom img n count i j
     pub left : Left N (rowsIn img t n) (blockRows img t n (count - i) j) c ws d us
 
   pub blocks-start : {N n count c : ℕ} {ws : List ℕ} → Ready img t (kindOf 39) n c → count ≡ field img n 0 → BlocksLeft N n count 0 1 c ws c ws
-  unfolding FormedFields ends next kindOf
   blocks-start {N} {n} {count} {c} {ws} p q =
       let e : field img n 0 ≡ count - 0 = omega arith in
       record {
-        within = omega arith;
-        formed = subst (λ (x : ℕ). FormedBlocks img n 36 x 1) e ((row img (p .is)) .0);
-        short = subst (λ (x : ℕ). blocksEnd img n x 1 ≤ 8192) e ((formed-row img (p .is)) .short);
+        from = blocks-from img (p .is) q;
         left = left-start (branch-rows img t (p .is) ∙ ap (λ (x : ℕ). blockRows img t n x 1) e) (p .room .fits);
       }
 
-  ends-grows : (n c j : ℕ) → j ≤ blocksEnd img n c j
-  unfolding blocksEnd
-  ends-grows n zero j = omega arith
-  ends-grows n (suc c) j = let h = ends-grows n c (j + 1 + field img n j) in omega arith
-
   pub blocks-place : {N n count i j c d : ℕ} {ws us : List ℕ} → BlocksLeft N n count i j c ws d us → j ≤ 8192
-  blocks-place {n = n} {count} {i} {j} b = le-trans (ends-grows n (count - i) j) (b .short)
+  blocks-place b = place-of-blocks img (b .from)
 
   pub record Block (N n count i j s c : ℕ) (ws : List ℕ) (d : ℕ) (us : List ℕ) : Type 0 where
     pub run : Run img t 36 n (j + 1) s d
@@ -374,13 +365,12 @@ module _ (img : List ℕ) (t : Table) where
     pub more : {e : ℕ} {vs : List ℕ} → Appended N (rowsAt img t n s (j + 1)) d us e vs → length vs ≡ length us → BlocksLeft N n count (i + 1) (j + 1 + s) c ws e vs
 
   pub blockOf : {N n count i j s c b d : ℕ} {ws us : List ℕ} → Ready img t (kindOf 39) n b → BlocksLeft N n count i j c ws d us → i < count → s ≡ field img n j → Block N n count i j s c ws d us
-  unfolding FormedBlocks blocksEnd
   blockOf {N} {n} {count} {i} {j} {s} {c} {d = d} {ws} {us} p b l q =
       subst (λ (x : ℕ). Block N n count i j x c ws d us) (sym q)
       (record {
-        run = runOf (p .is) (hs .0) fits (room-first _ _ (room-as m (record { sorted = p .room .sorted; fits = b .left .fits })));
-        fits = fits;
-        more = λ a long. record { within = omega arith; formed = hs .1; short = sh; left = left-next (b .left) m a long };
+        run = runOf (p .is) (k .items) (k .fits) (room-first _ _ (room-as m (record { sorted = p .room .sorted; fits = b .left .fits })));
+        fits = k .fits;
+        more = λ a long. record { from = k .from; left = left-next (b .left) m a long };
       })
     where
       z : ℕ
@@ -389,14 +379,8 @@ module _ (img : List ℕ) (t : Table) where
       rest : ℕ
       rest = count - (i + 1)
 
-      hs : FormedBlocks img n 36 (suc rest) j
-      hs = subst (λ (x : ℕ). FormedBlocks img n 36 x j) (one-more l) (b .formed)
-
-      sh : blocksEnd img n rest (j + 1 + z) ≤ 8192
-      sh = subst (λ (x : ℕ). blocksEnd img n x j ≤ 8192) (one-more l) (b .short)
-
-      fits : j + 1 + z ≤ 8192
-      fits = le-trans (ends-grows n rest (j + 1 + z)) sh
+      k : NextBlock img n count i j
+      k = next-block img (b .from) l
 
       m : blockRows img t n (count - i) j ≡ rowsAt img t n z (j + 1) ++ blockRows img t n rest (j + 1 + z)
       m = ap (λ (x : ℕ). blockRows img t n x j) (one-more l) ∙ block-more img t n rest j

@@ -33,7 +33,7 @@ use Rattle.scopes.proofs.Resolving.{begun, begun-counts, begun-newest, 
 use Rattle.scopes.proofs.Visiting.{listOf, over-start}
 
 module _ (img : List ℕ) where
-  root-is : verdict img ≡ 0 → Is img (kindOf 0) (last img)
+  pub root-is : verdict img ≡ 0 → Is img (kindOf 0) (last img)
   root-is e = record { accepted = e; below = last-below img e; kind = ap kindOf ((formed img e) .root) }
 
   rootTrees : ℕ → Trees

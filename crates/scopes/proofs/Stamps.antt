@@ -19,28 +19,23 @@ use Rattle.table.specs.State.{Exit, ownSymbol, marked}
 use Rattle.table.specs.Table.{Table, rowIs, findFrom, mark, newSymbol}
 use Rattle.table.proofs.Finds.{row-out, row-in}
 use Rattle.table.proofs.Frames.{SameRows, symbol-same, symbol-node}
+use Rattle.ordered.proofs.Bools.{false-true}
 use Rattle.ordered.proofs.Kept.{mark-word}
 use Rattle.scopes.specs.Lists.{Seen, Stamped}
-
-no-false : false ≡ true → ⊥
-no-false e = let z : _≡_ {A = ℕ} 0 1 = cc in omega arith
-
-no-true : true ≡ false → ⊥
-no-true e = let z : _≡_ {A = ℕ} 0 1 = cc in omega arith
 
 -- as the code stamps: i is the place of the name x
 module _ {seen : List ℕ} {x s i : ℕ} (place-is : i ≡ x) where
   pub stamped-past : length seen ≤ i → Stamped seen x s false seen
-  stamped-past h = record { new = λ e. absurd (no-false e); old = λ e. (λ l. absurd (omega arith), refl) }
+  stamped-past h = record { new = λ e. absurd (false-true e); old = λ e. (λ l. absurd (omega arith), refl) }
 
   pub stamped-old : getD seen i 0 ≡ s + 1 → Stamped seen x s false seen
-  stamped-old h = record { new = λ e. absurd (no-false e); old = λ e. (λ l. ap (λ (j : ℕ). getD seen j 0) (sym place-is) ∙ h ∙ add-one s, refl) }
+  stamped-old h = record { new = λ e. absurd (false-true e); old = λ e. (λ l. ap (λ (j : ℕ). getD seen j 0) (sym place-is) ∙ h ∙ add-one s, refl) }
 
   pub stamped-new : i < length seen → (getD seen i 0 ≡ s + 1 → ⊥) → Stamped seen x s true (set seen i (s + 1))
   stamped-new l h =
       record {
         new = λ e. (λ q. h (ap (λ (j : ℕ). getD seen j 0) place-is ∙ q ∙ sym (add-one s)), subst (λ (j : ℕ). j < length seen) place-is l, rw (place-is, add-one s));
-        old = λ e. absurd (no-true e);
+        old = λ e. absurd (false-true (sym e));
       }
 
 module _ (img : List ℕ) where

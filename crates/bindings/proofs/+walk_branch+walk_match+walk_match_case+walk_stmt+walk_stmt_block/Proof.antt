@@ -7,9 +7,10 @@ use Rattle.table.specs.Values.{tableOf}
 use Rattle.ast.specs.Image.{nodes, field}
 use Rattle.rows.proofs.Appends.{appended-next}
 use Rattle.rows.proofs.Parts.{appended-as, appended-no, Left, left-start, left-next, left-end}
+use Rattle.ordered.proofs.Blocks.{BlocksFrom, blocks-from, blocks-place}
 use Rattle.bindings.specs.Checks.{inside, listed}
 use Rattle.bindings.proofs.Epic.{room-as, room-first, room-rest, room-left, listed-start, listed-end}
-use Rattle.bindings.proofs.Bodies.{BlocksFrom, blocksLeft, blocks-start, blocks-whole, blocks-place, block-item, blocks-end, cases-start, cases-item, case-whole, case-run, stmt-if, stmt-then, stmt-branch, stmt-match, stmt-last, stmts-item}
+use Rattle.bindings.proofs.Bodies.{blocksLeft, blocks-whole, block-item, blocks-end, cases-start, cases-item, case-whole, case-run, stmt-if, stmt-then, stmt-branch, stmt-match, stmt-last, stmts-item}
 use Prim.Native.Nat.{ℕ, _<_}
 use borrow.Fn.Kinds.{In}
 use borrow.Fn.PlainCycle.{Measures, is, falls, and}
@@ -106,7 +107,7 @@ walk-stmt-block-below t =
     walk-stmt-block.Pre
 
 abbrev walk-branch-Inv-loop : walk-branch-lts.InvT-loop
-walk-branch-Inv-loop image table w rows₀ count branch blocks i₀ j₀ c₀ rows i j c = BlocksFrom image (branch .0) i j × Left (nodes image) (inside image (tableOf w table) false (branch .0)) (blocksLeft image (tableOf w table) (branch .0) (field image (branch .0) 0 - i) j) count rows₀ c rows
+walk-branch-Inv-loop image table w rows₀ count branch blocks i₀ j₀ c₀ rows i j c = BlocksFrom image (branch .0) (field image (branch .0) 0) i j × Left (nodes image) (inside image (tableOf w table) false (branch .0)) (blocksLeft image (tableOf w table) (branch .0) (field image (branch .0) 0 - i) j) count rows₀ c rows
 
 abbrev walk-branch-μ-loop : walk-branch-lts.MeasureT-loop
 walk-branch-μ-loop image table w rows₀ count branch blocks i₀ j₀ c₀ rows i j c = blocks - i
@@ -136,7 +137,7 @@ walk-branch-wide-requires t c κs = search needs
 
 -- src/lib.rt:439:5
 walk-branch-loop-holds : (t : ℕ) → walk-branch-lts.Need-loop-holds (walk-branch-claims t) (walk-branch-at t) walk-branch.Post walk-branch-Inv-loop walk-branch-μ-loop
-walk-branch-loop-holds t c = (blocks-start _ (c .before .before .before .before .before .pre .1 .is), left-start _ _ (blocks-whole _ _ (c .before .before .before .before .before .pre .1 .is)) (c .before .before .before .before .before .pre .1 .room .fits))
+walk-branch-loop-holds t c = (blocks-from _ (c .before .before .before .before .before .pre .1 .is) refl, left-start _ _ (blocks-whole _ _ (c .before .before .before .before .before .pre .1 .is)) (c .before .before .before .before .before .pre .1 .room .fits))
 
 -- src/lib.rt:440:29
 walk-branch-field-requires-2 : (t : ℕ) → walk-branch-lts.Need-field-requires-2 (walk-branch-claims t) (walk-branch-at t) walk-branch.Post walk-branch-Inv-loop walk-branch-μ-loop
