@@ -1,29 +1,28 @@
 -- What the checks of then-atoms, patterns, statements and declarations come to, step by step.
 use mathlib.Core.Path.{_≡_, refl, sym, ap, ap₂, subst, _∙_}
 use mathlib.Core.Bool.{Bool, true, false}
-use mathlib.Core.List.{List, [], _∷_, _++_, append-nil}
-use Prim.Native.Nat.{ℕ, zero, suc, _+_, _-_, _<_, _≤_, _^_}
-use native.Mathlib.Nat.{add-zero, sub-zero, le-refl, le-trans}
+use mathlib.Core.List.{List, [], _∷_, _++_}
+use Prim.Native.Nat.{ℕ, zero, suc, _+_, _-_, _<_, _≤_}
+use native.Mathlib.Nat.{add-zero, sub-zero}
 use native.Mathlib.Omega.{arith}
 use lib.Dec.{eqb}
-use lib.ListN.{length, getD}
-use Rattle.ast.specs.Image.{nodes, kindAt, field}
-use Rattle.ast.specs.Kinds.{Class, outer, inner, plain, term, head, case, branch, match, definedThen, decl, rule, model, root, name, optName, child, optChild, list, lists, cases, noChild, Kind, kindOf}
-use Rattle.ast.specs.Is.{Is, kindBy}
-use Rattle.ast.specs.Tree.{Tree, node, block, Trees, none, _◂_, swaps, swap, ordered, treeAt}
+use lib.ListN.{getD}
+use Rattle.ast.specs.Image.{kindAt, field}
+use Rattle.ast.specs.Kinds.{inner, plain, term, head, case, match, definedThen, noChild, Kind, kindOf}
+use Rattle.ast.specs.Is.{Is}
+use Rattle.ast.specs.Tree.{Tree, node, block, none, _◂_, swaps, ordered, treeAt}
 use Rattle.ast.specs.Items.{items, blocks}
-use Rattle.ast.proofs.Row.{Child, Items, FormedBlocks, FormedFields, FormedRow, append, next, ends, blocksEnd, shapes, allKids, nodeOf}
+use Rattle.ast.proofs.Row.{Child, Items, FormedFields, append, next, ends, nodeOf}
 use Rattle.ast.proofs.Shapes.{row as fields-of, formed-row, tree-of, child-is, case-child, case-last, one-more, items-more, termKinds}
 use Rattle.ast.proofs.Vars.{PlainVar, named, wildcard, PlainAt, AfterFirst, Each, vars-at}
 use Rattle.table.specs.Table.{Table}
-use Rattle.rows.specs.Rows.{Row, Appended}
-use Rattle.rows.proofs.Parts.{Left, left-start, left-next}
+use Rattle.rows.specs.Rows.{Row}
 use Rattle.ordered.proofs.Blocks.{BlocksFrom, next-block}
-use Rattle.bindings.specs.Errors.{asked, definedRow, isCtor, argRow, argRows, rowsOf, rowsSeq, declRows, declsRows, patternRows}
+use Rattle.bindings.specs.Errors.{asked, definedRow, isCtor, argRow, argRows, rowsOf, rowsSeq, declRows, declsRows}
 use Rattle.bindings.specs.Checks.{Run, inside, listed, declared, ofPattern, ofCase, ofArgs}
-use Rattle.bindings.proofs.RowLaws.{rowsAt, declKinds, plain-rows, term-rows, branch-rows, match-rows, case-rows, defined-none, defined-some, one-inside, two-inside, case-inside, child-list-inside, branch-inside, pattern-first, pattern-none, pattern-app, args-inside, decl-child, rule-rows, model-rows, module-rows}
+use Rattle.bindings.proofs.RowLaws.{rowsAt, plain-rows, term-rows, branch-rows, match-rows, case-rows, defined-none, defined-some, one-inside, two-inside, case-inside, child-list-inside, branch-inside, pattern-first, pattern-none, pattern-app, args-inside, decl-child, rule-rows, model-rows, module-rows}
 use Rattle.bindings.proofs.Quiet.{quiet}
-use Rattle.bindings.proofs.Epic.{Down, Item, listed-start, listed-more, listed-end}
+use Rattle.bindings.proofs.Epic.{Down, Item, listed-start, listed-more}
 
 -- the kinds of the children of a ThenAtom's cases, and of a Stmt's
 abbrev pub atomKinds : List ℕ

@@ -1,14 +1,13 @@
 -- Laws of single rows: what is asked of a name, and a row that stands where a test says so.
-use mathlib.Core.Path.{_≡_, refl, sym, ap, ap₂, subst, _∙_}
+use mathlib.Core.Path.{_≡_, sym, ap, ap₂, subst, _∙_}
 use mathlib.Core.Bool.{Bool, true, false, _&&_, not}
 use mathlib.Core.Option.{Option, none as nothing, some}
 use mathlib.Core.List.{List, [], _∷_}
-use Prim.Native.Nat.{ℕ, zero, suc, _+_, _<_, _^_}
-use lib.Dec.{eqb}
+use Prim.Native.Nat.{ℕ, _+_, _<_, _^_}
 use lib.ListN.{length}
 use borrow.Author.Tests.{eq-eqb, ne-eqb}
-use Rattle.ast.specs.Image.{nodes, kindAt, nameOf}
-use Rattle.table.specs.Table.{Table, lookup, climb, isKind, entryAt, exitAt}
+use Rattle.ast.specs.Image.{kindAt}
+use Rattle.table.specs.Table.{Table, isKind}
 use Rattle.rows.specs.Rows.{Row, row}
 use Rattle.bindings.specs.Errors.{when, sameNode, atEntry, atExit, introduces, introducedRow}
 

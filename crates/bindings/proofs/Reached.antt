@@ -1,36 +1,35 @@
 -- Where document 01 asks for a row, there is one: the rows of what stands in a rule are among the module's.
-use mathlib.Core.Path.{_≡_, refl, sym, ap, ap₂, subst, _∙_}
+use mathlib.Core.Path.{_≡_, refl, sym, ap, subst, _∙_}
 use mathlib.Core.Logic.{_⊎_, inl, inr, ⊎-elim}
-use mathlib.Core.Bool.{Bool, true, false, _&&_, _||_, not}
+use mathlib.Core.Bool.{Bool, true, false, _||_, not}
 use mathlib.Core.List.{List, [], _∷_, _++_, append-nil, List·Memᴰ, List·Memᴰ·head, List·Memᴰ·tail, List·Memᴰ·cases-cons, List·Memᴰ·not-nil, List·Memᴰ·eq-of-singleton, Memᴰ·append-left, Memᴰ·append-right, List·Memᴰ·append-cases}
-use Prim.Native.Nat.{ℕ, zero, suc, _+_, _-_, _<_, _≤_}
+use Prim.Native.Nat.{ℕ, zero, suc, _+_, _<_, _≤_}
 use native.Mathlib.Nat.{add-zero}
 use native.Mathlib.Decide.{ℕ-discrete}
 use native.Mathlib.Omega.{arith}
-use lib.Dec.{T, eqb, eqb→eq, leb}
-use lib.ListN.{length, getD}
+use lib.Dec.{T, eqb, eqb→eq}
+use lib.ListN.{getD}
 use borrow.Author.Tests.{ne-eqb}
 use Rattle.ast.specs.Image.{nodes, kindAt, startAt, opAt, field, last}
-use Rattle.ast.specs.Kinds.{Class, outer, inner, root, decl, signature, rule, enum, model, Inner, plain, term, ident, head, headMember, member, branch, match, case, ifVar, definedThen, arg, Field, name, optName, child, optChild, list, lists, cases, noChild, Kind, kinds, kindOf}
+use Rattle.ast.specs.Kinds.{Class, outer, inner, root, decl, plain, term, ident, head, headMember, member, branch, match, case, ifVar, definedThen, arg, Field, name, cases, noChild, Kind, kinds, kindOf}
 use Rattle.ast.specs.Is.{Is, kindBy}
 use Rattle.ast.specs.Rows.{Kid, one, many, ones, numbers, opsFrom, kids, fieldsKids, fieldKids, after}
 use Rattle.ast.specs.Tests.{verdict}
-use Rattle.ast.specs.Tree.{Tree, node, block, Trees, none, _◂_, ordered, growAll, grow, treeAt}
-use Rattle.ast.specs.Items.{items, below}
-use Rattle.ast.proofs.Row.{Child, FormedFields, next, nodeOf}
-use Rattle.ast.proofs.Shapes.{row as fields-of, tree-of, child-is, case-child, termKinds, headKinds}
-use Rattle.ast.proofs.Accepted.{formed, last-below}
+use Rattle.ast.specs.Tree.{Tree, block, Trees, _◂_, ordered, growAll, grow, treeAt}
+use Rattle.ast.specs.Items.{below}
+use Rattle.ast.proofs.Row.{FormedFields, next, nodeOf}
+use Rattle.ast.proofs.Shapes.{row as fields-of, tree-of, case-child, headKinds}
+use Rattle.ast.proofs.Accepted.{formed}
 use Rattle.ast.proofs.Unfold.{numbers-ones}
 use Rattle.ast.proofs.Vars.{every-kind}
 use Rattle.ast.proofs.Kids.{childKind, kid-admitted, every-pair, parent}
-use Rattle.table.specs.Table.{Table, isVar, isKind}
-use Rattle.rows.specs.Rows.{Row, row}
-use Rattle.ordered.proofs.Bools.{and-both, not-or, is-true, false-true, not-equal, true-is}
-use Rattle.bindings.specs.Errors.{when, asked, atEntry, atExit, introduces, introducedRow, isCtor, argRow, argRows, definedRow, rowsOf, rowsSeq, declRows, declsRows, plainRows}
-use Rattle.bindings.specs.Checks.{inside, listed, ofPattern, ofArgs}
-use Rattle.bindings.specs.Places.{Node, IdentTerm, Stands, Determines, InThen, atom, down, Introduced, NotNew, NotFresh}
-use Rattle.bindings.proofs.RowLaws.{rowsAt, declKinds, decl-child, plain-rows, term-rows, ident-rows, member-rows, receiver-rows, head-ident, head-other, branch-rows, match-rows, case-rows, defined-none, defined-some, case-inside, args-inside, arg-ident, defined-ident, ctor-ident}
-use Rattle.bindings.proofs.Bodies.{atomKinds, applied, applied-yes, then-some}
+use Rattle.table.specs.Table.{Table}
+use Rattle.rows.specs.Rows.{Row}
+use Rattle.ordered.proofs.Bools.{not-or, false-true}
+use Rattle.bindings.specs.Errors.{asked, definedRow, rowsOf, rowsSeq, declRows, declsRows, plainRows}
+use Rattle.bindings.specs.Checks.{inside, ofPattern}
+use Rattle.bindings.specs.Places.{Stands, Determines, InThen, atom, down}
+use Rattle.bindings.proofs.RowLaws.{rowsAt, declKinds, decl-child, plain-rows, term-rows, member-rows, receiver-rows, head-other, branch-rows, match-rows, case-rows, defined-none, defined-some}
 use Rattle.bindings.proofs.Standing.{thenKind, then-node, kindFor, kinds-for, low-kind, below-is, kids-at, field-zero, is-at}
 
 -- the rows l are among the rows k
@@ -324,7 +323,7 @@ module _ (img : List ℕ) (t : Table) (accepted : verdict img ≡ 0) where
     head-goes e = go (field img p 0) refl
       where
         is : Is img (kindOf 15) p
-        is = here low e
+        is = is-at img t accepted low e
 
         one-there : (c ≡ field img p 1) × (eqb (getD headKinds (field img p 0) noChild) noChild ≡ false)
         one-there = only-case img t (inner head) headKinds is s
@@ -338,7 +337,7 @@ module _ (img : List ℕ) (t : Table) (accepted : verdict img ≡ 0) where
     member-goes e = ⊎-elim first (λ m. absurd (second (List·Memᴰ·eq-of-singleton m))) (List·Memᴰ·cases-cons there)
       where
         is : Is img (kindOf 17) p
-        is = here low e
+        is = is-at img t accepted low e
 
         there : List·Memᴰ c (opAt img (startAt img p + 2) ∷ (opAt img (startAt img p + 2 + 1) ∷ []))
         there = subst (λ (xs : List Kid). List·Memᴰ c (numbers xs)) (kids-at img is) s
@@ -357,7 +356,7 @@ module _ (img : List ℕ) (t : Table) (accepted : verdict img ≡ 0) where
     receiver-goes e = ⊎-elim first (λ m. absurd (other (ops-mem img (opAt img (startAt img p + 2 + 1)) (startAt img p + 2 + 1 + 1) m))) (List·Memᴰ·cases-cons there)
       where
         is : Is img (kindOf 16) p
-        is = here low e
+        is = is-at img t accepted low e
 
         names : List ℕ
         names = opsFrom img (opAt img (startAt img p + 2 + 1)) (startAt img p + 2 + 1 + 1)
@@ -380,7 +379,7 @@ module _ (img : List ℕ) (t : Table) (accepted : verdict img ≡ 0) where
     defined-goes e = go (field img p 0) refl (subst (λ (x : ℕ). List·Memᴰ c (numbers (elim x as (λ _. List Kid) [ zero ↦ [] | suc v ↦ one v ∷ [] ] ++ (one (field img p 1) ∷ [])))) (sym (field-zero img p)) there)
       where
         is : Is img (kindOf 34) p
-        is = here low e
+        is = is-at img t accepted low e
 
         there : List·Memᴰ c (numbers (elim (opAt img (startAt img p + 2)) as (λ _. List Kid) [ zero ↦ [] | suc v ↦ one v ∷ [] ] ++ (one (field img p 1) ∷ [])))
         there = subst (λ (xs : List Kid). List·Memᴰ c (numbers xs)) (kids-at img is) s

@@ -1,29 +1,26 @@
 -- What the calls Occurrences and Once leave, by the ways that Resolve goes.
 use mathlib.Core.Path.{_≡_, refl, sym, ap, ap₂, subst, _∙_}
-use mathlib.Core.Bool.{Bool, true, false, _&&_}
 use mathlib.Core.List.{List}
-use mathlib.Core.Option.{Option, none as nothing, some}
-use Prim.Native.Nat.{ℕ, zero, suc, _+_, _*_, _<_, _≤_}
+use mathlib.Core.Option.{Option}
+use Prim.Native.Nat.{ℕ, zero, suc, _<_, _≤_}
 use native.Mathlib.Omega.{arith}
 use lib.Dec.{leb→le}
-use lib.ListN.{length, getD, set}
-use borrow.Author.Tests.{ltb-true, le-leb, lt-leb}
-use Rattle.ast.specs.Answer.{Answer, refused, twice as twiceAnswer, result, other}
+use lib.ListN.{length, set}
+use borrow.Author.Tests.{le-leb, lt-leb}
+use Rattle.ast.specs.Answer.{refused, twice as twiceAnswer, result}
 use Rattle.ast.specs.Image.{nodes, nameOf}
-use Rattle.ast.specs.Tests.{_▸_, need, verdict}
+use Rattle.ast.specs.Tests.{need, verdict}
 use Rattle.ast.proofs.Accepted.{both, skip, stop, needed}
-use Rattle.table.specs.Layout.{tableLength, exitPlace, scopePlace, nodePlace}
-use Rattle.table.specs.Table.{Table, climb, lookup, exitAt}
+use Rattle.table.specs.Layout.{nodePlace}
+use Rattle.table.specs.Table.{climb, lookup, exitAt}
 use Rattle.table.specs.State.{Exit}
-use Rattle.table.specs.Rows.{Sorted, nodeAt}
-use Rattle.table.specs.Sound.{isSymbol}
-use Rattle.rows.specs.Rows.{Row, row, rowsLength, written, cleared, putRows, Appended}
+use Rattle.rows.specs.Rows.{Row, rowsLength, written, cleared, putRows, Appended}
 use Rattle.rows.proofs.Appends.{written-is}
-use Rattle.scopes.specs.Walk.{Listed, done, twice}
+use Rattle.scopes.specs.Walk.{done, twice}
 use Rattle.scopes.specs.Resolve.{testTable, zeroed, walked, headed, resolve}
 use Rattle.scopes.specs.Resolve as resolving
 use Rattle.scopes.specs.Rows.{testRows, Outcome}
-use Rattle.scopes.proofs.Resolving.{Ended, Ways, refuses, stops, fills, ways, refuses-outcome, stops-outcome, fills-outcome, Fills, filled, walked-ended, table-accepted, headed-word}
+use Rattle.scopes.proofs.Resolving.{Ways, refuses, stops, fills, ways, refuses-outcome, stops-outcome, fills-outcome, filled, walked-ended, table-accepted, headed-word}
 use Rattle.scopes.proofs.Namings.{symbol-below}
 use Rattle.scopes.proofs.Headed.{headed-lookup, headed-exit, headed-sorted}
 use Rattle.occurrences.specs.Sight.{Spot, moduleRules}

@@ -1,31 +1,29 @@
 -- The rows of the rules of declarations: what names mean outside does not matter, and what each kind of declaration adds.
 use mathlib.Core.Path.{_≡_, refl, sym, ap, ap₂, subst, _∙_}
-use mathlib.Core.Bool.{Bool, true, false}
-use mathlib.Core.Logic.{⊎-elim}
+use mathlib.Core.Bool.{false}
 use mathlib.Core.List.{List, [], _∷_, _++_, append-assoc, append-nil}
-use mathlib.Core.Option.{Option, none as nothing, some}
+use mathlib.Core.Option.{Option, none as nothing}
 use Prim.Native.Nat.{ℕ, zero, suc, _+_, _-_, _<_, _≤_}
 use native.Mathlib.Omega.{arith}
-use native.Mathlib.Nat.{sub-zero, add-zero, eq-or-lt-of-le}
+use native.Mathlib.Nat.{sub-zero, add-zero}
 use lib.Dec.{eqb}
 use lib.ListN.{length, getD, length-append}
-use Rattle.ast.specs.Image.{nodes, kindAt, field, last}
-use Rattle.ast.specs.Kinds.{Class, outer, inner, root, decl, signature, rule, enum, model, plain, term, ident, head, headMember, member, branch, match, case, ifVar, definedThen, arg, Field, list, cases, noChild, Kind, kindOf}
+use Rattle.ast.specs.Image.{nodes, field, last}
+use Rattle.ast.specs.Kinds.{outer, inner, root, decl, signature, rule, enum, model, Field, noChild, Kind, kindOf}
 use Rattle.ast.specs.Tree.{Tree, node, block, Trees, none, _◂_, ordered, treeAt}
 use Rattle.ast.specs.Items.{items, below}
 use Rattle.ast.specs.Is.{Is, kindBy}
 use Rattle.ast.specs.Tests.{verdict}
 use Rattle.ast.proofs.Row.{append, append-none, Child, Items, FormedFields, allKids, next, ends, nodeOf}
-use Rattle.ast.proofs.Shapes.{tree-of, formed-row, row, child-is, items-more, case-kids, case-one, case-child, case-last}
-use Rattle.ast.proofs.Accepted.{sized, formed, last-below}
-use Rattle.ast.proofs.Formed.{Formed}
+use Rattle.ast.proofs.Shapes.{tree-of, formed-row, row, child-is, case-kids, case-one, case-child, case-last}
+use Rattle.ast.proofs.Accepted.{sized}
 use Rattle.table.specs.Table.{Table}
 use Rattle.table.specs.Rows.{Sorted}
-use Rattle.rows.specs.Rows.{Row, row as rowOf, Appended}
+use Rattle.rows.specs.Rows.{Row, Appended}
 use Rattle.scopes.proofs.Rooting.{root-is}
-use Rattle.occurrences.specs.Sight.{Spot, spots, spotsSeq, spotsBack, spotsFirst, ruleSpots, orElse, Rule, saysAll, rules, rulesAll, rulesOf, moduleRules}
+use Rattle.occurrences.specs.Sight.{Spot, spots, spotsSeq, ruleSpots, Rule, rules, rulesAll, rulesOf, moduleRules}
 use Rattle.occurrences.specs.Occurrences.{found, listed, rowsFor, ruleRows, allRows, occurrenceRows, rowsByRule}
-use Rattle.occurrences.specs.Collect.{sought, rowsIn, rowsAt, joined, listsIn, listsAt, Room, Run, Listing, ListingRun, Whole}
+use Rattle.occurrences.specs.Collect.{rowsAt, joined, listsIn, listsAt, Run, Listing, ListingRun, Whole}
 use Rattle.occurrences.proofs.CollectRows.{bare, rows-append, owner}
 use Rattle.occurrences.proofs.CollectSteps.{Left, left-start, left-next, left-end, left-count}
 

@@ -1,28 +1,28 @@
 -- What a collector's calls ask and what they give together, by the form of the row.
 use mathlib.Core.Path.{_≡_, refl, sym, ap, ap₂, subst, _∙_}
-use mathlib.Core.Bool.{Bool, true, false}
+use mathlib.Core.Bool.{true, false}
 use mathlib.Core.Logic.{⊎-elim}
 use mathlib.Core.List.{List, [], _∷_, _++_}
 use mathlib.Core.Option.{some}
-use Prim.Native.Nat.{ℕ, zero, suc, _+_, _-_, _<_, _≤_, _^_}
+use Prim.Native.Nat.{ℕ, suc, _+_, _-_, _<_, _≤_, _^_}
 use native.Mathlib.Omega.{arith}
-use native.Mathlib.Nat.{sub-zero, add-zero, le-trans, eq-or-lt-of-le}
+use native.Mathlib.Nat.{sub-zero, add-zero, eq-or-lt-of-le}
 use lib.Dec.{eqb}
 use lib.ListN.{length, getD, length-append}
 use Rattle.ast.specs.Image.{nodes, kindAt, field}
-use Rattle.ast.specs.Kinds.{Class, inner, plain, term, head, headMember, member, match, case, Field, name, child, optChild, list, lists, cases, noChild, Kind, kindOf}
+use Rattle.ast.specs.Kinds.{Class, inner, plain, term, head, headMember, member, match, case, name, child, list, cases, noChild, Kind, kindOf}
 use Rattle.ast.specs.Tree.{Trees, ordered, treeAt}
 use Rattle.ast.specs.Is.{Is, kindBy}
-use Rattle.ast.proofs.Row.{Child, Items, FormedBlocks, FormedFields, FormedRow, next, ends, blocksEnd}
+use Rattle.ast.proofs.Row.{Child, Items, FormedFields, next, ends}
 use Rattle.ast.proofs.Shapes.{termKinds, headKinds, one-more, formed-row, row, child-is, case-child, case-last}
 use Rattle.table.specs.Table.{Table}
 use Rattle.rows.specs.Rows.{Row, row as rowOf, putRows, Appended}
 use Rattle.rows.proofs.Appends.{appended-none, appended-next}
 use Rattle.ordered.proofs.Blocks.{BlocksFrom, blocks-from, blocks-place as place-of-blocks, NextBlock, next-block}
-use Rattle.occurrences.specs.Sight.{spots, spotsFirst}
+use Rattle.occurrences.specs.Sight.{spots}
 use Rattle.occurrences.specs.Occurrences.{found, rowsFor}
 use Rattle.occurrences.specs.Collect.{spot, identRows, rowsIn, rowsAt, Room, Ready, Run}
-use Rattle.occurrences.proofs.CollectRows.{bare, threads, ident-var, ident-rows, owner, one-rows, two-rows, leaf-rows, first-rows, ifVar-rows, undefined-rows, defined-rows, case-rows, case-none, list-rows, items-rows, items-none, child-list-rows, blockRows, branch-rows, block-more, block-none}
+use Rattle.occurrences.proofs.CollectRows.{bare, threads, ident-var, ident-rows, owner, one-rows, two-rows, leaf-rows, first-rows, ifVar-rows, undefined-rows, defined-rows, case-rows, case-none, list-rows, items-rows, child-list-rows, blockRows, branch-rows, block-more, block-none}
 
 pub appended-as : {N c r : ℕ} {l k : List Row} {ws vs : List ℕ} → l ≡ k → Appended N k c ws r vs → Appended N l c ws r vs
 appended-as {N} {c} {r} {ws = ws} {vs} e a = subst (λ (l : List Row). Appended N l c ws r vs) (sym e) a

@@ -1,5 +1,5 @@
 -- What any walk below a declaration keeps of the table: the lookups at the scopes that were there, and the exits of other nodes.
-use mathlib.Core.Path.{_≡_, refl}
+use mathlib.Core.Path.{refl}
 use mathlib.Core.Logic.{inl}
 use mathlib.Core.List.{List}
 use Prim.Native.Nat.{ℕ, _<_}

@@ -1,9 +1,8 @@
 -- What a walk over a statement is.
 use mathlib.Core.Path.{_≡_, refl, sym, ap, subst, _∙_}
 use mathlib.Core.List.{List, [], _∷_}
-use Prim.Native.Nat.{ℕ, zero, suc, _+_, _-_, _<_, _≤_}
-use native.Mathlib.Omega.{arith}
-use native.Mathlib.Nat.{sub-zero, le-refl, le-trans}
+use Prim.Native.Nat.{ℕ, suc, _+_, _-_, _<_, _≤_}
+use native.Mathlib.Nat.{sub-zero}
 use lib.ListN.{length}
 use Rattle.ast.specs.Image.{field}
 use Rattle.ast.specs.Is.{Is, kindBy}
@@ -11,7 +10,7 @@ use Rattle.ast.specs.Items.{items, blocks}
 use Rattle.ast.specs.Kinds.{Class, child, list, kindOf}
 use Rattle.ast.specs.Tree.{Tree, Trees}
 use Rattle.table.specs.State.{Exit, marked, back}
-use Rattle.ast.proofs.Row.{append-none, next, ends, blocksEnd, nodeOf, Child, Items, FormedBlocks, FormedFields}
+use Rattle.ast.proofs.Row.{append-none, next, ends, nodeOf, Child, Items, FormedFields}
 use Rattle.ast.proofs.Shapes.{one-more, formed-row, row, tree-of, child-is}
 use Rattle.ast.proofs.Small.{blocks-small}
 use Rattle.ordered.specs.Walk.{occurs, walk, walkSeq}

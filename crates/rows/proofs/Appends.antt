@@ -3,11 +3,10 @@ use mathlib.Core.Path.{_≡_, refl, sym, ap, ap₂, _∙_}
 use mathlib.Core.List.{List, [], _∷_, _++_, append-assoc, append-nil}
 use Prim.Native.Nat.{ℕ, zero, suc, _+_, _*_, _-_, _<_, _≤_}
 use native.Mathlib.Nat.{add-zero}
-use native.Mathlib.Numerals.{add-one}
 use native.Mathlib.Omega.{arith}
-use lib.ListN.{length, getD, set, take, drop, replicate, length-append, length-replicate, length-drop, length-set, replicate-append-replicate}
+use lib.ListN.{length, set, drop, replicate, length-append, length-replicate, length-drop, length-set, replicate-append-replicate}
 use borrow.Author.Fill.{fill-none, fill-more}
-use Rattle.rows.specs.Rows.{Row, row, lefts, rights, rowsLength, filled, written, cleared, putRows, Appended}
+use Rattle.rows.specs.Rows.{Row, lefts, rights, rowsLength, filled, written, cleared, putRows, Appended}
 
 pub lefts-length : (l : List Row) → length (lefts l) ≡ length l
 unfolding lefts

@@ -1,7 +1,7 @@
 -- The steps of resolving, and what they keep: parents below their scopes, rows of scopes that are there and of named nodes.
 use mathlib.Core.Path.{_≡_, refl, ap, subst, _∙_}
 use mathlib.Core.Logic.{⊎-elim}
-use mathlib.Core.Bool.{Bool, true, false}
+use mathlib.Core.Bool.{true}
 use mathlib.Core.List.{List, [], _∷_}
 use mathlib.Core.Option.{Option, none as nothing, some}
 use Prim.Native.Nat.{ℕ, zero, suc, _+_, _*_, _<_, _≤_}

@@ -1,4 +1,4 @@
-use mathlib.Core.Path.{_≡_, sym, ap, _∙_}
+use mathlib.Core.Path.{sym, ap, _∙_}
 use borrow.Author.Tests.{ne-eqb}
 use Rattle.table.specs.Values.{optionOf}
 use Rattle.occurrences.proofs.CollectRows.{ident-other, ident-none}

@@ -1,6 +1,5 @@
-use mathlib.Core.Path.{_≡_, refl, sym, ap, _∙_}
+use mathlib.Core.Path.{refl, sym, ap, _∙_}
 use mathlib.Core.Bool.{Bool}
-use Prim.Native.Nat.{ℕ}
 use lib.ListN.{getD, set}
 use borrow.Author.Needs.{needs}
 use Rattle.ast.proofs.Scans.{bump-first, bump-again}

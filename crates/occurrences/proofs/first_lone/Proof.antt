@@ -1,6 +1,5 @@
-use mathlib.Core.Path.{_≡_, refl, sym, ap, subst, _∙_}
-use native.Mathlib.Omega.{arith}
-use Prim.Native.Nat.{ℕ, _+_, _*_, _-_, _≤_}
+use mathlib.Core.Path.{ap, _∙_}
+use Prim.Native.Nat.{ℕ, _-_}
 use lib.ListN.{getD}
 use Rattle.occurrences.proofs.CollectLone.{Under, under-start, under-next, under-here, under-end}
 use Rattle.occurrences.proofs.first_lone.Statement.{statement}
