@@ -21,11 +21,12 @@ use Rattle.table.specs.Table.{Table}
 use Rattle.table.specs.Rows.{Sorted}
 use Rattle.rows.specs.Rows.{Row, Appended}
 use Rattle.scopes.proofs.Rooting.{root-is}
+use Rattle.rows.proofs.Parts.{Left, left-start, left-next, left-end}
 use Rattle.occurrences.specs.Sight.{Spot, spots, spotsSeq, ruleSpots, Rule, rules, rulesAll, rulesOf, moduleRules}
 use Rattle.occurrences.specs.Occurrences.{found, listed, rowsFor, ruleRows, allRows, occurrenceRows, rowsByRule}
 use Rattle.occurrences.specs.Collect.{rowsAt, joined, listsIn, listsAt, Run, Listing, ListingRun, Whole}
 use Rattle.occurrences.proofs.CollectRows.{bare, rows-append, owner}
-use Rattle.occurrences.proofs.CollectSteps.{Left, left-start, left-next, left-end, left-count}
+use Rattle.occurrences.proofs.CollectSteps.{left-count}
 
 pub joined-append : (a b : List (List Row)) → joined (a ++ b) ≡ joined a ++ joined b
 unfolding joined
@@ -257,7 +258,7 @@ module _ (img : List ℕ) (t : Table) where
   -- the loop over a list of declarations
   pub decls-start : {n j count c : ℕ} {ws : List ℕ} → ListingRun img t n j count c
       → Left (nodes img) (joined (listsAt img t n count j)) (joined (listsAt img t n (count - 0) (j + 0))) c ws c ws
-  decls-start {n} {j} {count} p = left-start (ap joined (items-all n j count)) (let f = p .few in let z = (sized img (p .accepted)) .fewNodes in omega arith)
+  decls-start {n} {j} {count} p = left-start _ _ (ap joined (items-all n j count)) (let f = p .few in let z = (sized img (p .accepted)) .fewNodes in omega arith)
 
   pub decls-item : {n j count i x c d : ℕ} {ws us : List ℕ} → ListingRun img t n j count c → i < count → x ≡ field img n (j + i)
       → Left (nodes img) (joined (listsAt img t n count j)) (joined (listsAt img t n (count - i) (j + i))) c ws d us → DeclItem n j count i x d

@@ -17,43 +17,20 @@ use Rattle.ast.proofs.Row.{Child, Items, FormedFields, next, ends}
 use Rattle.ast.proofs.Shapes.{termKinds, headKinds, one-more, formed-row, row, child-is, case-child, case-last}
 use Rattle.table.specs.Table.{Table}
 use Rattle.rows.specs.Rows.{Row, row as rowOf, putRows, Appended}
-use Rattle.rows.proofs.Appends.{appended-none, appended-next}
+use Rattle.rows.proofs.Parts.{appended-as as appended-to, Left, left-start, left-next, left-end}
 use Rattle.ordered.proofs.Blocks.{BlocksFrom, blocks-from, blocks-place as place-of-blocks, NextBlock, next-block}
 use Rattle.occurrences.specs.Sight.{spots}
 use Rattle.occurrences.specs.Occurrences.{found, rowsFor}
 use Rattle.occurrences.specs.Collect.{spot, identRows, rowsIn, rowsAt, Room, Ready, Run}
 use Rattle.occurrences.proofs.CollectRows.{bare, threads, ident-var, ident-rows, owner, one-rows, two-rows, leaf-rows, first-rows, ifVar-rows, undefined-rows, defined-rows, case-rows, case-none, list-rows, items-rows, child-list-rows, blockRows, branch-rows, block-more, block-none}
 
+-- rows that are equal to what was appended
 pub appended-as : {N c r : ℕ} {l k : List Row} {ws vs : List ℕ} → l ≡ k → Appended N k c ws r vs → Appended N l c ws r vs
-appended-as {N} {c} {r} {ws = ws} {vs} e a = subst (λ (l : List Row). Appended N l c ws r vs) (sym e) a
-
--- nothing appended
-pub appended-nothing : {N c : ℕ} {l : List Row} {ws : List ℕ} → l ≡ [] → Appended N l c ws c ws
-appended-nothing e = appended-as e (appended-none _ _ _)
-
--- a loop that appends: it stands at d and us, and whatever appends what is left from there appends the whole
-pub record Left (N : ℕ) (whole left : List Row) (c : ℕ) (ws : List ℕ) (d : ℕ) (us : List ℕ) : Type 0 where
-  pub fits : d + length left < 2 ^ 32
-  pub long : length us ≡ length ws
-  pub then : (r : ℕ) (vs : List ℕ) → Appended N left d us r vs → Appended N whole c ws r vs
-
-pub left-start : {N c : ℕ} {l k : List Row} {ws : List ℕ} → l ≡ k → c + length l < 2 ^ 32 → Left N l k c ws c ws
-left-start {c = c} e h = record { fits = subst (λ (l : List Row). c + length l < 2 ^ 32) e h; long = refl; then = λ r vs a. appended-as e a }
-
-pub left-next : {N c d e : ℕ} {w k l m : List Row} {ws us vs : List ℕ} → Left N w k c ws d us → k ≡ l ++ m → Appended N l d us e vs → length vs ≡ length us → Left N w m c ws e vs
-left-next {d = d} {l = l} {m} h q a long =
-    record {
-      fits = (let f = subst (λ (x : List Row). d + length x < 2 ^ 32) q (h .fits) in let g = length-append l m in let i = a .count in omega arith);
-      long = long ∙ h .long;
-      then = λ r vs b. h .then r vs (appended-as q (appended-next a b));
-    }
-
-pub left-end : {N c d : ℕ} {w k : List Row} {ws us : List ℕ} → Left N w k c ws d us → k ≡ [] → Appended N w c ws d us
-left-end h e = h .then _ _ (appended-nothing e)
+appended-as e a = appended-to (sym e) a
 
 -- what stands and what is left is the whole
 pub left-count : {N c d : ℕ} {w k : List Row} {ws us : List ℕ} → Left N w k c ws d us → d + length k ≡ c + length w
-left-count {N} {d = d} {k = k} {us = us} h = (h .then (d + length k) (putRows N d k us) (record { count = refl; words = refl })) .count
+left-count {N} {d = d} {k = k} {us = us} h = (h .so (d + length k) (putRows N d k us) (record { count = refl; words = refl })) .count
 
 -- the kinds of the children of a type expression's cases, of a predicate expression's, of atoms' and of a statement's
 abbrev typeKinds : List ℕ
@@ -353,7 +330,7 @@ module _ (img : List ℕ) (t : Table) where
       let e : field img n 0 ≡ count - 0 = omega arith in
       record {
         from = blocks-from img (p .is) q;
-        left = left-start (branch-rows img t (p .is) ∙ ap (λ (x : ℕ). blockRows img t n x 1) e) (p .room .fits);
+        left = left-start _ _ (branch-rows img t (p .is) ∙ ap (λ (x : ℕ). blockRows img t n x 1) e) (p .room .fits);
       }
 
   pub blocks-place : {N n count i j c d : ℕ} {ws us : List ℕ} → BlocksLeft N n count i j c ws d us → j ≤ 8192

@@ -9,6 +9,7 @@ use Rattle.lines.specs.Out.{Out, outAt, write, rowsFrom}
 use Rattle.lines.proofs.RowLines.{rows-next, rows-end, rows-short, rows-done}
 use Rattle.lines.proofs.put_rows.Statement.{statement}
 use Rattle.lines.proofs.put_rows.Tie as tie
+
 -- what is left from the i-th row on, put from here, is the whole
 record Left (word rows : List ℕ) (n count i : ℕ) (start here : Out) : Type 0 where
   within : i ≤ count

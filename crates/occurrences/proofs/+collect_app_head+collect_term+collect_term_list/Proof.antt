@@ -5,9 +5,10 @@ use Rattle.ast.specs.Image.{nodes}
 use Rattle.ast.specs.Kinds.{kindOf}
 use Rattle.ast.proofs.Shapes.{term-last, head-last}
 use Rattle.rows.proofs.Appends.{appended-next}
+use Rattle.rows.proofs.Parts.{appended-no, Left, left-start, left-next, left-end}
 use Rattle.occurrences.specs.Collect.{sought, rowsIn, rowsAt}
 use Rattle.occurrences.proofs.CollectRows.{bare, items-none}
-use Rattle.occurrences.proofs.CollectSteps.{appended-as, appended-nothing, Left, left-start, left-next, left-end, term-ident, term-app, term-comp, term-inner, term-wild, head-ident, head-member, head-term, listRun, item}
+use Rattle.occurrences.proofs.CollectSteps.{appended-as, term-ident, term-app, term-comp, term-inner, term-wild, head-ident, head-member, head-term, listRun, item}
 use Prim.Native.Nat.{ℕ, _<_}
 use borrow.Fn.Kinds.{In}
 use borrow.Fn.PlainCycle.{Measures, is, falls, and}
@@ -192,10 +193,10 @@ collect-term-returns-4 : (t : ℕ) → collect-term-lts.Need-returns-4 (collect-
 collect-term-returns-4 t c = appended-as ((term-inner _ _ {x = c .before .before .before .before .before .before .before .before .before .field .result} (c .before .before .before .before .before .before .before .before .before .before .before .before .before .pre .1) (omega arith) (omega arith) (c .before .before .before .before .before .before .before .before .before .field .ensures) (c .before .before .before .before .before .before .before .before .field2 .ensures) (c .before .before .before .before .field7 .ensures)) .whole) (c .before .before .collect-term3 .ensures)
 
 collect-term-returns-5 : (t : ℕ) → collect-term-lts.Need-returns-5 (collect-term-claims t) (collect-term-at t) collect-term.Post
-collect-term-returns-5 t c = appended-nothing (term-wild _ _ (c .before .before .before .before .before .before .before .pre .1) (omega arith))
+collect-term-returns-5 t c = appended-no _ _ (term-wild _ _ (c .before .before .before .before .before .before .before .pre .1) (omega arith))
 
 collect-term-returns-6 : (t : ℕ) → collect-term-lts.Need-returns-6 (collect-term-claims t) (collect-term-at t) collect-term.Post
-collect-term-returns-6 t c = appended-nothing (term-wild _ _ (c .before .before .before .before .before .before .before .before .pre .1) (let l = term-last _ (c .before .before .before .before .before .before .before .before .pre .1 .is) in omega arith))
+collect-term-returns-6 t c = appended-no _ _ (term-wild _ _ (c .before .before .before .before .before .before .before .before .pre .1) (let l = term-last _ (c .before .before .before .before .before .before .before .before .pre .1 .is) in omega arith))
 
 abbrev collect-term-list-Inv-loop : collect-term-list-lts.InvT-loop
 collect-term-list-Inv-loop image table symbols rows₀ count list size i₀ after₀ rows i after = (i ≤ size) × Left (nodes image) (rowsIn image (sought table symbols) (list .0)) (rowsAt image (sought table symbols) (list .0) (size - i) (1 + i)) count rows₀ after rows
@@ -223,7 +224,7 @@ collect-term-list-loop-holds : (t : ℕ) → collect-term-list-lts.Need-loop-hol
     collect-term-list-Inv-loop
     collect-term-list-μ-loop
 unfolding kindOf
-collect-term-list-loop-holds t c = (omega arith, left-start ((listRun _ _ (c .before .before .before .before .before .pre .1) (c .wide .ensures ∙ c .before .field .ensures)) .whole) (c .before .before .before .before .before .pre .1 .room .fits))
+collect-term-list-loop-holds t c = (omega arith, left-start _ _ ((listRun _ _ (c .before .before .before .before .before .pre .1) (c .wide .ensures ∙ c .before .field .ensures)) .whole) (c .before .before .before .before .before .pre .1 .room .fits))
 
 collect-term-list-add-field : (t : ℕ) → collect-term-list-lts.Need-add-field (collect-term-list-claims t)
     (collect-term-list-at t)

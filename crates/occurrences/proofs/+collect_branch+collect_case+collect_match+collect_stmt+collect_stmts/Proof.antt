@@ -5,9 +5,10 @@ use Rattle.ast.specs.Image.{nodes}
 use Rattle.ast.specs.Kinds.{inner, plain, kindOf}
 use Rattle.ast.proofs.Shapes.{case-last}
 use Rattle.rows.proofs.Appends.{appended-next}
+use Rattle.rows.proofs.Parts.{Left, left-start, left-next, left-end}
 use Rattle.occurrences.specs.Collect.{sought, rowsIn, rowsAt}
 use Rattle.occurrences.proofs.CollectRows.{bare, items-none}
-use Rattle.occurrences.proofs.CollectSteps.{appended-as, Left, left-start, left-next, left-end, under, one, plain-sub, stmtKinds, item, run-start, matchCase, matchOf, BlocksLeft, blocks-start, blocks-place, blockOf, blocks-end}
+use Rattle.occurrences.proofs.CollectSteps.{appended-as, under, one, plain-sub, stmtKinds, item, run-start, matchCase, matchOf, BlocksLeft, blocks-start, blocks-place, blockOf, blocks-end}
 use Prim.Native.Nat.{ℕ, _<_}
 use borrow.Fn.Kinds.{In}
 use borrow.Fn.PlainCycle.{Measures, is, falls, and}
@@ -217,7 +218,7 @@ collect-match-collect-term-requires : (t : ℕ) → collect-match-lts.Need-colle
 collect-match-collect-term-requires t c κs = (matchOf _ _ (c .before .before .before .before .before .before .before .pre .1) (c .before .before .before .field .ensures) (c .before .wide .ensures ∙ c .before .before .field2 .ensures)) .first
 
 collect-match-loop-holds : (t : ℕ) → collect-match-lts.Need-loop-holds (collect-match-claims t) (collect-match-at t) collect-match.Post collect-match-Inv-loop collect-match-μ-loop
-collect-match-loop-holds t c = (omega arith, left-start (run-start _ _ _ _ _) (((matchOf _ _ (c .before .before .before .before .before .before .before .before .before .before .pre .1) (c .before .before .before .before .before .before .field .ensures) (c .before .before .before .before .wide .ensures ∙ c .before .before .before .before .before .field2 .ensures)) .second (c .before .before .collect-term .ensures .count)) .room .fits))
+collect-match-loop-holds t c = (omega arith, left-start _ _ (run-start _ _ _ _ _) (((matchOf _ _ (c .before .before .before .before .before .before .before .before .before .before .pre .1) (c .before .before .before .before .before .before .field .ensures) (c .before .before .before .before .wide .ensures ∙ c .before .before .before .before .before .field2 .ensures)) .second (c .before .before .collect-term .ensures .count)) .room .fits))
 
 collect-match-add-field : (t : ℕ) → collect-match-lts.Need-add-field (collect-match-claims t) (collect-match-at t) collect-match.Post collect-match-Inv-loop collect-match-μ-loop
 collect-match-add-field t c = let s = ((matchOf _ _ (c .before .before .before .before .before .before .before .before .before .before .before .before .pre .1) (c .before .before .before .before .before .before .before .before .field .ensures) (c .before .before .before .before .before .before .wide .ensures ∙ c .before .before .before .before .before .before .before .field2 .ensures)) .second (c .before .before .before .before .collect-term .ensures .count)) .short in omega arith
@@ -309,7 +310,7 @@ abbrev collect-stmts-μ-loop : collect-stmts-lts.MeasureT-loop
 collect-stmts-μ-loop image table symbols rows₀ count node first size i₀ after₀ rows i after = size - i
 
 collect-stmts-loop-holds : (t : ℕ) → collect-stmts-lts.Need-loop-holds (collect-stmts-claims t) (collect-stmts-at t) collect-stmts.Post collect-stmts-Inv-loop collect-stmts-μ-loop
-collect-stmts-loop-holds t c = (omega arith, left-start (run-start _ _ _ _ _) (c .before .before .before .pre .1 .room .fits))
+collect-stmts-loop-holds t c = (omega arith, left-start _ _ (run-start _ _ _ _ _) (c .before .before .before .pre .1 .room .fits))
 
 collect-stmts-add-field : (t : ℕ) → collect-stmts-lts.Need-add-field (collect-stmts-claims t) (collect-stmts-at t) collect-stmts.Post collect-stmts-Inv-loop collect-stmts-μ-loop
 collect-stmts-add-field t c = let s = c .before .before .before .before .before .pre .1 .short in omega arith

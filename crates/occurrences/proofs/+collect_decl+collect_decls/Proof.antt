@@ -2,9 +2,10 @@ use mathlib.Core.Path.{_≡_, refl, sym, ap, subst, _∙_}
 use native.Mathlib.Omega.{arith}
 use Prim.Native.Nat.{ℕ, _+_, _*_, _-_, _≤_}
 use Rattle.ast.specs.Image.{nodes}
+use Rattle.rows.proofs.Parts.{Left, appended-no}
 use Rattle.occurrences.specs.Collect.{sought, joined, listsAt}
 use Rattle.occurrences.proofs.CollectRules.{declared, decl-none, modelRun, decls-start, decls-item, decls-next, decls-end}
-use Rattle.occurrences.proofs.CollectSteps.{Left, appended-as, appended-nothing}
+use Rattle.occurrences.proofs.CollectSteps.{appended-as}
 use Prim.Native.Nat.{_<_}
 use borrow.Fn.Kinds.{In}
 use borrow.Fn.PlainCycle.{Measures, is, falls, and}
@@ -89,7 +90,7 @@ collect-decl-returns-2 t c = appended-as (ap joined ((declared _ _ (c .before .b
 
 collect-decl-returns-3 : (t : ℕ) → collect-decl-lts.Need-returns-3 (collect-decl-claims t) (collect-decl-at t) collect-decl.Post
 unfolding joined
-collect-decl-returns-3 t c = appended-nothing (ap joined (decl-none _ _ (c .before .before .before .before .before .before .pre .1) (λ q. let e = c .before .before .field .ensures in omega arith) (λ q. let e = c .before .before .field .ensures in omega arith)))
+collect-decl-returns-3 t c = appended-no _ _ (ap joined (decl-none _ _ (c .before .before .before .before .before .before .pre .1) (λ q. let e = c .before .before .field .ensures in omega arith) (λ q. let e = c .before .before .field .ensures in omega arith)))
 
 abbrev collect-decls-Inv-loop : collect-decls-lts.InvT-loop
 collect-decls-Inv-loop image table symbols rows₀ count node first size i₀ after₀ rows i after = (i ≤ size) × Left (nodes image) (joined (listsAt image (sought table symbols) (node .0) size first)) (joined (listsAt image (sought table symbols) (node .0) (size - i) (first + i))) count rows₀ after rows

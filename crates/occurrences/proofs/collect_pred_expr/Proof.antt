@@ -1,5 +1,6 @@
 use mathlib.Core.Path.{sym, _∙_}
-use Rattle.occurrences.proofs.CollectSteps.{appended-as, appended-nothing, pred-member, pred-none}
+use Rattle.rows.proofs.Parts.{appended-no}
+use Rattle.occurrences.proofs.CollectSteps.{appended-as, pred-member, pred-none}
 use borrow.Author.Needs.{needs}
 use Rattle.occurrences.proofs.collect_pred_expr.Statement.{statement}
 use Rattle.occurrences.proofs.collect_pred_expr.Tie as tie
@@ -23,7 +24,7 @@ returns : tie.Need-returns
 returns c = appended-as ((pred-member _ _ (c .before .before .before .before .before .before .before .before .before .before .before .pre) (sym (c .before .before .before .before .before .before .if1 .taken) ∙ c .before .before .before .before .before .before .before .field .ensures) (c .before .before .before .before .before .field2 .ensures) (c .before .before .before .before .field3 .ensures)) .whole) (c .before .before .collect-term .ensures)
 
 returns-2 : tie.Need-returns-2
-returns-2 c = appended-nothing (pred-none _ _ (c .before .before .before .before .before .pre) (λ e. c .if1 .left (c .before .field .ensures ∙ sym e)))
+returns-2 c = appended-no _ _ (pred-none _ _ (c .before .before .before .before .before .pre) (λ e. c .if1 .left (c .before .field .ensures ∙ sym e)))
 
 pub collect-pred-expr-spec : {M : Type 1} → statement M
 collect-pred-expr-spec =
