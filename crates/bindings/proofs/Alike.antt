@@ -1,12 +1,12 @@
 -- Two tables that give the same at every lookup, entry and exit have the same rows; so the three counts in front change none.
-use mathlib.Core.Path.{_≡_, refl, sym, ap, ap₂, _∙_}
+use mathlib.Core.Path.{_≡_, refl, ap, ap₂, _∙_}
 use mathlib.Core.Bool.{Bool, true, false, _&&_, not}
 use mathlib.Core.Option.{Option}
 use mathlib.Core.List.{List, [], _∷_, _++_}
-use Prim.Native.Nat.{ℕ, zero, suc, _+_}
+use Prim.Native.Nat.{ℕ, zero, suc}
 use lib.Dec.{eqb}
 use Rattle.ast.specs.Image.{last, nameOf}
-use Rattle.ast.specs.Kinds.{Class, outer, inner, root, decl, signature, rule, enum, model, plain, term, ident, head, headMember, member, branch, match, case, ifVar, definedThen, arg}
+use Rattle.ast.specs.Kinds.{outer, inner, root, decl, signature, rule, enum, model, plain, term, ident, head, headMember, member, branch, match, case, ifVar, definedThen, arg}
 use Rattle.ast.specs.Tree.{Tree, node, block, Trees, none, _◂_, treeAt}
 use Rattle.table.specs.Table.{Table, lookup, isKind, isVar, entryAt, exitAt}
 use Rattle.scopes.proofs.Headed.{left, headed-lookup, headed-entry, headed-exit}

@@ -1,28 +1,28 @@
 -- What the checks of then-atoms, patterns, statements and declarations come to, step by step.
 use mathlib.Core.Path.{_≡_, refl, sym, ap, ap₂, subst, _∙_}
 use mathlib.Core.Bool.{Bool, true, false}
-use mathlib.Core.List.{List, [], _∷_, _++_, append-nil}
-use Prim.Native.Nat.{ℕ, zero, suc, _+_, _-_, _<_, _≤_, _^_}
-use native.Mathlib.Nat.{add-zero, sub-zero, le-refl, le-trans}
+use mathlib.Core.List.{List, [], _∷_, _++_}
+use Prim.Native.Nat.{ℕ, zero, suc, _+_, _-_, _<_, _≤_}
+use native.Mathlib.Nat.{add-zero, sub-zero}
 use native.Mathlib.Omega.{arith}
 use lib.Dec.{eqb}
-use lib.ListN.{length, getD}
-use Rattle.ast.specs.Image.{nodes, kindAt, field}
-use Rattle.ast.specs.Kinds.{Class, outer, inner, plain, term, head, case, branch, match, definedThen, decl, rule, model, root, name, optName, child, optChild, list, lists, cases, noChild, Kind, kindOf}
-use Rattle.ast.specs.Is.{Is, kindBy}
-use Rattle.ast.specs.Tree.{Tree, node, block, Trees, none, _◂_, swaps, swap, ordered, treeAt}
+use lib.ListN.{getD}
+use Rattle.ast.specs.Image.{kindAt, field}
+use Rattle.ast.specs.Kinds.{inner, plain, term, head, case, match, definedThen, noChild, Kind, kindOf}
+use Rattle.ast.specs.Is.{Is}
+use Rattle.ast.specs.Tree.{Tree, node, block, none, _◂_, swaps, ordered, treeAt}
 use Rattle.ast.specs.Items.{items, blocks}
-use Rattle.ast.proofs.Row.{Child, Items, FormedBlocks, FormedFields, FormedRow, append, next, ends, blocksEnd, shapes, allKids, nodeOf}
+use Rattle.ast.proofs.Row.{Child, Items, FormedFields, append, next, ends, nodeOf}
 use Rattle.ast.proofs.Shapes.{row as fields-of, formed-row, tree-of, child-is, case-child, case-last, one-more, items-more, termKinds}
 use Rattle.ast.proofs.Vars.{PlainVar, named, wildcard, PlainAt, AfterFirst, Each, vars-at}
 use Rattle.table.specs.Table.{Table}
-use Rattle.rows.specs.Rows.{Row, Appended}
-use Rattle.rows.proofs.Parts.{Left, left-start, left-next}
-use Rattle.bindings.specs.Errors.{asked, definedRow, isCtor, argRow, argRows, rowsOf, rowsSeq, declRows, declsRows, patternRows}
+use Rattle.rows.specs.Rows.{Row}
+use Rattle.ordered.proofs.Blocks.{BlocksFrom, next-block}
+use Rattle.bindings.specs.Errors.{asked, definedRow, isCtor, argRow, argRows, rowsOf, rowsSeq, declRows, declsRows}
 use Rattle.bindings.specs.Checks.{Run, inside, listed, declared, ofPattern, ofCase, ofArgs}
-use Rattle.bindings.proofs.RowLaws.{rowsAt, declKinds, plain-rows, term-rows, branch-rows, match-rows, case-rows, defined-none, defined-some, one-inside, two-inside, case-inside, child-list-inside, branch-inside, pattern-first, pattern-none, pattern-app, args-inside, decl-child, rule-rows, model-rows, module-rows}
+use Rattle.bindings.proofs.RowLaws.{rowsAt, plain-rows, term-rows, branch-rows, match-rows, case-rows, defined-none, defined-some, one-inside, two-inside, case-inside, child-list-inside, branch-inside, pattern-first, pattern-none, pattern-app, args-inside, decl-child, rule-rows, model-rows, module-rows}
 use Rattle.bindings.proofs.Quiet.{quiet}
-use Rattle.bindings.proofs.Epic.{Down, Item, listed-start, listed-more, listed-end}
+use Rattle.bindings.proofs.Epic.{Down, Item, listed-start, listed-more}
 
 -- the kinds of the children of a ThenAtom's cases, and of a Stmt's
 abbrev pub atomKinds : List ℕ
@@ -83,29 +83,6 @@ module _ (img : List ℕ) where
   unfolding kindOf FormedFields next ends
   case-run {n} is q =
       subst (λ (x : ℕ). Run img 36 n x 2) (sym q) (run-of is ((fields-of img is) .1 .0) ((formed-row img is) .short))
-
-  ends-grows : (n c j : ℕ) → j ≤ blocksEnd img n c j
-  unfolding blocksEnd
-  ends-grows n zero j = le-refl j
-  ends-grows n (suc c) j = let h = ends-grows n c (j + 1 + field img n j) in omega arith
-
-  -- what acceptance says of the blocks that are left after i of them, from place j on
-  pub record BlocksFrom (n i j : ℕ) : Type 0 where
-    pub within : i ≤ field img n 0
-    pub formed : FormedBlocks img n 36 (field img n 0 - i) j
-    pub short : blocksEnd img n (field img n 0 - i) j ≤ 8192
-
-  pub blocks-start : {n : ℕ} → Is img (kindOf 39) n → BlocksFrom n 0 1
-  unfolding FormedFields ends next kindOf
-  blocks-start {n} is =
-      record {
-        within = omega arith;
-        formed = subst (λ (c : ℕ). FormedBlocks img n 36 c 1) (sym (sub-zero (field img n 0))) ((fields-of img is) .0);
-        short = subst (λ (c : ℕ). blocksEnd img n c 1 ≤ 8192) (sym (sub-zero (field img n 0))) ((formed-row img is) .short);
-      }
-
-  pub blocks-place : {n i j : ℕ} → BlocksFrom n i j → j ≤ 8192
-  blocks-place {n} {i} {j} b = le-trans (ends-grows n (field img n 0 - i) j) (b .short)
 
 module _ (img : List ℕ) (t : Table) where
   -- then-atoms -----------------------------------------------------------------------------------------------------
@@ -325,24 +302,15 @@ module _ (img : List ℕ) (t : Table) where
   pub record BlockItem (n i j s : ℕ) : Type 0 where
     pub run : Run img 36 n s (j + 1)
     pub fits : j + 1 + s ≤ 8192
-    pub from : BlocksFrom img n (i + 1) (j + 1 + s)
+    pub from : BlocksFrom img n (field img n 0) (i + 1) (j + 1 + s)
     pub same : blocksLeft n (field img n 0 - i) j ≡ listed img t false n s (j + 1) ++ blocksLeft n (field img n 0 - (i + 1)) (j + 1 + s)
 
-  pub block-item : {n i j s : ℕ} → Is img (kindOf 39) n → BlocksFrom img n i j → i < field img n 0 → s ≡ field img n j → BlockItem n i j s
-  unfolding FormedBlocks blocksEnd blocks rowsOf
+  pub block-item : {n i j s : ℕ} → Is img (kindOf 39) n → BlocksFrom img n (field img n 0) i j → i < field img n 0 → s ≡ field img n j → BlockItem n i j s
+  unfolding blocks rowsOf
   block-item {n} {i} {j} {s} is b l q =
-      let c = field img n 0 - (i + 1) in
-      let z = field img n j in
-      let hs : FormedBlocks img n 36 (suc c) j = subst (λ (x : ℕ). FormedBlocks img n 36 x j) (one-more l) (b .formed) in
-      let sh : blocksEnd img n c (j + 1 + z) ≤ 8192 = subst (λ (x : ℕ). blocksEnd img n x j ≤ 8192) (one-more l) (b .short) in
-      let fit : j + 1 + z ≤ 8192 = le-trans (ends-grows img n c (j + 1 + z)) sh in
+      let k = next-block img b l in
       subst (λ (x : ℕ). BlockItem n i j x) (sym q)
-      (record {
-        run = run-of img is (hs .0) fit;
-        fits = fit;
-        from = record { within = omega arith; formed = hs .1; short = sh };
-        same = ap (λ (x : ℕ). blocksLeft n x j) (one-more l);
-      })
+      (record { run = run-of img is (k .items) (k .fits); fits = k .fits; from = k .from; same = ap (λ (x : ℕ). blocksLeft n x j) (one-more l) })
 
   pub blocks-end : (n i j : ℕ) → field img n 0 ≤ i → blocksLeft n (field img n 0 - i) j ≡ []
   unfolding rowsOf blocks

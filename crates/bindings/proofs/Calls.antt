@@ -1,17 +1,16 @@
 -- What the call Errors leaves, by the ways that Resolve goes.
 use mathlib.Core.Path.{_≡_, refl, sym, ap, ap₂, subst, _∙_}
 use mathlib.Core.Bool.{Bool, true, false}
-use mathlib.Core.List.{List, [], _∷_, _++_}
-use Prim.Native.Nat.{ℕ, zero, suc, _+_, _*_, _<_, _≤_, _^_}
+use mathlib.Core.List.{List, [], _++_}
+use Prim.Native.Nat.{ℕ, zero, suc, _+_, _<_, _≤_, _^_}
 use native.Mathlib.Omega.{arith}
-use lib.Dec.{leb, leb→le}
+use lib.Dec.{leb→le}
 use lib.ListN.{length, set}
 use borrow.Author.Tests.{eq-eqb, ne-eqb, le-leb, lt-leb}
 use Rattle.ast.specs.Answer.{Answer, refused, twice as twiceAnswer, result}
 use Rattle.ast.specs.Image.{nodes, last}
-use Rattle.ast.specs.Is.{Is}
 use Rattle.ast.specs.Kinds.{kindOf}
-use Rattle.ast.specs.Tests.{_▸_, need, verdict}
+use Rattle.ast.specs.Tests.{need, verdict}
 use Rattle.ast.specs.Tree.{treeAt}
 use Rattle.ast.proofs.Accepted.{both, skip, stop, needed, sized, formed, last-below}
 use Rattle.table.specs.Rows.{Sorted}
@@ -19,13 +18,13 @@ use Rattle.table.specs.State.{Exit}
 use Rattle.table.specs.Table.{Table}
 use Rattle.rows.specs.Rows.{Row, rowsLength, written, cleared, putRows, Appended}
 use Rattle.rows.proofs.Appends.{written-is}
-use Rattle.scopes.specs.Walk.{Listed, done, twice}
-use Rattle.scopes.specs.Resolve.{testTable, zeroed, walked, headed, resolve}
-use Rattle.scopes.specs.Rows.{testRows, Outcome}
-use Rattle.scopes.proofs.Resolving.{Ways, refuses, stops, fills, ways, refuses-outcome, stops-outcome, fills-outcome, Fills, filled, walked-ended, table-accepted}
-use Rattle.scopes.proofs.Headed.{left, headed-sorted}
+use Rattle.scopes.specs.Walk.{done}
+use Rattle.scopes.specs.Resolve.{testTable, walked, headed, resolve}
+use Rattle.scopes.specs.Rows.{testRows}
+use Rattle.scopes.proofs.Resolving.{Ways, refuses, stops, fills, ways, stops-outcome, fills-outcome, filled, walked-ended, table-accepted}
+use Rattle.scopes.proofs.Headed.{headed-sorted}
 use Rattle.bindings.specs.Errors.{isStrict, strictRows, declRows, plainRows, errorRows, testErrors, errorsOf, errors}
-use Rattle.bindings.specs.Checks.{Room, Ready, ofMode, Filled, Wrote}
+use Rattle.bindings.specs.Checks.{Ready, ofMode, Filled, Wrote}
 use Rattle.bindings.proofs.Alike.{errors-headed}
 use Rattle.bindings.proofs.Few.{both-few, rows-few}
 

@@ -1,20 +1,20 @@
 -- What the checks of a then-atom's terms come to, step by step: the node that is gone down to, and its rows.
 use mathlib.Core.Path.{_≡_, refl, sym, ap, ap₂, subst, _∙_}
-use mathlib.Core.Logic.{_⊎_, inl, inr, ⊎-elim}
+use mathlib.Core.Logic.{_⊎_, ⊎-elim}
 use mathlib.Core.Bool.{Bool, true, false}
-use mathlib.Core.List.{List, [], _∷_, _++_}
-use Prim.Native.Nat.{ℕ, zero, suc, _+_, _-_, _<_, _≤_, _^_}
+use mathlib.Core.List.{List, [], _++_}
+use Prim.Native.Nat.{ℕ, zero, suc, _+_, _-_, _<_, _≤_}
 use native.Mathlib.Nat.{add-zero, sub-zero}
 use native.Mathlib.Omega.{arith}
 use lib.Dec.{eqb}
-use lib.ListN.{length, length-append, getD}
-use Rattle.ast.specs.Image.{nodes, kindAt, field}
-use Rattle.ast.specs.Kinds.{Class, inner, plain, term, head, child, list, cases, noChild, kindOf}
+use lib.ListN.{length-append, getD}
+use Rattle.ast.specs.Image.{nodes, field}
+use Rattle.ast.specs.Kinds.{inner, term, head, noChild, kindOf}
 use Rattle.ast.specs.Is.{Is}
-use Rattle.ast.specs.Tree.{Trees, none, _◂_, ordered, treeAt}
+use Rattle.ast.specs.Tree.{ordered, treeAt}
 use Rattle.ast.specs.Items.{items}
-use Rattle.ast.proofs.Row.{Child, Items, FormedFields, next}
-use Rattle.ast.proofs.Shapes.{row as fields-of, formed-row, child-is, case-child, case-kids, items-more, term-last, termKinds, headKinds}
+use Rattle.ast.proofs.Row.{Child, FormedFields, next}
+use Rattle.ast.proofs.Shapes.{row as fields-of, child-is, case-child, case-kids, items-more, term-last, termKinds, headKinds}
 use Rattle.table.specs.Table.{Table}
 use Rattle.table.specs.Rows.{Sorted}
 use Rattle.rows.specs.Rows.{Row, Appended}

@@ -1,35 +1,33 @@
 -- Each node gets at most one error row, so there are at most N; and document 01's sentence on row 4.
-use mathlib.Core.Path.{_≡_, refl, sym, ap, ap₂, subst, _∙_}
+use mathlib.Core.Path.{_≡_, refl, sym, ap, subst, _∙_}
 use mathlib.Core.Logic.{_⊎_, inl, inr, ⊎-elim, _↔_}
 use mathlib.Core.Bool.{Bool, true, false, _||_}
-use mathlib.Core.List.{List, [], _∷_, _++_, append-nil, append-assoc, List·Memᴰ, List·Memᴰ·head, List·Memᴰ·tail, List·Memᴰ·cases-cons, List·Memᴰ·not-nil, List·Memᴰ·eq-of-singleton, List·Memᴰ·append-cases, Memᴰ·append-left, Memᴰ·append-right}
-use Prim.Native.Nat.{ℕ, zero, suc, _+_, _-_, _<_, _≤_}
+use mathlib.Core.List.{List, [], _∷_, _++_, append-nil, List·Memᴰ, List·Memᴰ·head, List·Memᴰ·tail, List·Memᴰ·cases-cons, List·Memᴰ·not-nil, List·Memᴰ·eq-of-singleton, List·Memᴰ·append-cases, Memᴰ·append-left, Memᴰ·append-right}
+use Prim.Native.Nat.{ℕ, zero, suc, _+_, _<_, _≤_}
 use native.Mathlib.Nat.{add-zero}
 use native.Mathlib.Numerals.{add-one}
 use native.Mathlib.Decide.{ℕ-discrete, decLt}
 use native.Mathlib.Omega.{arith}
-use lib.Dec.{T, eqb, eqb→eq, eqb-refl}
+use lib.Dec.{T, eqb, eqb→eq}
 use lib.ListN.{length, length-append}
-use borrow.Author.Tests.{eqb-true, eqb-false, eq-eqb, ne-eqb}
+use borrow.Author.Tests.{eqb-true, eq-eqb}
 use Rattle.ast.specs.Image.{nodes, kindAt, startAt, opAt, field, last}
 use Rattle.ast.specs.Kinds.{kindOf}
 use Rattle.ast.specs.Is.{Is}
 use Rattle.ast.specs.Tests.{is, times, verdict}
-use Rattle.ast.specs.Tree.{Tree, Trees, none, _◂_, treeAt}
-use Rattle.ast.specs.Rows.{opsFrom}
+use Rattle.ast.specs.Tree.{treeAt}
 use Rattle.ast.proofs.Row.{Child, FormedFields}
 use Rattle.ast.proofs.Shapes.{row as fields-of}
-use Rattle.ast.proofs.Accepted.{last-below}
-use Rattle.ast.proofs.Count.{nodesOf, nodesAll, sumOf, sumTo, is-same, is-other, times-sum, times-append, sumTo-add, sumTo-ones, whole, once, nothing-else}
+use Rattle.ast.proofs.Count.{nodesOf, sumOf, sumTo, is-same, is-other, times-sum, times-append, sumTo-add, sumTo-ones, whole, once, nothing-else}
 use Rattle.scopes.specs.Twice.{among}
 use Rattle.table.specs.Table.{Table}
 use Rattle.rows.specs.Rows.{Row, row, rights}
+use Rattle.ordered.proofs.Bools.{false-true}
 use Rattle.bindings.specs.Errors.{when, argsOf, repeated, repeatedIn, repeatedTo, strictFrom, strictRows, isStrict, plainRows, errorRows}
-use Rattle.bindings.specs.Places.{Node, Unnamed, Repeated}
-use Rattle.bindings.proofs.Bools.{false-true}
+use Rattle.bindings.specs.Places.{Unnamed, Repeated}
 use Rattle.bindings.proofs.Leaves.{when-true}
 use Rattle.bindings.proofs.Reached.{ops-mem}
-use Rattle.bindings.proofs.Fine.{Fine, rights-append}
+use Rattle.bindings.proofs.Fine.{rights-append}
 use Rattle.bindings.proofs.Standing.{plain-all}
 use Rattle.bindings.proofs.Sentences.{plain-at-term}
 

@@ -1,8 +1,8 @@
 -- Rows that stand where document 01 says, and at distinct nodes of a list of trees: laws by which they are put together.
-use mathlib.Core.Path.{_≡_, refl, sym, ap, ap₂, subst, _∙_}
-use mathlib.Core.Logic.{_⊎_, inl, inr, ⊎-elim}
+use mathlib.Core.Path.{_≡_, refl, sym, ap, subst, _∙_}
+use mathlib.Core.Logic.{_⊎_, ⊎-elim}
 use mathlib.Core.Bool.{Bool, true, false}
-use mathlib.Core.List.{List, [], _∷_, _++_, append-nil, List·Memᴰ, List·Memᴰ·head, List·Memᴰ·tail, List·Memᴰ·append-cases, List·Memᴰ·not-nil, List·Memᴰ·eq-of-singleton}
+use mathlib.Core.List.{List, [], _∷_, _++_, append-nil, List·Memᴰ, List·Memᴰ·append-cases, List·Memᴰ·not-nil, List·Memᴰ·eq-of-singleton}
 use Prim.Native.Nat.{ℕ, zero, suc, _+_, _<_, _≤_}
 use native.Mathlib.Nat.{add-zero}
 use native.Mathlib.Omega.{arith}
@@ -16,7 +16,7 @@ use Rattle.ast.proofs.Shapes.{tree-of}
 use Rattle.ast.proofs.Count.{nodesOf, nodesAll, sumOf, sumOf-append}
 use Rattle.table.specs.Table.{Table}
 use Rattle.rows.specs.Rows.{Row, row, rights}
-use Rattle.bindings.specs.Errors.{when, argRow, argRows, rowsOf, rowsSeq, declRows, declsRows}
+use Rattle.bindings.specs.Errors.{when, argRow, argRows, rowsOf, declRows}
 use Rattle.bindings.specs.Checks.{listed, declared}
 use Rattle.bindings.specs.Places.{Introduced, NotNew, NotFresh}
 use Rattle.bindings.proofs.RowLaws.{rowsAt}

@@ -1,22 +1,15 @@
 -- Laws of single rows: what is asked of a name, and a row that stands where a test says so.
-use mathlib.Core.Path.{_≡_, refl, sym, ap, ap₂, subst, _∙_}
+use mathlib.Core.Path.{_≡_, sym, ap, ap₂, subst, _∙_}
 use mathlib.Core.Bool.{Bool, true, false, _&&_, not}
 use mathlib.Core.Option.{Option, none as nothing, some}
 use mathlib.Core.List.{List, [], _∷_}
-use Prim.Native.Nat.{ℕ, zero, suc, _+_, _<_, _^_}
-use lib.Dec.{eqb}
+use Prim.Native.Nat.{ℕ, _+_, _<_, _^_}
 use lib.ListN.{length}
 use borrow.Author.Tests.{eq-eqb, ne-eqb}
-use Rattle.ast.specs.Image.{nodes, kindAt, nameOf}
-use Rattle.table.specs.Table.{Table, lookup, climb, isKind, entryAt, exitAt}
+use Rattle.ast.specs.Image.{kindAt}
+use Rattle.table.specs.Table.{Table, isKind}
 use Rattle.rows.specs.Rows.{Row, row}
 use Rattle.bindings.specs.Errors.{when, sameNode, atEntry, atExit, introduces, introducedRow}
-
--- lookup from a scope, by what a search gives
-pub looked-up : (img : List ℕ) (t : Table) (s : ℕ) (x : ℕ) (i : ℕ) (o : Option ℕ) (z : ℕ) → s ≡ z → x ≡ nameOf img i
-    → o ≡ climb img (suc s) (t .words) (t .symbols) s x → o ≡ lookup img t z (nameOf img i)
-unfolding lookup
-looked-up img t s x i o z q p e = e ∙ ap₂ (λ (a b : ℕ). climb img (suc a) (t .words) (t .symbols) a b) q p
 
 module _ (img : List ℕ) (t : Table) (n i : ℕ) where
   -- introduces, by what lookup gives at the exit

@@ -1,4 +1,3 @@
-pub mod Bools
 pub mod Leaves
 pub mod RowLaws
 pub mod Quiet

@@ -8,18 +8,18 @@ use native.Mathlib.Nat.{add-zero}
 use native.Mathlib.Omega.{arith}
 use lib.Dec.{T, eqb, leb}
 use lib.ListN.{getD, length}
-use borrow.Author.Tests.{eqb-true, eqb-false}
+use borrow.Author.Tests.{eqb-false}
 use Rattle.ast.specs.Image.{nodes, kindAt, field}
-use Rattle.ast.specs.Kinds.{Class, outer, inner, Inner, plain, term, ident, head, headMember, member, branch, match, case, ifVar, definedThen, arg, Field, name, optName, child, optChild, list, lists, cases, noChild, Kind, kinds, kindOf}
+use Rattle.ast.specs.Kinds.{Class, outer, inner, plain, term, ident, head, headMember, member, branch, match, case, ifVar, definedThen, arg, Field, name, optName, child, optChild, list, lists, cases, noChild, Kind, kinds, kindOf}
 use Rattle.ast.specs.Tests.{verdict}
-use Rattle.ast.specs.Tree.{Tree, node, block, Trees, none, _◂_, swap, swaps, ordered, treeAt}
+use Rattle.ast.specs.Tree.{Tree, node, Trees, none, _◂_, swap, swaps, ordered, treeAt}
 use Rattle.ast.specs.Items.{items, blocks}
-use Rattle.ast.proofs.Row.{append, Child, Items, FormedBlocks, FormedField, FormedFields, FormedRow, next, shapes, kidsOf, allKids, nodeOf, tree-is, row-formed}
+use Rattle.ast.proofs.Row.{append, Child, Items, FormedBlocks, FormedField, FormedFields, next, shapes, kidsOf, allKids, nodeOf, tree-is, row-formed}
 use Rattle.ast.proofs.Accepted.{formed}
 use Rattle.ast.proofs.Vars.{every-kind, Each}
 use Rattle.table.specs.Table.{Table}
 use Rattle.rows.specs.Rows.{Row}
-use Rattle.bindings.proofs.Bools.{and-both, not-or, is-false}
+use Rattle.ordered.proofs.Bools.{and-both, not-or, is-false}
 use Rattle.bindings.specs.Errors.{asked, introducedRow, rowsOf, rowsSeq, rowsFirst}
 
 -- the kinds from Term to IfAtom, the atoms but DefinedThenAtom, and IfStmt

@@ -1,37 +1,36 @@
 -- Where document 01 asks for a row, there is one: the rows of what stands in a rule are among the module's.
-use mathlib.Core.Path.{_≡_, refl, sym, ap, ap₂, subst, _∙_}
+use mathlib.Core.Path.{_≡_, refl, sym, ap, subst, _∙_}
 use mathlib.Core.Logic.{_⊎_, inl, inr, ⊎-elim}
-use mathlib.Core.Bool.{Bool, true, false, _&&_, _||_, not}
+use mathlib.Core.Bool.{Bool, true, false, _||_, not}
 use mathlib.Core.List.{List, [], _∷_, _++_, append-nil, List·Memᴰ, List·Memᴰ·head, List·Memᴰ·tail, List·Memᴰ·cases-cons, List·Memᴰ·not-nil, List·Memᴰ·eq-of-singleton, Memᴰ·append-left, Memᴰ·append-right, List·Memᴰ·append-cases}
-use Prim.Native.Nat.{ℕ, zero, suc, _+_, _-_, _<_, _≤_}
+use Prim.Native.Nat.{ℕ, zero, suc, _+_, _<_, _≤_}
 use native.Mathlib.Nat.{add-zero}
 use native.Mathlib.Decide.{ℕ-discrete}
 use native.Mathlib.Omega.{arith}
-use lib.Dec.{T, eqb, eqb→eq, leb}
-use lib.ListN.{length, getD}
+use lib.Dec.{T, eqb, eqb→eq}
+use lib.ListN.{getD}
 use borrow.Author.Tests.{ne-eqb}
 use Rattle.ast.specs.Image.{nodes, kindAt, startAt, opAt, field, last}
-use Rattle.ast.specs.Kinds.{Class, outer, inner, root, decl, signature, rule, enum, model, Inner, plain, term, ident, head, headMember, member, branch, match, case, ifVar, definedThen, arg, Field, name, optName, child, optChild, list, lists, cases, noChild, Kind, kinds, kindOf}
+use Rattle.ast.specs.Kinds.{Class, outer, inner, root, decl, plain, term, ident, head, headMember, member, branch, match, case, ifVar, definedThen, arg, Field, name, cases, noChild, Kind, kinds, kindOf}
 use Rattle.ast.specs.Is.{Is, kindBy}
 use Rattle.ast.specs.Rows.{Kid, one, many, ones, numbers, opsFrom, kids, fieldsKids, fieldKids, after}
 use Rattle.ast.specs.Tests.{verdict}
-use Rattle.ast.specs.Tree.{Tree, node, block, Trees, none, _◂_, ordered, growAll, grow, treeAt}
-use Rattle.ast.specs.Items.{items, below}
-use Rattle.ast.proofs.Row.{Child, FormedFields, next, nodeOf}
-use Rattle.ast.proofs.Shapes.{row as fields-of, tree-of, child-is, case-child, termKinds, headKinds}
-use Rattle.ast.proofs.Accepted.{formed, last-below}
+use Rattle.ast.specs.Tree.{Tree, block, Trees, _◂_, ordered, growAll, grow, treeAt}
+use Rattle.ast.specs.Items.{below}
+use Rattle.ast.proofs.Row.{FormedFields, next, nodeOf}
+use Rattle.ast.proofs.Shapes.{row as fields-of, tree-of, case-child, headKinds}
+use Rattle.ast.proofs.Accepted.{formed}
 use Rattle.ast.proofs.Unfold.{numbers-ones}
 use Rattle.ast.proofs.Vars.{every-kind}
 use Rattle.ast.proofs.Kids.{childKind, kid-admitted, every-pair, parent}
-use Rattle.table.specs.Table.{Table, isVar, isKind}
-use Rattle.rows.specs.Rows.{Row, row}
-use Rattle.bindings.specs.Errors.{when, asked, atEntry, atExit, introduces, introducedRow, isCtor, argRow, argRows, definedRow, rowsOf, rowsSeq, declRows, declsRows, plainRows}
-use Rattle.bindings.specs.Checks.{inside, listed, ofPattern, ofArgs}
-use Rattle.bindings.specs.Places.{Node, IdentTerm, Stands, Determines, InThen, atom, down, Introduced, NotNew, NotFresh}
-use Rattle.bindings.proofs.Bools.{and-both, not-or, is-true, false-true, not-equal, true-is}
-use Rattle.bindings.proofs.RowLaws.{rowsAt, declKinds, decl-child, plain-rows, term-rows, ident-rows, member-rows, receiver-rows, head-ident, head-other, branch-rows, match-rows, case-rows, defined-none, defined-some, case-inside, args-inside, arg-ident, defined-ident, ctor-ident}
-use Rattle.bindings.proofs.Bodies.{atomKinds, applied, applied-yes, then-some}
-use Rattle.bindings.proofs.Standing.{thenKind, then-node, kindFor, kinds-for, low-kind, below-is, kids-at, field-zero}
+use Rattle.table.specs.Table.{Table}
+use Rattle.rows.specs.Rows.{Row}
+use Rattle.ordered.proofs.Bools.{not-or, false-true}
+use Rattle.bindings.specs.Errors.{asked, definedRow, rowsOf, rowsSeq, declRows, declsRows, plainRows}
+use Rattle.bindings.specs.Checks.{inside, ofPattern}
+use Rattle.bindings.specs.Places.{Stands, Determines, InThen, atom, down}
+use Rattle.bindings.proofs.RowLaws.{rowsAt, declKinds, decl-child, plain-rows, term-rows, member-rows, receiver-rows, head-other, branch-rows, match-rows, case-rows, defined-none, defined-some}
+use Rattle.bindings.proofs.Standing.{thenKind, then-node, kindFor, kinds-for, low-kind, below-is, kids-at, field-zero, is-at}
 
 -- the rows l are among the rows k
 abbrev pub Sub : List Row → List Row → Type 0
@@ -188,9 +187,6 @@ module _ (img : List ℕ) (t : Table) (accepted : verdict img ≡ 0) where
   Up n = (T (declKind (kindAt img n)) → Sub (declRows img t (treeAt img n)) (plainRows img t))
       × (T (stmtKind (kindAt img n)) → (o : ℕ) × Sub (rowsAt img t false o n) (plainRows img t))
 
-  at : {k n : ℕ} → n < nodes img → kindAt img n ≡ k → Is img (kindOf k) n
-  at l e = record { accepted = accepted; below = l; kind = ap kindOf e }
-
   module _ (p n : ℕ) (low : p < nodes img) (s : Stands img p n) (up : Up p) where
     abbrev k : ℕ
     k = kindAt img p
@@ -210,12 +206,12 @@ module _ (img : List ℕ) (t : Table) (accepted : verdict img ≡ 0) where
         to x e q h r m = up .0 (subst (λ (y : ℕ). T (declKind y)) (sym e) q) r (h r m)
 
         eight : T (eqb k 8) → Sub (declRows img t (treeAt img n)) (plainRows img t)
-        eight q = let e = eqb→eq k 8 q in to 8 e tt (model-sub img t (at low e) s)
+        eight q = let e = eqb→eq k 8 q in to 8 e tt (model-sub img t (is-at img t accepted low e) s)
 
         go : T (eqb k 0 || (eqb k 1 || eqb k 8)) → Sub (declRows img t (treeAt img n)) (plainRows img t)
         go q =
-            ⊎-elim (λ e. to 0 e tt (module-sub img t (at low e) s))
-            (λ q1. ⊎-elim (λ e. to 1 e tt (decl-sub img t (at low e) s)) eight (either k 1 (eqb k 8) q1))
+            ⊎-elim (λ e. to 0 e tt (module-sub img t (is-at img t accepted low e) s))
+            (λ q1. ⊎-elim (λ e. to 1 e tt (decl-sub img t (is-at img t accepted low e) s)) eight (either k 1 (eqb k 8) q1))
             (either k 0 (eqb k 1 || eqb k 8) q)
 
     stmt-up : T (stmtKind (kindAt img n)) → (o : ℕ) × Sub (rowsAt img t false o n) (plainRows img t)
@@ -230,18 +226,18 @@ module _ (img : List ℕ) (t : Table) (accepted : verdict img ≡ 0) where
         to x e q h r m = let u = up .1 (subst (λ (y : ℕ). T (stmtKind y)) (sym e) q) in u .1 r (h (u .0) r m)
 
         in-rule : k ≡ 6 → Sub (rowsAt img t false p n) (plainRows img t)
-        in-rule e r m = up .0 (subst (λ (y : ℕ). T (declKind y)) (sym e) tt) r (rule-sub img t (at low e) s r m)
+        in-rule e r m = up .0 (subst (λ (y : ℕ). T (declKind y)) (sym e) tt) r (rule-sub img t (is-at img t accepted low e) s r m)
 
         forty : T (eqb k 40) → Sub (rowsAt img t false p n) (plainRows img t)
-        forty q = let e = eqb→eq k 40 q in to 40 e tt (λ o. match-sub img t o (at low e) s)
+        forty q = let e = eqb→eq k 40 q in to 40 e tt (λ o. match-sub img t o (is-at img t accepted low e) s)
 
         go : T (eqb k 6 || (eqb k 35 || (eqb k 36 || (eqb k 38 || (eqb k 39 || eqb k 40))))) → Sub (rowsAt img t false p n) (plainRows img t)
         go q =
             ⊎-elim in-rule
-            (λ q1. ⊎-elim (λ e. to 35 e tt (λ o. case-sub img t o (at low e) s))
-            (λ q2. ⊎-elim (λ e. to 36 e tt (λ o. plain-sub img t false _ o (at low e) (ap (λ (x : ℕ). asked x false) e) s))
-            (λ q3. ⊎-elim (λ e. to 38 e tt (λ o. plain-sub img t false _ o (at low e) (ap (λ (x : ℕ). asked x false) e) s))
-            (λ q4. ⊎-elim (λ e. to 39 e tt (λ o. branch-sub img t o (at low e) s)) forty (either k 39 _ q4))
+            (λ q1. ⊎-elim (λ e. to 35 e tt (λ o. case-sub img t o (is-at img t accepted low e) s))
+            (λ q2. ⊎-elim (λ e. to 36 e tt (λ o. plain-sub img t false _ o (is-at img t accepted low e) (ap (λ (x : ℕ). asked x false) e) s))
+            (λ q3. ⊎-elim (λ e. to 38 e tt (λ o. plain-sub img t false _ o (is-at img t accepted low e) (ap (λ (x : ℕ). asked x false) e) s))
+            (λ q4. ⊎-elim (λ e. to 39 e tt (λ o. branch-sub img t o (is-at img t accepted low e) s)) forty (either k 39 _ q4))
             (either k 38 _ q3)) (either k 36 _ q2)) (either k 35 _ q1)) (either k 6 _ q)
 
   pub ups : (m n : ℕ) → nodes img ≤ n + m → n < nodes img → Up n
@@ -306,9 +302,6 @@ ops-mem img (suc c) p {x} m = go (ops-mem img c (p + 1)) (List·Memᴰ·cases-co
     go h (inr k) = let r = h k in (suc (r .0), (let b = r .1 in omega arith), r .2 ∙ ap (opAt img) (let z : p + 1 + r .0 ≡ p + suc (r .0) = omega arith in z))
 
 module _ (img : List ℕ) (t : Table) (accepted : verdict img ≡ 0) where
-  here : {k n : ℕ} → n < nodes img → kindAt img n ≡ k → Is img (kindOf k) n
-  here l e = record { accepted = accepted; below = l; kind = ap kindOf e }
-
   module _ (p c : ℕ) (low : p < nodes img) (s : Stands img p c) (d : Determines img p c) (no-ident : kindAt img c ≡ 13 → ⊥) (o : ℕ) where
     -- the child's rows are among the node's
     abbrev Goes : Type 0
@@ -319,7 +312,7 @@ module _ (img : List ℕ) (t : Table) (accepted : verdict img ≡ 0) where
 
     term-goes : kindAt img p ≡ 12 → Goes
     unfolding kindOf ordered
-    term-goes e = sub-to (sym (term-rows img t true o (here low e))) (through-sub img t true (here low e) (λ ts. refl) s)
+    term-goes e = sub-to (sym (term-rows img t true o (is-at img t accepted low e))) (through-sub img t true (is-at img t accepted low e) (λ ts. refl) s)
 
     ident-goes : kindAt img p ≡ 13 → Goes
     unfolding kindOf
@@ -330,7 +323,7 @@ module _ (img : List ℕ) (t : Table) (accepted : verdict img ≡ 0) where
     head-goes e = go (field img p 0) refl
       where
         is : Is img (kindOf 15) p
-        is = here low e
+        is = is-at img t accepted low e
 
         one-there : (c ≡ field img p 1) × (eqb (getD headKinds (field img p 0) noChild) noChild ≡ false)
         one-there = only-case img t (inner head) headKinds is s
@@ -344,7 +337,7 @@ module _ (img : List ℕ) (t : Table) (accepted : verdict img ≡ 0) where
     member-goes e = ⊎-elim first (λ m. absurd (second (List·Memᴰ·eq-of-singleton m))) (List·Memᴰ·cases-cons there)
       where
         is : Is img (kindOf 17) p
-        is = here low e
+        is = is-at img t accepted low e
 
         there : List·Memᴰ c (opAt img (startAt img p + 2) ∷ (opAt img (startAt img p + 2 + 1) ∷ []))
         there = subst (λ (xs : List Kid). List·Memᴰ c (numbers xs)) (kids-at img is) s
@@ -363,7 +356,7 @@ module _ (img : List ℕ) (t : Table) (accepted : verdict img ≡ 0) where
     receiver-goes e = ⊎-elim first (λ m. absurd (other (ops-mem img (opAt img (startAt img p + 2 + 1)) (startAt img p + 2 + 1 + 1) m))) (List·Memᴰ·cases-cons there)
       where
         is : Is img (kindOf 16) p
-        is = here low e
+        is = is-at img t accepted low e
 
         names : List ℕ
         names = opsFrom img (opAt img (startAt img p + 2 + 1)) (startAt img p + 2 + 1 + 1)
@@ -386,7 +379,7 @@ module _ (img : List ℕ) (t : Table) (accepted : verdict img ≡ 0) where
     defined-goes e = go (field img p 0) refl (subst (λ (x : ℕ). List·Memᴰ c (numbers (elim x as (λ _. List Kid) [ zero ↦ [] | suc v ↦ one v ∷ [] ] ++ (one (field img p 1) ∷ [])))) (sym (field-zero img p)) there)
       where
         is : Is img (kindOf 34) p
-        is = here low e
+        is = is-at img t accepted low e
 
         there : List·Memᴰ c (numbers (elim (opAt img (startAt img p + 2)) as (λ _. List Kid) [ zero ↦ [] | suc v ↦ one v ∷ [] ] ++ (one (field img p 1) ∷ [])))
         there = subst (λ (xs : List Kid). List·Memᴰ c (numbers xs)) (kids-at img is) s
@@ -429,7 +422,7 @@ module _ (img : List ℕ) (t : Table) (accepted : verdict img ≡ 0) where
   unfolding kindOf asked
   then-up (atom {n} h) no-ident =
       let u = ups img t accepted (nodes img) n (omega arith) (h .below) .1 (subst (λ (k : ℕ). T (stmtKind k)) (sym (h .kind)) tt) in
-      (u .0, sub-as (plain-rows img t true 29 _ (u .0) (here (h .below) (h .kind)) (h .kind) ∙ sym (plain-rows img t false 29 _ (u .0) (here (h .below) (h .kind)) (h .kind))) (u .1))
+      (u .0, sub-as (plain-rows img t true 29 _ (u .0) (is-at img t accepted (h .below) (h .kind)) (h .kind) ∙ sym (plain-rows img t false 29 _ (u .0) (is-at img t accepted (h .below) (h .kind)) (h .kind))) (u .1))
   then-up (down {p} {c} h s d) no-ident =
       let q = then-node img accepted h in
       let adm = kid-admitted img p ((formed img accepted) .each p (q .0)) s in

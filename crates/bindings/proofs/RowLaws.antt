@@ -2,21 +2,21 @@
 use mathlib.Core.Path.{_≡_, refl, sym, ap, ap₂, subst, _∙_}
 use mathlib.Core.Bool.{Bool, true, false}
 use mathlib.Core.List.{List, [], _∷_, _++_, append-nil}
-use Prim.Native.Nat.{ℕ, zero, suc, _+_, _<_}
+use Prim.Native.Nat.{ℕ, zero, suc, _<_}
 use native.Mathlib.Omega.{arith}
 use borrow.Author.Tests.{eq-eqb, ne-eqb}
 use lib.Dec.{eqb}
 use lib.ListN.{getD}
-use Rattle.ast.specs.Image.{nodes, kindAt, field}
-use Rattle.ast.specs.Kinds.{Class, outer, inner, root, decl, signature, rule, enum, model, Inner, plain, term, ident, head, headMember, member, branch, match, case, ifVar, definedThen, arg, Field, name, optName, child, optChild, list, lists, cases, noChild, Kind, kindOf}
+use Rattle.ast.specs.Image.{kindAt, field}
+use Rattle.ast.specs.Kinds.{Class, outer, inner, decl, signature, enum, plain, term, ident, head, branch, case, Field, child, list, lists, cases, noChild, Kind, kindOf}
 use Rattle.ast.specs.Is.{Is, kindBy}
-use Rattle.ast.specs.Tree.{Tree, node, block, Trees, none, _◂_, swap, swaps, ordered, treeAt}
+use Rattle.ast.specs.Tree.{Tree, node, Trees, none, _◂_, swap, ordered, treeAt}
 use Rattle.ast.specs.Items.{items, blocks, below}
-use Rattle.ast.proofs.Row.{append-none, Child, FormedFields, append, next, shapes, kidsOf, allKids, nodeOf}
-use Rattle.ast.proofs.Shapes.{row as fields-of, tree-of, child-is, case-kids, caseKids, case-one, case-child, case-last, term-last, head-last, termKinds, headKinds}
+use Rattle.ast.proofs.Row.{append-none, Child, FormedFields, append, next, shapes, allKids, nodeOf}
+use Rattle.ast.proofs.Shapes.{row as fields-of, tree-of, child-is, case-kids, case-one, case-child, case-last, term-last, termKinds, headKinds}
 use Rattle.table.specs.Table.{Table, isKind, isVar}
 use Rattle.rows.specs.Rows.{Row, row}
-use Rattle.bindings.specs.Errors.{when, asked, atEntry, atExit, introducedRow, argRow, isCtor, appRows, listRows, argRows, definedRow, definedRows, patternRows, rowsOf, rowsSeq, rowsFirst, rowsDefined, declRows, declsRows}
+use Rattle.bindings.specs.Errors.{when, asked, atEntry, atExit, introducedRow, argRow, isCtor, appRows, listRows, argRows, definedRow, definedRows, patternRows, rowsOf, rowsSeq, rowsDefined, declRows, declsRows}
 use Rattle.bindings.specs.Checks.{inside, listed, declared, ofPattern, ofArgs}
 
 -- the kinds of the children of a Decl's cases

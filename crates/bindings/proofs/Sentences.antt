@@ -1,9 +1,9 @@
 -- Document 01's sentences on error rows: rows 1, 2 and 3 stand at exactly the places that it names, row 1 never at an app
 -- head; each node gets at most one row, so there are at most N.
-use mathlib.Core.Path.{_≡_, refl, sym, ap, ap₂, subst, _∙_}
-use mathlib.Core.Logic.{_⊎_, inl, inr, ⊎-elim, _↔_}
+use mathlib.Core.Path.{_≡_, refl, sym, ap, subst, _∙_}
+use mathlib.Core.Logic.{inl, inr, _↔_}
 use mathlib.Core.Bool.{Bool, true, false}
-use mathlib.Core.List.{List, [], _∷_, _++_, append-nil, List·Memᴰ, List·Memᴰ·head, List·Memᴰ·tail, Memᴰ·append-left, Memᴰ·append-right}
+use mathlib.Core.List.{List, List·Memᴰ, List·Memᴰ·head, Memᴰ·append-left, Memᴰ·append-right}
 use Prim.Native.Nat.{ℕ, zero, suc, _+_, _<_, _≤_}
 use native.Mathlib.Nat.{add-zero}
 use native.Mathlib.Omega.{arith}
@@ -14,18 +14,15 @@ use Rattle.ast.specs.Is.{Is}
 use Rattle.ast.specs.Tests.{verdict}
 use Rattle.ast.specs.Tree.{treeAt}
 use Rattle.ast.specs.Items.{items}
-use Rattle.ast.proofs.Row.{Child, FormedFields}
-use Rattle.ast.proofs.Shapes.{row as fields-of, child-is}
-use Rattle.table.specs.Table.{Table, isVar}
+use Rattle.table.specs.Table.{Table}
 use Rattle.rows.specs.Rows.{Row, row}
-use Rattle.bindings.specs.Errors.{when, asked, atEntry, argRow, argRows, definedRow, plainRows}
-use Rattle.bindings.specs.Checks.{inside, ofPattern, ofArgs}
+use Rattle.bindings.specs.Errors.{when, asked, argRow, argRows, plainRows}
 use Rattle.bindings.specs.Places.{Node, Introduced, NotNew, NotFresh}
 use Rattle.bindings.proofs.Leaves.{when-true, introduced-is}
-use Rattle.bindings.proofs.RowLaws.{rowsAt, plain-rows, term-rows, case-rows, defined-some, defined-ident, arg-ident, args-inside, ctor-ident}
+use Rattle.bindings.proofs.RowLaws.{plain-rows, term-rows, case-rows, defined-some, defined-ident, arg-ident, args-inside, ctor-ident}
 use Rattle.bindings.proofs.Epic.{epic-ident}
-use Rattle.bindings.proofs.Bodies.{atom-defined, applied, applied-yes, Applied}
-use Rattle.bindings.proofs.Fine.{Justified, Fine}
+use Rattle.bindings.proofs.Bodies.{atom-defined, applied, applied-yes}
+use Rattle.bindings.proofs.Fine.{Justified}
 use Rattle.bindings.proofs.Standing.{plain-all}
 use Rattle.bindings.proofs.Reached.{then-up, ups, stmtKind}
 

@@ -1,39 +1,38 @@
 -- Each plain row stands where document 01 says, and no node gets two.
-use mathlib.Core.Path.{_≡_, refl, sym, ap, ap₂, subst, _∙_}
-use mathlib.Core.Logic.{_⊎_, inl, inr, ⊎-elim}
+use mathlib.Core.Path.{_≡_, refl, sym, ap, subst, _∙_}
+use mathlib.Core.Logic.{inl, inr}
 use mathlib.Core.Bool.{Bool, true, false, _&&_, _||_, not}
-use mathlib.Core.List.{List, [], _∷_, _++_, append-nil, List·Memᴰ, List·Memᴰ·head, List·Memᴰ·tail}
-use Prim.Native.Nat.{ℕ, zero, suc, _+_, _-_, _<_, _≤_}
+use mathlib.Core.List.{List, [], _∷_, _++_, List·Memᴰ, List·Memᴰ·head, List·Memᴰ·tail}
+use Prim.Native.Nat.{ℕ, zero, suc, _+_, _<_, _≤_}
 use native.Mathlib.Nat.{add-zero}
 use native.Mathlib.Decide.{ℕ-discrete}
 use native.Mathlib.Omega.{arith}
 use lib.Dec.{T, eqb, eqb→eq, leb}
-use lib.ListN.{length, getD}
-use borrow.Author.Tests.{eq-eqb, ne-eqb, eqb-true, eqb-false}
+use lib.ListN.{getD}
+use borrow.Author.Tests.{ne-eqb, eqb-true, eqb-false}
 use Rattle.ast.specs.Image.{nodes, kindAt, startAt, opAt, field, last}
-use Rattle.ast.specs.Kinds.{Class, outer, inner, root, decl, rule, model, Inner, plain, term, ident, head, headMember, member, branch, match, case, ifVar, definedThen, arg, Field, name, optName, child, optChild, list, lists, cases, noChild, Kind, kinds, kindOf}
+use Rattle.ast.specs.Kinds.{Class, outer, inner, root, decl, rule, model, plain, term, ident, head, headMember, member, branch, match, case, ifVar, definedThen, arg, Field, name, optName, child, list, cases, noChild, Kind, kinds, kindOf}
 use Rattle.ast.specs.Is.{Is, kindBy}
 use Rattle.ast.specs.Rows.{Kid, one, many, numbers, kids, kidsTo, after, fieldsKids, fieldKids, fieldsAt}
 use Rattle.ast.specs.Tests.{is, times, verdict}
-use Rattle.ast.specs.Tree.{Tree, node, block, Trees, none, _◂_, swap, swaps, ordered, growAll, grow, classAt, treeAt}
-use Rattle.ast.specs.Items.{items, blocks, below}
+use Rattle.ast.specs.Tree.{Tree, node, block, Trees, none, _◂_, ordered, growAll, grow, classAt, treeAt}
+use Rattle.ast.specs.Items.{items, below}
 use Rattle.ast.proofs.Row.{append-none, Child, FormedFields, next, nodeOf, allKids, append}
 use Rattle.ast.proofs.Shapes.{row as fields-of, tree-of, child-is, case-child, case-kids, case-one, case-last, term-last, head-last, termKinds, headKinds}
 use Rattle.ast.proofs.Accepted.{formed, last-below}
 use Rattle.ast.proofs.Unfold.{All, nil, cons, All-split, treeAt-is}
 use Rattle.ast.proofs.Vars.{every-kind, Each}
 use Rattle.ast.proofs.Count.{is-same, times-append, parents}
-use Rattle.ast.proofs.Kids.{childKind, kid-admitted, kids-admitted, every-pair, all-mem}
+use Rattle.ast.proofs.Kids.{childKind, kid-admitted, every-pair}
 use Rattle.table.specs.Table.{Table, isVar, isKind}
-use Rattle.rows.specs.Rows.{Row, row}
-use Rattle.bindings.specs.Errors.{when, asked, atEntry, atExit, introduces, introducedRow, isCtor, argRow, argRows, definedRow, rowsOf, rowsSeq, declRows, plainRows}
+use Rattle.rows.specs.Rows.{Row}
+use Rattle.ordered.proofs.Bools.{and-both, not-or, is-true, false-true, not-equal, and-true, true-is}
+use Rattle.bindings.specs.Errors.{asked, atEntry, atExit, introduces, introducedRow, isCtor, argRow, argRows, definedRow, rowsOf, rowsSeq, declRows, plainRows}
 use Rattle.bindings.specs.Checks.{inside, listed, declared, ofPattern, ofArgs}
-use Rattle.bindings.specs.Places.{Node, IdentTerm, Stands, Determines, InThen, atom, down, Introduced, NotNew, NotFresh}
-use Rattle.bindings.proofs.Bools.{and-both, not-or, is-true, is-false, false-true, not-equal, and-true, true-is}
-use Rattle.bindings.proofs.RowLaws.{rowsAt, declKinds, kids-of, plain-rows, term-rows, ident-rows, member-rows, receiver-rows, head-ident, head-other, branch-rows, match-rows, case-rows, defined-none, defined-some, case-inside, args-inside, arg-none, arg-ident, defined-ident, defined-wild, ctor-ident, ctor-none, decl-child, decl-none, rule-rows, model-rows, module-rows}
-use Rattle.bindings.proofs.Quiet.{quiet}
+use Rattle.bindings.specs.Places.{Node, Stands, InThen, atom, down}
+use Rattle.bindings.proofs.RowLaws.{rowsAt, declKinds, kids-of, plain-rows, term-rows, ident-rows, member-rows, receiver-rows, head-ident, head-other, branch-rows, match-rows, case-rows, defined-none, defined-some, case-inside, arg-none, arg-ident, defined-ident, defined-wild, ctor-ident, ctor-none, decl-child, decl-none, rule-rows, model-rows, module-rows}
 use Rattle.bindings.proofs.Bodies.{atomKinds, case-pattern, no-pattern, applied, applied-yes, applied-no, Applied, case-whole, Defined, then-some}
-use Rattle.bindings.proofs.Fine.{Justified, Fine, FineAt, fine-as, fine-none, fine-no, fine-cons, fine-swap, fine-first, fine-rest, fine-block, at-node, at-row, items-fine, args-fine, decls-fine}
+use Rattle.bindings.proofs.Fine.{Fine, FineAt, fine-as, fine-none, fine-no, fine-cons, fine-swap, fine-first, fine-rest, fine-block, at-node, at-row, items-fine, args-fine, decls-fine}
 
 -- kinds -------------------------------------------------------------------------------------------------------------
 -- IdentTerm gives its row to the Term above it, and DefinedThenAtom's depends on the atom
@@ -243,7 +242,7 @@ module _ (img : List ℕ) (t : Table) (accepted : verdict img ≡ 0) where
   abbrev Claim : ℕ → Type 0
   Claim n = (a : Bool) → (a ≡ true → InThen img n) → T (ordinary (kindAt img n)) → (o : ℕ) → FineAt img t n (rowsAt img t a o n)
 
-  is-at : {k n : ℕ} → n < nodes img → kindAt img n ≡ k → Is img (kindOf k) n
+  pub is-at : {k n : ℕ} → n < nodes img → kindAt img n ≡ k → Is img (kindOf k) n
   is-at l e = record { accepted = accepted; below = l; kind = ap kindOf e }
 
   ordinary-at : (n : ℕ) {k : ℕ} → kindAt img n ≡ k → T (ordinary k) → T (ordinary (kindAt img n))

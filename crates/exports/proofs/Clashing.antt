@@ -19,17 +19,16 @@ use Rattle.ast.proofs.Accepted.{sized, last-below}
 use Rattle.ast.proofs.Unfold.{All, nil, cons, All-append}
 use Rattle.ast.proofs.Vars.{Everywhere, EverywhereAll, every-kind}
 use Rattle.table.specs.Sound.{isSymbol}
-use Rattle.table.proofs.Sounds.{named-no, symbol-out, symbol-rule, symbol-arg, symbol-low, symbol-decl}
+use Rattle.table.proofs.Sounds.{named-no, symbol-rule, symbol-arg, symbol-low, symbol-decl}
 use Rattle.scopes.specs.Walk.{twice}
 use Rattle.scopes.specs.Resolve.{testTable, walked}
 use Rattle.scopes.specs.Clash.{Clash, orElse, ruleNode, declared, declaredAll, earliest, clashFrom, modelClash, modelClashes, clashIn, firstClash}
 use Rattle.scopes.proofs.Clashes.{shows}
-use Rattle.scopes.proofs.Namings.{Fit, namedBy, enters, tree-fits}
+use Rattle.ordered.proofs.Bools.{true-not-false}
+use Rattle.ordered.proofs.Moves.{namedBy, enters}
+use Rattle.scopes.proofs.Namings.{symbol-below, Fit, tree-fits}
 use Rattle.scopes.proofs.Resolving.{table-accepted, walked-shown}
 use Rattle.exports.specs.Packed.{Fits}
-
-no-truth : {b : Bool} → b ≡ false → b ≡ true → ⊥
-no-truth p q = let z : _≡_ {A = ℕ} 0 1 = cc in omega arith
 
 -- the name of a symbol ---------------------------------------------------------------------------------------------------
 -- the row of a kind from 2 to 9, but 6, begins with a name: one computed check over the table of kinds
@@ -67,14 +66,6 @@ unfolding begins
 first-name k kd h m p t = first-is (kd .fields) (rw (le-leb 2 k h, le-leb k 9 m, ne-eqb k 6 p) at t)
 
 module _ (img : List ℕ) where
-  -- a symbol is a node
-  pub symbol-below : (n : ℕ) → isSymbol img n ≡ true → n < nodes img
-  symbol-below n s = go (decLt n (nodes img))
-    where
-      go : Dec (n < nodes img) → n < nodes img
-      go (yes l) = l
-      go (no l) = absurd (no-truth (symbol-out img n (omega arith)) s)
-
   -- its name is below S
   symbol-name : verdict img ≡ 0 → (n : ℕ) → isSymbol img n ≡ true → nameOf img n < names img
   unfolding fieldsAt kindOf kinds
@@ -84,16 +75,16 @@ module _ (img : List ℕ) where
       k = kindAt img n
 
       l : n < nodes img
-      l = symbol-below n s
+      l = symbol-below img n s
 
       fields-are : (m : ℕ) → k ≡ m → fieldsAt img n ≡ (kindOf m) .fields
       fields-are m e = ap (λ (x : ℕ). (kindOf x) .fields) e
 
       go : Dec (k ≡ 6) → Dec (k ≡ 10) → Dec (k ≡ 13) → Dec (k < 2) → nameOf img n < names img
-      go (yes e) q r t = opt-name-below img accepted n l _ (fields-are 6 e) (λ z. no-truth (symbol-rule img n l e ∙ named-no img n z) s)
-      go (no p) (yes e) r t = opt-name-below img accepted n l _ (fields-are 10 e) (λ z. no-truth (symbol-arg img n l e ∙ named-no img n z) s)
+      go (yes e) q r t = opt-name-below img accepted n l _ (fields-are 6 e) (λ z. true-not-false s (symbol-rule img n l e ∙ named-no img n z))
+      go (no p) (yes e) r t = opt-name-below img accepted n l _ (fields-are 10 e) (λ z. true-not-false s (symbol-arg img n l e ∙ named-no img n z))
       go (no p) (no q) (yes e) t = name-below img accepted n l _ (fields-are 13 e)
-      go (no p) (no q) (no r) (yes t) = absurd (no-truth (symbol-low img n l p q r t) s)
+      go (no p) (no q) (no r) (yes t) = absurd (true-not-false s (symbol-low img n l p q r t))
       go (no p) (no q) (no r) (no t) =
           let h : 2 ≤ k = omega arith in
           let m : k ≤ 9 = leb-true k 9 (sym (symbol-decl img n l p q r h) ∙ s) in
@@ -199,7 +190,7 @@ module _ (img : List ℕ) where
   twice-below tab x a b passes stops =
       let accepted = table-accepted img tab passes in
       let c = first-known accepted (record { name = x; first = a; second = b }) (sym (walked-shown img tab passes) ∙ ap shows stops) in
-      (subst (λ (y : ℕ). y < names img) (sym (c .name)) (symbol-name accepted b (c .second)), symbol-below a (c .first), symbol-below b (c .second))
+      (subst (λ (y : ℕ). y < names img) (sym (c .name)) (symbol-name accepted b (c .second)), symbol-below img a (c .first), symbol-below img b (c .second))
 
   pub twice-fits : (tab : List ℕ) (x a b : ℕ) → testTable img tab ≡ 0 → walked img tab ≡ twice x a b → Fits (twiceAnswer x a b)
   unfolding Fits

@@ -24,6 +24,8 @@ use Rattle.scopes.specs.Resolve.{testTable, walked, resolve}
 use Rattle.scopes.specs.Resolve as resolving
 use Rattle.scopes.specs.Rows.{testRows, Outcome}
 use Rattle.scopes.specs.Walk.{Listed, done, twice}
+use Rattle.ordered.proofs.Bools.{true-is}
+use Rattle.scopes.proofs.Namings.{symbol-below}
 use Rattle.scopes.proofs.Resolving.{Ways, refuses, stops, fills, ways, refuses-outcome, stops-outcome, fills-outcome, walked-ended, table-accepted}
 use Rattle.bindings.specs.Errors.{errorRows, testErrors, errorsOf, errors}
 use Rattle.bindings.proofs.Few as errors-few
@@ -38,7 +40,7 @@ use Rattle.occurrences.proofs.Resolving.{resolved}
 use Rattle.occurrences.proofs.RowLaws.{in-lefts, all-once}
 use Rattle.exports.specs.Packed.{Fits}
 use Rattle.exports.proofs.Refusals.{Low, first-low, need-low, run-low, verdict-low}
-use Rattle.exports.proofs.Clashing.{symbol-below, twice-fits}
+use Rattle.exports.proofs.Clashing.{twice-fits}
 
 -- refusals ---------------------------------------------------------------------------------------------------------------
 refused-fits : (r : ℕ) → Low r → Fits (refused r)
@@ -84,10 +86,6 @@ resolve-fits img tab = go (ways img tab)
         subst Fits (sym ((fills-outcome img tab e q h) .0)) (unfold Fits in (omega arith, omega arith))
 
 -- Lookup -----------------------------------------------------------------------------------------------------------------
-truth : (b : Bool) → T b → b ≡ true
-truth true t = refl
-truth false t = absurd t
-
 -- a symbol number is at most 9: one computed check of the table
 few : List ℕ → Bool
 few [] = true
@@ -115,7 +113,7 @@ module _ (img tab : List ℕ) (s : ℕ) (passes : testLookup img tab s ≡ 0) wh
       let sound = (both _ _ (both _ _ passes .1)) .0 in
       let rows = both _ _ (both _ _ (both _ _ (both _ _ (both _ _ (both _ _ sound .1) .1) .1) .1) .1) .1 in
       let each = subst (λ (i : ℕ). rowSound img tab i ≡ 0) (zero-add j) (ran (rowSound img tab) (symbolsIn img tab) 0 rows j h) in
-      symbol-below img (nodeAt (nodes img) tab j) (truth _ (needed 15 _ (both _ _ each .1)))
+      symbol-below img (nodeAt (nodes img) tab j) (true-is _ (needed 15 _ (both _ _ each .1)))
 
   accepted-by : verdict img ≡ 0
   unfolding testLookup

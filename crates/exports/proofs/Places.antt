@@ -1,10 +1,10 @@
 -- The place of a name's bytes fits 16 bits twice over.
-use mathlib.Core.Path.{_≡_, refl, sym, ap, _∙_, subst}
+use mathlib.Core.Path.{_≡_, refl, sym, _∙_, subst}
 use mathlib.Core.List.{List}
-use Prim.Native.Nat.{ℕ, _+_, _-_, _*_, _<_, _≤_}
+use Prim.Native.Nat.{ℕ, _<_}
 use native.Mathlib.Decide.{decLt}
 use native.Mathlib.Omega.{arith}
-use Rattle.ast.specs.Image.{names, bytesPlace, nameStart, nameEnd}
+use Rattle.ast.specs.Image.{names}
 use Rattle.ast.specs.Name.{namePlace}
 use Rattle.ast.specs.Tests.{verdict}
 use Rattle.ast.specs.declared.NamePlace.{NamePlace}

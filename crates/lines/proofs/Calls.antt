@@ -1,24 +1,23 @@
 -- The lines of what the calls hand back: rows that a call has left, its last answer, the whole report.
-use mathlib.Core.Path.{_≡_, refl, sym, ap, ap₂, _∙_}
+use mathlib.Core.Path.{_≡_, refl, sym, ap, _∙_}
 use mathlib.Core.List.{List, [], _∷_, _++_, append-nil, append-assoc}
-use Prim.Native.Nat.{ℕ, zero, suc, _+_, _*_, _-_, _<_, _≤_}
-use native.Mathlib.Nat.{add-zero}
+use Prim.Native.Nat.{ℕ, zero, suc, _+_, _*_, _≤_}
 use native.Mathlib.Omega.{arith}
 use lib.Dec.{leb→le}
-use lib.ListN.{length, take, drop, length-append, length-replicate}
+use lib.ListN.{length, take, drop, length-replicate}
 use lib.Seq.{length-take-le}
 use Rattle.ast.specs.Image.{nodes}
-use Rattle.ast.specs.Answer.{Answer, refused, twice as twiceAnswer, result, other}
+use Rattle.ast.specs.Answer.{Answer, refused, twice as twiceAnswer, result}
 use Rattle.ast.proofs.Accepted.{both, needed, sized}
 use Rattle.rows.specs.Rows.{Row, rowsLength, written}
 use Rattle.table.specs.State.{Exit}
 use Rattle.scopes.specs.Walk.{Listed, done, twice}
-use Rattle.scopes.specs.Resolve.{testTable, zeroed, walked, headed, resolve}
+use Rattle.scopes.specs.Resolve.{testTable, walked, headed}
 use Rattle.scopes.specs.Resolve as resolving
 use Rattle.scopes.specs.Rows.{testRows, Outcome}
 use Rattle.bindings.specs.Errors.{errorRows, testErrors, errorsOf, errors}
-use Rattle.occurrences.specs.Occurrences.{occurrenceRows, occurrencesOf, occurrences, once}
-use Rattle.lines.specs.Report.{Line, resolved, error, var, zipped, rowLines, errorLines, varLines, endLines, bodyLines, linesOf, report, lentTable, lentRows}
+use Rattle.occurrences.specs.Occurrences.{occurrenceRows, occurrencesOf, occurrences}
+use Rattle.lines.specs.Report.{Line, error, var, zipped, rowLines, errorLines, varLines, report, lentTable, lentRows}
 use Rattle.lines.specs.Bytes.{text, numbers, lineBytes, linesBytes, reportBytes}
 use Rattle.lines.specs.Out.{Out, outAt, write, rowsFrom, Wrote, Printed}
 use Rattle.lines.proofs.Whole.{wrote-none, wrote-next, wrote-whole, wrote-within, wrote-kept, zipped-rows, written-few}

@@ -1,18 +1,18 @@
 -- Input longer than any image has the report of its first 61,457 bytes.
-use mathlib.Core.Path.{_≡_, refl, sym, ap, ap₂, _∙_}
-use mathlib.Core.Bool.{Bool, true, false}
+use mathlib.Core.Path.{_≡_, refl, sym, ap, _∙_}
+use mathlib.Core.Bool.{Bool}
 use mathlib.Core.List.{List, [], _∷_}
-use Prim.Native.Nat.{ℕ, zero, suc, _+_, _*_, _-_, _<_, _≤_}
+use Prim.Native.Nat.{ℕ, zero, suc, _+_, _*_, _<_, _≤_}
 use native.Mathlib.Decide.{decLt}
 use native.Mathlib.Omega.{arith}
-use lib.Dec.{T, leb, ltb, eqb, leb→le}
-use lib.ListN.{length, getD, take, length-take}
+use lib.Dec.{leb, ltb, eqb, leb→le}
+use lib.ListN.{length, take}
 use lib.Seq.{getD-take, length-take-le, take-all}
 use borrow.Author.Tests.{le-leb, ne-eqb}
 use Rattle.ast.specs.Image.{word, nodes, operands, names, bytes}
 use Rattle.ast.specs.Tests.{_▸_, need, testSizes, verdict}
 use Rattle.ast.proofs.Words.{word-in}
-use Rattle.ast.proofs.Accepted.{needed, stop, both, passed, sizes-ok}
+use Rattle.ast.proofs.Accepted.{needed, stop, passed, sizes-ok}
 use Rattle.ast.specs.Answer.{refused}
 use Rattle.scopes.specs.Resolve.{Outcome, testTable, resolve}
 use Rattle.lines.specs.Report.{refusal, linesOf, report, lentTable}

@@ -1,16 +1,16 @@
 -- From bytes put one after another to the whole report: what fits a buffer stands there, and rows that a call has left are the rows of its answer.
 use mathlib.Core.Path.{_≡_, refl, sym, ap, ap₂, _∙_}
 use mathlib.Core.List.{List, [], _∷_, _++_, append-assoc}
-use Prim.Native.Nat.{ℕ, zero, suc, _+_, _*_, _-_, _<_, _≤_}
+use Prim.Native.Nat.{ℕ, zero, suc, _+_, _-_, _<_, _≤_}
 use native.Mathlib.Nat.{add-zero}
 use native.Mathlib.Omega.{arith}
-use lib.ListN.{length, getD, set, take, drop, replicate, length-append, length-drop, length-replicate}
+use lib.ListN.{length, getD, take, drop, replicate, length-append, length-drop, length-replicate}
 use lib.Seq.{drop-cons, set-append-seam, take-append-seam}
 use Rattle.rows.specs.Rows.{Row, lefts, rights, rowsLength, filled, written}
 use Rattle.rows.proofs.Appends.{lefts-length, rights-length}
-use Rattle.lines.specs.Report.{Line, error, var, zipped}
-use Rattle.lines.specs.Bytes.{text, numbers, lineBytes, linesBytes}
-use Rattle.lines.specs.Out.{Out, outAt, put, write, rowsFrom, Wrote}
+use Rattle.lines.specs.Report.{Line, zipped}
+use Rattle.lines.specs.Bytes.{numbers, lineBytes, linesBytes}
+use Rattle.lines.specs.Out.{Out, outAt, write, rowsFrom, Wrote}
 use Rattle.lines.proofs.Puts.{put-there, write-append}
 
 -- some bytes, then more

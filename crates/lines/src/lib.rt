@@ -99,8 +99,8 @@ fn put_rows(out: &mut [u8], at: usize, word: &[u8], rows: &[u32], n: u32, count:
     let mut place = at;
     let mut i = 0;
     while i < count {
-        let left = table::get(rows, 1 + ast::wide(i));
-        let right = table::get(rows, 1 + ast::wide(n) + ast::wide(i));
+        let left = rows::left_at(rows, i);
+        let right = rows::right_at(rows, n, i);
         place = put_text(out, place, word);
         place = put_two(out, place, left, right);
         i += 1;

@@ -1,56 +1,34 @@
 -- What the calls Occurrences and Once leave, by the ways that Resolve goes.
 use mathlib.Core.Path.{_≡_, refl, sym, ap, ap₂, subst, _∙_}
-use mathlib.Core.Bool.{Bool, true, false, _&&_}
 use mathlib.Core.List.{List}
-use mathlib.Core.Option.{Option, none as nothing, some}
-use Prim.Native.Nat.{ℕ, zero, suc, _+_, _*_, _<_, _≤_}
+use mathlib.Core.Option.{Option}
+use Prim.Native.Nat.{ℕ, zero, suc, _<_, _≤_}
 use native.Mathlib.Omega.{arith}
 use lib.Dec.{leb→le}
-use lib.ListN.{length, getD, set}
-use borrow.Author.Tests.{ltb-true, le-leb, lt-leb}
-use Rattle.ast.specs.Answer.{Answer, refused, twice as twiceAnswer, result, other}
+use lib.ListN.{length, set}
+use borrow.Author.Tests.{le-leb, lt-leb}
+use Rattle.ast.specs.Answer.{refused, twice as twiceAnswer, result}
 use Rattle.ast.specs.Image.{nodes, nameOf}
-use Rattle.ast.specs.Tests.{_▸_, need, verdict}
+use Rattle.ast.specs.Tests.{need, verdict}
 use Rattle.ast.proofs.Accepted.{both, skip, stop, needed}
-use Rattle.table.specs.Layout.{tableLength, exitPlace, scopePlace, nodePlace}
-use Rattle.table.specs.Table.{Table, climb, lookup, exitAt}
+use Rattle.table.specs.Layout.{nodePlace}
+use Rattle.table.specs.Table.{climb, lookup, exitAt}
 use Rattle.table.specs.State.{Exit}
-use Rattle.table.specs.Rows.{Sorted, nodeAt}
-use Rattle.table.specs.Sound.{isSymbol}
-use Rattle.rows.specs.Rows.{Row, row, rowsLength, written, cleared, putRows, Appended}
+use Rattle.rows.specs.Rows.{Row, rowsLength, written, cleared, putRows, Appended}
 use Rattle.rows.proofs.Appends.{written-is}
-use Rattle.scopes.specs.Walk.{Listed, done, twice}
+use Rattle.scopes.specs.Walk.{done, twice}
 use Rattle.scopes.specs.Resolve.{testTable, zeroed, walked, headed, resolve}
 use Rattle.scopes.specs.Resolve as resolving
 use Rattle.scopes.specs.Rows.{testRows, Outcome}
-use Rattle.scopes.proofs.Resolving.{Ended, Ways, refuses, stops, fills, ways, refuses-outcome, stops-outcome, fills-outcome, Fills, filled, walked-ended, table-accepted, headed-word, headed-length}
+use Rattle.scopes.proofs.Resolving.{Ways, refuses, stops, fills, ways, refuses-outcome, stops-outcome, fills-outcome, filled, walked-ended, table-accepted, headed-word}
+use Rattle.scopes.proofs.Namings.{symbol-below}
+use Rattle.scopes.proofs.Headed.{headed-lookup, headed-exit, headed-sorted}
 use Rattle.occurrences.specs.Sight.{Spot, moduleRules}
 use Rattle.occurrences.specs.Occurrences.{found, occurrenceRows, lone, rowsByRule, onceAnswer, occurrencesOf, occurrences, onceOf, once}
 use Rattle.occurrences.specs.Collect.{sought, Whole, Nodes}
-use Rattle.occurrences.proofs.Resolving.{tableOf, resolved, headed-lookup, headed-symbols}
+use Rattle.occurrences.proofs.Resolving.{resolved}
 use Rattle.occurrences.proofs.RowLaws.{rows-few}
 use Rattle.occurrences.proofs.CollectRules.{same-lists, same-all}
-
-and-left : (a b : Bool) → a && b ≡ true → a ≡ true
-and-left true b e = refl
-and-left false b e = e
-
-symbol-low : (img : List ℕ) (n : ℕ) → isSymbol img n ≡ true → n < nodes img
-unfolding isSymbol
-symbol-low img n e = ltb-true _ _ (and-left _ _ e)
-
--- the counts in front leave the symbol rows by rising scope
-headed-sorted : (img : List ℕ) (t : Table) → Sorted (nodes img) (t .symbols) (t .words) → Sorted (nodes img) (t .symbols) (headed img t)
-headed-sorted img t s =
-    record {
-      within = s .within;
-      long = (let a = headed-length img t in let b = s .long in omega arith);
-      rises = λ i j l k.
-          let a = headed-word img t (scopePlace (nodes img) i) (omega arith) in
-          let b = headed-word img t (scopePlace (nodes img) j) (omega arith) in
-          let c = s .rises i j l k in
-          omega arith;
-    }
 
 module _ (img tab : List ℕ) where
   -- a table that Resolve filled, with its counts: what the collectors ask, and where the walk ended
@@ -69,12 +47,9 @@ module _ (img tab : List ℕ) where
     same-found : (s : Spot) → found img (e .table) s ≡ found img (sought (headed img (e .table)) (e .table .symbols)) s
     unfolding lookup
     same-found s =
-        let ws = headed img (e .table) in
-        let n = exitAt img (e .table .words) (s .node) in
         let x = nameOf img (s .ident) in
-        sym (headed-lookup img tab e accepted is n x)
-        ∙ ap (λ (c : ℕ). climb img (suc n) ws c n x) (headed-symbols img tab e accepted is)
-        ∙ ap (λ (m : ℕ). climb img (suc m) ws (e .table .symbols) m x) (sym (headed-word img (e .table) (exitPlace (nodes img) (s .node)) (omega arith)))
+        headed-lookup img (e .table) (exitAt img (e .table .words) (s .node)) x
+        ∙ ap (λ (m : ℕ). climb img (suc m) (headed img (e .table)) (e .table .symbols) m x) (headed-exit img (e .table) (s .node))
 
     given-end : Given (e .table .symbols) (headed img (e .table))
     given-end =
@@ -89,7 +64,7 @@ module _ (img tab : List ℕ) where
             sorted = headed-sorted img (e .table) (d .kept .rising);
             few = subst (λ (l : List Row). length l ≤ nodes img) (same-all img (e .table) _ same-found) (rows-few img (e .table) accepted ((resolved img tab e accepted is) .walks));
           };
-          symbols = λ j l. let a = headed-word img (e .table) (nodePlace (nodes img) j) (omega arith) in let b = symbol-low img _ (d .good .symbols j l) in omega arith;
+          symbols = λ j l. let a = headed-word img (e .table) (nodePlace (nodes img) j) (omega arith) in let b = symbol-below img _ (d .good .symbols j l) in omega arith;
         }
 
   pub given : {k y : ℕ} {vs : List ℕ} → result k y ≡ (resolve img tab) .answer → vs ≡ (resolve img tab) .table → Given y vs

@@ -10,7 +10,7 @@ use native.Mathlib.Decide.{decLt}
 use lib.Dec.{eqb, leb, ltb}
 use lib.ListN.{length, length-append, getD, set, replicate, length-set, length-replicate, getD-replicate}
 use lib.Seq.{getD-set-same, getD-set-other, ext-getD}
-use borrow.Author.Tests.{eq-eqb, ne-eqb, eqb-true, eqb-false, le-leb, lt-leb}
+use borrow.Author.Tests.{eqb-true, eqb-false, le-leb, lt-leb}
 use Rattle.ast.specs.Image.{nodes, kindAt, field, nameOf}
 use Rattle.ast.specs.Kinds.{kindOf}
 use Rattle.ast.specs.Items.{items}
@@ -21,16 +21,15 @@ use Rattle.ast.proofs.Accepted.{sized}
 use Rattle.ast.proofs.Count.{is-same, is-other}
 use Rattle.ast.proofs.Runs.{sat, claimed-times}
 use Rattle.ast.proofs.Unfold.{All, nil, cons, All-map}
-use Rattle.table.specs.Layout.{nodePlace}
 use Rattle.table.specs.Table.{Table, rowIs, findFrom, climb, lookup, exitAt}
 use Rattle.table.specs.Rows.{nodeAt}
 use Rattle.rows.specs.Rows.{Row, row, rights, rowsLength, putRows, Appended}
 use Rattle.occurrences.specs.Sight.{Spot, spotsSeq}
 use Rattle.occurrences.specs.Occurrences.{found, listed, rowsFor, timesBound, loneIn, lone}
-use Rattle.occurrences.specs.Collect.{rowsAt, joined, listsIn, listsAt, Listing, ListingRun, readRows, under, uncounted, loneOf, Scratch, Searched}
+use Rattle.occurrences.specs.Collect.{rowsAt, joined, listsIn, listsAt, Listing, ListingRun, readRows, under, uncounted, recount, recounted, loneOf, Scratch, Searched}
 use Rattle.occurrences.specs.declared.Checked.{Checked}
 use Rattle.occurrences.specs.declared.Checked.the-variants.{Ok, Lone}
-use Rattle.occurrences.proofs.CollectRules.{joined-append, items-lists, items-done, items-all, RuleRun, ruleRun, DeclItem, declItem}
+use Rattle.occurrences.proofs.CollectRules.{joined-append, items-done, items-all, RuleRun, ruleRun, DeclItem, declItem}
 
 -- rows read back ----------------------------------------------------------------------------------------------------------
 -- a place that no row takes
@@ -83,6 +82,17 @@ read-end N ws c i h = ap (λ (x : ℕ). readRows N ws x i) (let z : c - i ≡ 0 
 pub read-all : (N : ℕ) (ws : List ℕ) (c : ℕ) → readRows N ws c 0 ≡ readRows N ws (c - 0) 0
 read-all N ws c = ap (λ (x : ℕ). readRows N ws x 0) (sym (sub-zero c))
 
+-- no binding counted, and one more
+recounted-none : (up : Bool) (us : List ℕ) → recounted up [] us ≡ us
+unfolding claimAll uncounted
+recounted-none true us = refl
+recounted-none false us = refl
+
+recounted-one : (up : Bool) (b : ℕ) (bs us : List ℕ) → recounted up (b ∷ bs) us ≡ recounted up bs (set us b (recount up (getD us b 0)))
+unfolding claimAll uncounted
+recounted-one true b bs us = refl
+recounted-one false b bs us = refl
+
 -- the loops -----------------------------------------------------------------------------------------------------------------
 module _ (N : ℕ) (ws : List ℕ) (c : ℕ) where
   -- the bindings of the rows that are left after i
@@ -97,47 +107,26 @@ module _ (N : ℕ) (ws : List ℕ) (c : ℕ) where
   unfolding rights
   bindings-end i h = ap rights (read-end N ws c i h)
 
-  pub record Counted (i : ℕ) (us vs : List ℕ) : Type 0 where
-    pub within : i ≤ c
-    pub long : length vs ≡ length us
-    pub left : claimAll (rights (readRows N ws c 0)) us ≡ claimAll (bindings i) vs
+  -- the counts us came to vs after i rows: what is left to count from there is the whole
+  module _ (up : Bool) where
+    pub record Counted (i : ℕ) (us vs : List ℕ) : Type 0 where
+      pub within : i ≤ c
+      pub long : length vs ≡ length us
+      pub left : recounted up (rights (readRows N ws c 0)) us ≡ recounted up (bindings i) vs
 
-  pub counted-start : (us : List ℕ) → Counted 0 us us
-  counted-start us = record { within = omega arith; long = refl; left = ap (λ (l : List Row). claimAll (rights l) us) (read-all N ws c) }
+    pub counted-start : (us : List ℕ) → Counted 0 us us
+    counted-start us = record { within = omega arith; long = refl; left = ap (λ (l : List Row). recounted up (rights l) us) (read-all N ws c) }
 
-  pub counted-next : {i b : ℕ} {us vs zs : List ℕ} → Counted i us vs → i < c → b ≡ getD ws (1 + N + i) 0 → zs ≡ set vs b (bump (getD vs b 0)) → Counted (i + 1) us zs
-  unfolding claimAll
-  counted-next {i} {b} {us} {vs} {zs} k h q e =
-      record {
-        within = omega arith;
-        long = ap length e ∙ length-set vs b (bump (getD vs b 0)) ∙ k .long;
-        left = k .left ∙ ap (λ (l : List ℕ). claimAll l vs) (bindings-more i h ∙ ap (λ (x : ℕ). x ∷ bindings (i + 1)) (sym q)) ∙ ap (claimAll (bindings (i + 1))) (sym e);
-      }
+    pub counted-next : {i b : ℕ} {us vs zs : List ℕ} → Counted i us vs → i < c → b ≡ getD ws (1 + N + i) 0 → zs ≡ set vs b (recount up (getD vs b 0)) → Counted (i + 1) us zs
+    counted-next {i} {b} {us} {vs} {zs} k h q e =
+        record {
+          within = omega arith;
+          long = ap length e ∙ length-set vs b (recount up (getD vs b 0)) ∙ k .long;
+          left = k .left ∙ ap (λ (l : List ℕ). recounted up l vs) (bindings-more i h ∙ ap (λ (x : ℕ). x ∷ bindings (i + 1)) (sym q)) ∙ recounted-one up b (bindings (i + 1)) vs ∙ ap (recounted up (bindings (i + 1))) (sym e);
+        }
 
-  pub counted-end : {i : ℕ} {us vs : List ℕ} → Counted i us vs → c ≤ i → vs ≡ claimAll (rights (readRows N ws c 0)) us
-  unfolding claimAll
-  counted-end {i} {us} {vs} k h = sym (k .left ∙ ap (λ (l : List ℕ). claimAll l vs) (bindings-end i h))
-
-  pub record Uncounted (i : ℕ) (us vs : List ℕ) : Type 0 where
-    pub within : i ≤ c
-    pub long : length vs ≡ length us
-    pub left : uncounted (rights (readRows N ws c 0)) us ≡ uncounted (bindings i) vs
-
-  pub uncounted-start : (us : List ℕ) → Uncounted 0 us us
-  uncounted-start us = record { within = omega arith; long = refl; left = ap (λ (l : List Row). uncounted (rights l) us) (read-all N ws c) }
-
-  pub uncounted-next : {i b : ℕ} {us vs zs : List ℕ} → Uncounted i us vs → i < c → b ≡ getD ws (1 + N + i) 0 → zs ≡ set vs b 0 → Uncounted (i + 1) us zs
-  unfolding uncounted
-  uncounted-next {i} {b} {us} {vs} {zs} k h q e =
-      record {
-        within = omega arith;
-        long = ap length e ∙ length-set vs b 0 ∙ k .long;
-        left = k .left ∙ ap (λ (l : List ℕ). uncounted l vs) (bindings-more i h ∙ ap (λ (x : ℕ). x ∷ bindings (i + 1)) (sym q)) ∙ ap (uncounted (bindings (i + 1))) (sym e);
-      }
-
-  pub uncounted-end : {i : ℕ} {us vs : List ℕ} → Uncounted i us vs → c ≤ i → vs ≡ uncounted (rights (readRows N ws c 0)) us
-  unfolding uncounted
-  uncounted-end {i} {us} {vs} k h = sym (k .left ∙ ap (λ (l : List ℕ). uncounted l vs) (bindings-end i h))
+    pub counted-end : {i : ℕ} {us vs : List ℕ} → Counted i us vs → c ≤ i → vs ≡ recounted up (rights (readRows N ws c 0)) us
+    counted-end {i} {us} {vs} k h = sym (k .left ∙ ap (λ (l : List ℕ). recounted up l vs) (bindings-end i h) ∙ recounted-none up vs)
 
   module _ (us : List ℕ) where
     -- what is left to search after i rows is the whole

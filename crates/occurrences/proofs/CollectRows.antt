@@ -1,30 +1,24 @@
 -- The rows of a tree by the form of its row: those of its children, one after another.
-use mathlib.Core.Path.{_≡_, refl, sym, ap, ap₂, _∙_}
+use mathlib.Core.Path.{_≡_, refl, sym, ap, _∙_}
 use mathlib.Core.Bool.{Bool, true, false}
 use mathlib.Core.List.{List, [], _∷_, _++_, append-nil}
 use mathlib.Core.Option.{Option, none as nothing, some}
 use Prim.Native.Nat.{ℕ, zero, suc, _+_, _-_, _<_, _≤_}
 use native.Mathlib.Omega.{arith}
-use native.Mathlib.Nat.{sub-zero, add-zero}
 use lib.Dec.{eqb}
 use lib.ListN.{getD}
-use Rattle.ast.specs.Image.{kindAt, field, nameOf}
-use Rattle.ast.specs.Kinds.{Class, outer, inner, root, decl, signature, rule, enum, model, plain, term, ident, head, headMember, member, branch, match, case, ifVar, definedThen, arg, Field, name, child, optChild, list, lists, cases, noChild, Kind, kindOf}
+use Rattle.ast.specs.Image.{kindAt, field}
+use Rattle.ast.specs.Kinds.{Class, outer, inner, plain, term, ident, head, headMember, member, branch, match, case, ifVar, definedThen, arg, Field, name, child, list, cases, noChild, Kind, kindOf}
 use Rattle.ast.specs.Tree.{Tree, node, block, Trees, none, _◂_, swap, ordered, treeAt}
 use Rattle.ast.specs.Items.{items, blocks, below}
 use Rattle.ast.specs.Is.{Is, kindBy}
-use Rattle.ast.proofs.Row.{append, append-none, kidsOf, allKids, shapes, next, nodeOf}
-use Rattle.ast.proofs.Shapes.{tree-of, one-more, items-more, caseKids, case-kids, case-one}
-use Rattle.table.specs.Table.{Table, climb, lookup, exitAt}
+use Rattle.ast.proofs.Row.{append, append-none, allKids, shapes, nodeOf}
+use Rattle.ast.proofs.Shapes.{tree-of, items-more, caseKids, case-kids, case-one}
+use Rattle.table.specs.Table.{Table}
 use Rattle.rows.specs.Rows.{Row, row}
 use Rattle.occurrences.specs.Sight.{Spot, spots, spotsSeq, spotsBack, spotsFirst}
 use Rattle.occurrences.specs.Occurrences.{listed, found, rowsFor}
-use Rattle.occurrences.specs.Collect.{sought, spot, identRows, rowsIn, rowsAt}
-
--- what lookup finds for a spot, by the code's own values
-pub found-is : (img ws : List ℕ) (y n i : ℕ) {x s : ℕ} {o : Option ℕ} → o ≡ climb img (suc s) ws y s x → s ≡ exitAt img ws n → x ≡ nameOf img i → o ≡ found img (sought ws y) (spot n i)
-unfolding lookup
-found-is img ws y n i p q r = p ∙ ap₂ (λ (s x : ℕ). climb img (suc s) ws y s x) q r
+use Rattle.occurrences.specs.Collect.{spot, identRows, rowsIn, rowsAt}
 
 -- any class but an IdentTerm's: its spots do not depend on the node above
 unfoldable pub bare : Class → Bool

@@ -1,32 +1,32 @@
 -- The rows of the rules of declarations: what names mean outside does not matter, and what each kind of declaration adds.
 use mathlib.Core.Path.{_≡_, refl, sym, ap, ap₂, subst, _∙_}
-use mathlib.Core.Bool.{Bool, true, false}
-use mathlib.Core.Logic.{⊎-elim}
+use mathlib.Core.Bool.{false}
 use mathlib.Core.List.{List, [], _∷_, _++_, append-assoc, append-nil}
-use mathlib.Core.Option.{Option, none as nothing, some}
+use mathlib.Core.Option.{Option, none as nothing}
 use Prim.Native.Nat.{ℕ, zero, suc, _+_, _-_, _<_, _≤_}
 use native.Mathlib.Omega.{arith}
-use native.Mathlib.Nat.{sub-zero, add-zero, eq-or-lt-of-le}
+use native.Mathlib.Nat.{sub-zero, add-zero}
 use lib.Dec.{eqb}
 use lib.ListN.{length, getD, length-append}
-use Rattle.ast.specs.Image.{nodes, kindAt, field, last}
-use Rattle.ast.specs.Kinds.{Class, outer, inner, root, decl, signature, rule, enum, model, plain, term, ident, head, headMember, member, branch, match, case, ifVar, definedThen, arg, Field, list, cases, noChild, Kind, kindOf}
+use Rattle.ast.specs.Image.{nodes, field, last}
+use Rattle.ast.specs.Kinds.{outer, inner, root, decl, signature, rule, enum, model, Field, noChild, Kind, kindOf}
 use Rattle.ast.specs.Tree.{Tree, node, block, Trees, none, _◂_, ordered, treeAt}
 use Rattle.ast.specs.Items.{items, below}
 use Rattle.ast.specs.Is.{Is, kindBy}
 use Rattle.ast.specs.Tests.{verdict}
 use Rattle.ast.proofs.Row.{append, append-none, Child, Items, FormedFields, allKids, next, ends, nodeOf}
-use Rattle.ast.proofs.Shapes.{tree-of, formed-row, row, child-is, items-more, case-kids, case-one, case-child, case-last}
-use Rattle.ast.proofs.Accepted.{sized, formed, last-below}
-use Rattle.ast.proofs.Formed.{Formed}
+use Rattle.ast.proofs.Shapes.{tree-of, formed-row, row, child-is, case-kids, case-one, case-child, case-last}
+use Rattle.ast.proofs.Accepted.{sized}
 use Rattle.table.specs.Table.{Table}
 use Rattle.table.specs.Rows.{Sorted}
-use Rattle.rows.specs.Rows.{Row, row as rowOf, Appended}
-use Rattle.occurrences.specs.Sight.{Spot, spots, spotsSeq, spotsBack, spotsFirst, ruleSpots, orElse, Rule, saysAll, rules, rulesAll, rulesOf, moduleRules}
+use Rattle.rows.specs.Rows.{Row, Appended}
+use Rattle.scopes.proofs.Rooting.{root-is}
+use Rattle.rows.proofs.Parts.{Left, left-start, left-next, left-end}
+use Rattle.occurrences.specs.Sight.{Spot, spots, spotsSeq, ruleSpots, Rule, rules, rulesAll, rulesOf, moduleRules}
 use Rattle.occurrences.specs.Occurrences.{found, listed, rowsFor, ruleRows, allRows, occurrenceRows, rowsByRule}
-use Rattle.occurrences.specs.Collect.{sought, rowsIn, rowsAt, joined, listsIn, listsAt, Room, Run, Listing, ListingRun, Whole}
+use Rattle.occurrences.specs.Collect.{rowsAt, joined, listsIn, listsAt, Run, Listing, ListingRun, Whole}
 use Rattle.occurrences.proofs.CollectRows.{bare, rows-append, owner}
-use Rattle.occurrences.proofs.CollectSteps.{Left, left-start, left-next, left-end, left-count}
+use Rattle.occurrences.proofs.CollectSteps.{left-count}
 
 pub joined-append : (a b : List (List Row)) → joined (a ++ b) ≡ joined a ++ joined b
 unfolding joined
@@ -258,7 +258,7 @@ module _ (img : List ℕ) (t : Table) where
   -- the loop over a list of declarations
   pub decls-start : {n j count c : ℕ} {ws : List ℕ} → ListingRun img t n j count c
       → Left (nodes img) (joined (listsAt img t n count j)) (joined (listsAt img t n (count - 0) (j + 0))) c ws c ws
-  decls-start {n} {j} {count} p = left-start (ap joined (items-all n j count)) (let f = p .few in let z = (sized img (p .accepted)) .fewNodes in omega arith)
+  decls-start {n} {j} {count} p = left-start _ _ (ap joined (items-all n j count)) (let f = p .few in let z = (sized img (p .accepted)) .fewNodes in omega arith)
 
   pub decls-item : {n j count i x c d : ℕ} {ws us : List ℕ} → ListingRun img t n j count c → i < count → x ≡ field img n (j + i)
       → Left (nodes img) (joined (listsAt img t n count j)) (joined (listsAt img t n (count - i) (j + i))) c ws d us → DeclItem n j count i x d
@@ -276,13 +276,10 @@ module _ (img : List ℕ) (t : Table) where
   decls-end n j {count} {i} h l = left-end h (ap joined (items-done n j count i l))
 
   -- the module --------------------------------------------------------------------------------------------------------------
-  root-is : verdict img ≡ 0 → Is img (kindOf 0) (last img)
-  root-is e = record { accepted = e; below = last-below img e; kind = ap kindOf ((formed img e) .root) }
-
   module-lists : verdict img ≡ 0 → rowsByRule img t (moduleRules img) ≡ listsAt img t (last img) (field img (last img) 0) 1
   unfolding moduleRules rulesOf listsAt nodeOf kindOf allKids ordered
   module-lists e =
-      ap (λ (u : Tree). rowsByRule img t (rulesOf img u)) (tree-of img (root-is e))
+      ap (λ (u : Tree). rowsByRule img t (rulesOf img u)) (tree-of img (root-is img e))
       ∙ free-all img t _ unmeant (append (items img (last img) (field img (last img) 0) 1) none)
       ∙ ap (λ (us : Trees). rowsByRule img t (rulesAll img unmeant us)) (append-none (items img (last img) (field img (last img) 0) 1))
 
@@ -298,7 +295,7 @@ module _ (img : List ℕ) (t : Table) where
       (record { run = runOf is ((row img is) .0) ((formed-row img is) .short) (p .sorted) (subst (λ (l : List Row). 0 + length l ≤ nodes img) w (let f = p .few in omega arith)); by-rule = b; whole = w }))
     where
       is : Is img (kindOf 0) (last img)
-      is = root-is (p .accepted)
+      is = root-is img (p .accepted)
 
       b : rowsByRule img t (moduleRules img) ≡ listsAt img t (last img) (field img (last img) 0) 1
       b = module-lists (p .accepted)

@@ -1,58 +1,36 @@
 -- What a collector's calls ask and what they give together, by the form of the row.
 use mathlib.Core.Path.{_≡_, refl, sym, ap, ap₂, subst, _∙_}
-use mathlib.Core.Bool.{Bool, true, false}
+use mathlib.Core.Bool.{true, false}
 use mathlib.Core.Logic.{⊎-elim}
 use mathlib.Core.List.{List, [], _∷_, _++_}
 use mathlib.Core.Option.{some}
-use Prim.Native.Nat.{ℕ, zero, suc, _+_, _-_, _<_, _≤_, _^_}
+use Prim.Native.Nat.{ℕ, suc, _+_, _-_, _<_, _≤_, _^_}
 use native.Mathlib.Omega.{arith}
-use native.Mathlib.Nat.{sub-zero, add-zero, le-trans, eq-or-lt-of-le}
+use native.Mathlib.Nat.{sub-zero, add-zero, eq-or-lt-of-le}
 use lib.Dec.{eqb}
 use lib.ListN.{length, getD, length-append}
 use Rattle.ast.specs.Image.{nodes, kindAt, field}
-use Rattle.ast.specs.Kinds.{Class, inner, plain, term, head, headMember, member, match, case, Field, name, child, optChild, list, lists, cases, noChild, Kind, kindOf}
+use Rattle.ast.specs.Kinds.{Class, inner, plain, term, head, headMember, member, match, case, name, child, list, cases, noChild, Kind, kindOf}
 use Rattle.ast.specs.Tree.{Trees, ordered, treeAt}
 use Rattle.ast.specs.Is.{Is, kindBy}
-use Rattle.ast.proofs.Row.{Child, Items, FormedBlocks, FormedFields, FormedRow, next, ends, blocksEnd}
+use Rattle.ast.proofs.Row.{Child, Items, FormedFields, next, ends}
 use Rattle.ast.proofs.Shapes.{termKinds, headKinds, one-more, formed-row, row, child-is, case-child, case-last}
 use Rattle.table.specs.Table.{Table}
 use Rattle.rows.specs.Rows.{Row, row as rowOf, putRows, Appended}
-use Rattle.rows.proofs.Appends.{appended-none, appended-next}
-use Rattle.occurrences.specs.Sight.{spots, spotsFirst}
+use Rattle.rows.proofs.Parts.{appended-as as appended-to, Left, left-start, left-next, left-end}
+use Rattle.ordered.proofs.Blocks.{BlocksFrom, blocks-from, blocks-place as place-of-blocks, NextBlock, next-block}
+use Rattle.occurrences.specs.Sight.{spots}
 use Rattle.occurrences.specs.Occurrences.{found, rowsFor}
 use Rattle.occurrences.specs.Collect.{spot, identRows, rowsIn, rowsAt, Room, Ready, Run}
-use Rattle.occurrences.proofs.CollectRows.{bare, threads, ident-var, ident-rows, owner, one-rows, two-rows, leaf-rows, first-rows, ifVar-rows, undefined-rows, defined-rows, case-rows, case-none, list-rows, items-rows, items-none, child-list-rows, blockRows, branch-rows, block-more, block-none}
+use Rattle.occurrences.proofs.CollectRows.{bare, threads, ident-var, ident-rows, owner, one-rows, two-rows, leaf-rows, first-rows, ifVar-rows, undefined-rows, defined-rows, case-rows, case-none, list-rows, items-rows, child-list-rows, blockRows, branch-rows, block-more, block-none}
 
+-- rows that are equal to what was appended
 pub appended-as : {N c r : ℕ} {l k : List Row} {ws vs : List ℕ} → l ≡ k → Appended N k c ws r vs → Appended N l c ws r vs
-appended-as {N} {c} {r} {ws = ws} {vs} e a = subst (λ (l : List Row). Appended N l c ws r vs) (sym e) a
-
--- nothing appended
-pub appended-nothing : {N c : ℕ} {l : List Row} {ws : List ℕ} → l ≡ [] → Appended N l c ws c ws
-appended-nothing e = appended-as e (appended-none _ _ _)
-
--- a loop that appends: it stands at d and us, and whatever appends what is left from there appends the whole
-pub record Left (N : ℕ) (whole left : List Row) (c : ℕ) (ws : List ℕ) (d : ℕ) (us : List ℕ) : Type 0 where
-  pub fits : d + length left < 2 ^ 32
-  pub long : length us ≡ length ws
-  pub then : (r : ℕ) (vs : List ℕ) → Appended N left d us r vs → Appended N whole c ws r vs
-
-pub left-start : {N c : ℕ} {l k : List Row} {ws : List ℕ} → l ≡ k → c + length l < 2 ^ 32 → Left N l k c ws c ws
-left-start {c = c} e h = record { fits = subst (λ (l : List Row). c + length l < 2 ^ 32) e h; long = refl; then = λ r vs a. appended-as e a }
-
-pub left-next : {N c d e : ℕ} {w k l m : List Row} {ws us vs : List ℕ} → Left N w k c ws d us → k ≡ l ++ m → Appended N l d us e vs → length vs ≡ length us → Left N w m c ws e vs
-left-next {d = d} {l = l} {m} h q a long =
-    record {
-      fits = (let f = subst (λ (x : List Row). d + length x < 2 ^ 32) q (h .fits) in let g = length-append l m in let i = a .count in omega arith);
-      long = long ∙ h .long;
-      then = λ r vs b. h .then r vs (appended-as q (appended-next a b));
-    }
-
-pub left-end : {N c d : ℕ} {w k : List Row} {ws us : List ℕ} → Left N w k c ws d us → k ≡ [] → Appended N w c ws d us
-left-end h e = h .then _ _ (appended-nothing e)
+appended-as e a = appended-to (sym e) a
 
 -- what stands and what is left is the whole
 pub left-count : {N c d : ℕ} {w k : List Row} {ws us : List ℕ} → Left N w k c ws d us → d + length k ≡ c + length w
-left-count {N} {d = d} {k = k} {us = us} h = (h .then (d + length k) (putRows N d k us) (record { count = refl; words = refl })) .count
+left-count {N} {d = d} {k = k} {us = us} h = (h .so (d + length k) (putRows N d k us) (record { count = refl; words = refl })) .count
 
 -- the kinds of the children of a type expression's cases, of a predicate expression's, of atoms' and of a statement's
 abbrev typeKinds : List ℕ
@@ -344,29 +322,19 @@ module _ (img : List ℕ) (t : Table) where
 
   -- a loop over the blocks of a branch: after i of them it stands at place j
   pub record BlocksLeft (N n count i j c : ℕ) (ws : List ℕ) (d : ℕ) (us : List ℕ) : Type 0 where
-    pub within : i ≤ count
-    pub formed : FormedBlocks img n 36 (count - i) j
-    pub short : blocksEnd img n (count - i) j ≤ 8192
+    pub from : BlocksFrom img n count i j
     pub left : Left N (rowsIn img t n) (blockRows img t n (count - i) j) c ws d us
 
   pub blocks-start : {N n count c : ℕ} {ws : List ℕ} → Ready img t (kindOf 39) n c → count ≡ field img n 0 → BlocksLeft N n count 0 1 c ws c ws
-  unfolding FormedFields ends next kindOf
   blocks-start {N} {n} {count} {c} {ws} p q =
       let e : field img n 0 ≡ count - 0 = omega arith in
       record {
-        within = omega arith;
-        formed = subst (λ (x : ℕ). FormedBlocks img n 36 x 1) e ((row img (p .is)) .0);
-        short = subst (λ (x : ℕ). blocksEnd img n x 1 ≤ 8192) e ((formed-row img (p .is)) .short);
-        left = left-start (branch-rows img t (p .is) ∙ ap (λ (x : ℕ). blockRows img t n x 1) e) (p .room .fits);
+        from = blocks-from img (p .is) q;
+        left = left-start _ _ (branch-rows img t (p .is) ∙ ap (λ (x : ℕ). blockRows img t n x 1) e) (p .room .fits);
       }
 
-  ends-grows : (n c j : ℕ) → j ≤ blocksEnd img n c j
-  unfolding blocksEnd
-  ends-grows n zero j = omega arith
-  ends-grows n (suc c) j = let h = ends-grows n c (j + 1 + field img n j) in omega arith
-
   pub blocks-place : {N n count i j c d : ℕ} {ws us : List ℕ} → BlocksLeft N n count i j c ws d us → j ≤ 8192
-  blocks-place {n = n} {count} {i} {j} b = le-trans (ends-grows n (count - i) j) (b .short)
+  blocks-place b = place-of-blocks img (b .from)
 
   pub record Block (N n count i j s c : ℕ) (ws : List ℕ) (d : ℕ) (us : List ℕ) : Type 0 where
     pub run : Run img t 36 n (j + 1) s d
@@ -374,13 +342,12 @@ module _ (img : List ℕ) (t : Table) where
     pub more : {e : ℕ} {vs : List ℕ} → Appended N (rowsAt img t n s (j + 1)) d us e vs → length vs ≡ length us → BlocksLeft N n count (i + 1) (j + 1 + s) c ws e vs
 
   pub blockOf : {N n count i j s c b d : ℕ} {ws us : List ℕ} → Ready img t (kindOf 39) n b → BlocksLeft N n count i j c ws d us → i < count → s ≡ field img n j → Block N n count i j s c ws d us
-  unfolding FormedBlocks blocksEnd
   blockOf {N} {n} {count} {i} {j} {s} {c} {d = d} {ws} {us} p b l q =
       subst (λ (x : ℕ). Block N n count i j x c ws d us) (sym q)
       (record {
-        run = runOf (p .is) (hs .0) fits (room-first _ _ (room-as m (record { sorted = p .room .sorted; fits = b .left .fits })));
-        fits = fits;
-        more = λ a long. record { within = omega arith; formed = hs .1; short = sh; left = left-next (b .left) m a long };
+        run = runOf (p .is) (k .items) (k .fits) (room-first _ _ (room-as m (record { sorted = p .room .sorted; fits = b .left .fits })));
+        fits = k .fits;
+        more = λ a long. record { from = k .from; left = left-next (b .left) m a long };
       })
     where
       z : ℕ
@@ -389,14 +356,8 @@ module _ (img : List ℕ) (t : Table) where
       rest : ℕ
       rest = count - (i + 1)
 
-      hs : FormedBlocks img n 36 (suc rest) j
-      hs = subst (λ (x : ℕ). FormedBlocks img n 36 x j) (one-more l) (b .formed)
-
-      sh : blocksEnd img n rest (j + 1 + z) ≤ 8192
-      sh = subst (λ (x : ℕ). blocksEnd img n x j ≤ 8192) (one-more l) (b .short)
-
-      fits : j + 1 + z ≤ 8192
-      fits = le-trans (ends-grows n rest (j + 1 + z)) sh
+      k : NextBlock img n count i j
+      k = next-block img (b .from) l
 
       m : blockRows img t n (count - i) j ≡ rowsAt img t n z (j + 1) ++ blockRows img t n rest (j + 1 + z)
       m = ap (λ (x : ℕ). blockRows img t n x j) (one-more l) ∙ block-more img t n rest j

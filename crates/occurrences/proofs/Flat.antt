@@ -8,6 +8,7 @@ use mathlib.Core.Option.{Option, some}
 use Prim.Native.Nat.{ℕ, suc, _≤_, _<_}
 use native.Mathlib.Decide.{ℕ-discrete, decLt}
 use native.Mathlib.Omega.{arith}
+use Rattle.ordered.proofs.Bools.{true-not-false}
 use Rattle.occurrences.specs.Sight.{Sort, ordinary, declared, applied, defined, Place, In, Within, Sees, Names, Naming, Fresh, FreshSort, NamedBelow, Occurrence, NoneFresh, Same}
 
 -- lists of numbers
@@ -32,9 +33,6 @@ decWithin (m ∷ a) b = go (decIn m b) (decWithin a b)
 pub decNot : (b : Bool) → (b ≡ true) ⊎ (b ≡ false)
 decNot true = inl refl
 decNot false = inr refl
-
-pub true-not-false : {b : Bool} → b ≡ true → b ≡ false → ⊥
-true-not-false p q = let z : _≡_ {A = ℕ} 0 1 = cc in omega arith
 
 unfoldable pub pick : {A : Type 0} → Dec A → Option ℕ → Option ℕ → Option ℕ
 pick (yes a) u v = u

@@ -14,9 +14,11 @@ use Rattle.ast.specs.Image.{nodes, nameOf, kindAt}
 use Rattle.ordered.specs.Walk.{Role, defines, walkIdent}
 use Rattle.table.specs.State.{Exit, introduce}
 use Rattle.table.specs.Table.{Table, lookup, isKind, mark, exitAt}
+use Rattle.ordered.specs.Kept.{Kept as KeptTable}
+use Rattle.ordered.proofs.Kept.{mark-kept}
 use Rattle.occurrences.specs.Sight.{Sort, defined, Place, add, opened, In, Within, orElse, own}
 use Rattle.occurrences.proofs.Flat.{limitOf, Sorted, Chain}
-use Rattle.occurrences.proofs.Frame.{Sane, Later, later-next, mark-lookup, mark-exit, mark-exit-same, mark-sane, new-lookup, new-lookup-old, new-exit, new-sane}
+use Rattle.occurrences.proofs.Frame.{Bounds, Later, later-next, mark-lookup, mark-exit, mark-exit-same, new-lookup, new-lookup-old, new-exit, new-kept}
 use Rattle.occurrences.proofs.Keep.{bound, adds, hits, bound-hit, bound-miss, bound-cong, Choice, choice, choice-defined, New, Kept, kept, keptPlace}
 use Rattle.occurrences.proofs.Members.{in-left, in-right, Distinct, distinct-left, distinct-right, distinct-apart}
 use Rattle.occurrences.proofs.Steps.{State, Simple, occur, declare, apply, role, sort, marking, placing, opening, closing, Steps, stay, next, marks, places, fixes, drops}
@@ -32,7 +34,7 @@ module _ (img : List ℕ) (outer : ℕ → Option ℕ) where
       ((x : ℕ) → lookup img t (exitAt img (t .words) (p .node)) x ≡ bound img outer (suc (p .at)) ps (p .around) x)
 
   pub record Good (b : List ℕ) (st : State) : Type 0 where
-    pub sane : Sane img (st .now .table)
+    pub sane : KeptTable img (st .now .table)
     pub inside : st .now .scope < st .now .table .scopes
     pub reads : (x : ℕ) → lookup img (st .now .table) (st .now .scope) x ≡ bound img outer (st .met .next) (st .met .places) b x
     pub sorted : Sorted (nameOf img) (isKind img 13) (isKind img 5) outer (st .met .places)
@@ -64,7 +66,7 @@ module _ (img : List ℕ) (outer : ℕ → Option ℕ) where
     asks = bound img outer (limitOf σ (st .met .next)) ps b (nameOf img i)
 
     record Did (e : Exit) : Type 0 where
-      sane : Sane img (e .table)
+      sane : KeptTable img (e .table)
       inside : e .scope < e .table .scopes
       rise : st .now .table .scopes ≤ e .table .scopes
       old : (s x : ℕ) → s < st .now .table .scopes → lookup img (e .table) s x ≡ lookup img (st .now .table) s x
@@ -79,9 +81,6 @@ module _ (img : List ℕ) (outer : ℕ → Option ℕ) where
         ∙ sym (bound-limit ps (st .met .next) (g .low) (suc (st .met .next)) (omega arith) b x)
         ∙ sym (bound-miss img outer (suc (st .met .next)) here ps b x f)
 
-    abbrev Fits : Exit → Type 0
-    Fits e = (e .table .scopes ≤ nodes img) × (e .table .symbols ≤ nodes img)
-
     did-keep : (adds img outer σ asks → ⊥) → Did (st .now)
     did-keep f =
         record {
@@ -93,13 +92,13 @@ module _ (img : List ℕ) (outer : ℕ → Option ℕ) where
           reads = λ x. passed x (λ h. f (subst (λ y. adds img outer σ (bound img outer (limitOf σ (st .met .next)) ps b y)) (sym (h .1 .0)) (h .1 .1)));
         }
 
-    did-introduce : adds img outer σ asks → Fits (introduce img i (st .now)) → Did (introduce img i (st .now))
+    did-introduce : adds img outer σ asks → Bounds img ((introduce img i (st .now)) .table) → Did (introduce img i (st .now))
     unfolding introduce own
     did-introduce a l =
         let l₀ = l .0 in
         let l₁ = l .1 in
         record {
-          sane = new-sane img i (st .now) (g .sane) (g .inside) (omega arith) (omega arith);
+          sane = new-kept img i (st .now) (g .sane) (g .inside) (omega arith) (omega arith);
           inside = omega arith;
           rise = omega arith;
           old = λ s x k. new-lookup-old img i (st .now) (g .sane) (g .inside) (omega arith) (omega arith) s x k;
@@ -118,8 +117,8 @@ module _ (img : List ℕ) (outer : ℕ → Option ℕ) where
             ((omega arith, λ m j. j), (e, subst (λ y. adds img outer σ (bound img outer (limitOf σ (st .met .next)) ps b y)) e a)))
         go x (no f) = ap (pickBy x) (ne-eqb (nameOf img i) x f) ∙ passed x (λ h. f (h .1 .0))
 
-    did : Choice img outer σ r i (st .now) asks → Fits (walkIdent img r i (st .now)) → Did (walkIdent img r i (st .now))
-    did (inl h) l = subst Did (sym (h .0)) (did-introduce (h .1) (subst Fits (h .0) l))
+    did : Choice img outer σ r i (st .now) asks → Bounds img ((walkIdent img r i (st .now)) .table) → Did (walkIdent img r i (st .now))
+    did (inl h) l = subst Did (sym (h .0)) (did-introduce (h .1) (subst (λ (e : Exit). Bounds img (e .table)) (h .0) l))
     did (inr h) l = subst Did (sym (h .0)) (did-keep (h .1))
 
     abbrev result : State
@@ -130,11 +129,11 @@ module _ (img : List ℕ) (outer : ℕ → Option ℕ) where
 
     placed : Choice img outer σ r i (st .now) asks → kindAt img i ≡ 13 → i < nodes img → n < nodes img
         → ((p : Place) → In p ps → (In (p .node) (i ∷ n ∷ []) → ⊥) × (In (p .ident) (i ∷ n ∷ []) → ⊥))
-        → limitOf σ (st .met .next) ≤ st .met .next → Fits exit → Good b result × Later img (st .now .table) (result .now .table) (i ∷ n ∷ [])
+        → limitOf σ (st .met .next) ≤ st .met .next → Bounds img (exit .table) → Good b result × Later img (st .now .table) (result .now .table) (i ∷ n ∷ [])
     unfolding add mark isKind
     placed c kind i<N n<N clear limited fits = (
       record {
-        sane = mark-sane img n (st .now .scope) (exit .scope) t₂ n<N (mark-sane img i (st .now .scope) (exit .scope) (exit .table) i<N (d .sane));
+        sane = mark-kept img n (st .now .scope) (exit .scope) t₂ n<N (mark-kept img i (st .now .scope) (exit .scope) (exit .table) i<N (d .sane));
         inside = d .inside;
         reads = λ x. same (exit .scope) x ∙ d .reads x;
         sorted = ((λ q j. g .low q j), limited, ap (λ k. eqb k 13) kind, g .sorted);
@@ -184,7 +183,7 @@ module _ (img : List ℕ) (outer : ℕ → Option ℕ) where
         older o k q s (inl e) (inr h) l m w v = let u = g .low s h in let e′ = at-eq e in absurd (omega arith)
 
         exitHere : exitAt img (result .now .table .words) n ≡ exit .scope
-        exitHere = mark-exit-same img n (st .now .scope) (exit .scope) t₂ n<N (mark-sane img i (st .now .scope) (exit .scope) (exit .table) i<N (d .sane))
+        exitHere = mark-exit-same img n (st .now .scope) (exit .scope) t₂ n<N (mark-kept img i (st .now .scope) (exit .scope) (exit .table) i<N (d .sane))
 
         seenHere : ExitOf (result .now .table) (here ∷ ps) here
         seenHere =
@@ -216,9 +215,6 @@ module _ (img : List ℕ) (outer : ℕ → Option ℕ) where
   abbrev pub Small : List ℕ → Type 0
   Small ns = (n : ℕ) → In n ns → n < nodes img
 
-  abbrev pub Bounds : Table → Type 0
-  Bounds t = (t .scopes ≤ nodes img) × (t .symbols ≤ nodes img)
-
   clear-left : (ns ms : List ℕ) (st : State) → Clear st (ns ++ ms) → Clear st ns
   clear-left ns ms st f p j = (λ i. (f p j) .0 (in-left (p .node) ns ms i), λ i. (f p j) .1 (in-left (p .ident) ns ms i))
 
@@ -239,7 +235,7 @@ module _ (img : List ℕ) (outer : ℕ → Option ℕ) where
   unfolding mark
   good-marks b st n e x l f g = (
     record {
-      sane = mark-sane img n e x (st .now .table) l (g .sane);
+      sane = mark-kept img n e x (st .now .table) l (g .sane);
       inside = g .inside;
       reads = λ y. mark-lookup img n e x (st .now .table) l (st .now .scope) y ∙ g .reads y;
       sorted = g .sorted;
@@ -318,7 +314,7 @@ module _ (img : List ℕ) (outer : ℕ → Option ℕ) where
       old p w (inl i) = i
       old p w (inr h) = let l = g .lowBlocks (st .met .next) (w (st .met .next) (h .1 (st .met .next) (inl refl))) in absurd (omega arith)
 
-  pub good : {b ns : List ℕ} {st st′ : State} → Steps img b ns st st′ → Bounds (st′ .now .table) → Small ns → Distinct ns → Clear st ns → Good b st
+  pub good : {b ns : List ℕ} {st st′ : State} → Steps img b ns st st′ → Bounds img (st′ .now .table) → Small ns → Distinct ns → Clear st ns → Good b st
       → Good b st′ × Later img (st .now .table) (st′ .now .table) ns
   unfolding mark opened
   good {st = st} stay bs sm di cl g = (g, record { lookups = λ s x l. refl; exits = λ m l f. refl })

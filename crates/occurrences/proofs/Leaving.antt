@@ -17,11 +17,12 @@ use Rattle.scopes.specs.Walk.{done}
 use Rattle.table.specs.State.{Exit}
 use Rattle.table.specs.Table.{lookup, isKind, exitAt}
 use Rattle.ast.proofs.Accepted.{both}
+use Rattle.scopes.proofs.Headed.{headed-exit}
 use Rattle.occurrences.specs.Occurrences.{occurrenceRows, occurrencesOf, occurrences}
 use Rattle.occurrences.specs.Sight.{Sort, ordinary, declared, applied, defined, Place, In, Rule, moduleRules, outerConst, Same}
 use Rattle.occurrences.proofs.Listing.{placesOf, Occurs, AllRows}
 use Rattle.occurrences.proofs.Members.{Distinct}
-use Rattle.occurrences.proofs.Resolving.{tableOf, resolved, headed-exit, headed-lookup}
+use Rattle.occurrences.proofs.Resolving.{tableOf, resolved, left-lookup}
 use Rattle.occurrences.proofs.RowLaws.{bindingOf, RowAt, all-only, all-all, one-row, rows-list, rows-distinct, rows-few}
 use Rattle.occurrences.proofs.Spots.{ownerKind, ordered}
 use Rattle.occurrences.proofs.WholeModule.{WalkOf, var-is-occurrence, equal-is-same}
@@ -69,8 +70,8 @@ module _ (img tab rows : List ℕ) (accepted : testRows img tab rows ≡ 0) (e :
   pub binding-is : (p : Place) → binding p ≡ bindingOf img (e .table) p
   binding-is p =
       ap (λ (o : Outcome). lookup img (tableOf img (o .table)) (exitAt img (o .table) (p .node)) (nameOf img (p .ident))) leaves
-      ∙ headed-lookup img tab e image-accepted single (exitAt img (headed img (e .table)) (p .node)) (nameOf img (p .ident))
-      ∙ ap (λ s. lookup img (e .table) s (nameOf img (p .ident))) (headed-exit img tab e image-accepted single (p .node))
+      ∙ left-lookup img tab e image-accepted single (exitAt img (headed img (e .table)) (p .node)) (nameOf img (p .ident))
+      ∙ ap (λ s. lookup img (e .table) s (nameOf img (p .ident))) (sym (headed-exit img (e .table) (p .node)))
 
   pub list-few : length list ≤ nodes img
   list-few = subst (λ (l : List Row). length l ≤ nodes img) (sym list-is) (few-rows img tab e image-accepted single)

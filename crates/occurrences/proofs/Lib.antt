@@ -7,7 +7,6 @@ pub mod Good
 pub mod OneRule
 pub mod Moves
 pub mod Lists
-pub mod Bounded
 pub mod WholeModule
 pub mod Listing
 pub mod Spots

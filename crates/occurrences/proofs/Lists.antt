@@ -10,15 +10,20 @@ use lib.Dec.{eqb}
 use Rattle.ast.specs.Image.{nodes, kindAt, nameOf}
 use Rattle.ast.specs.Kinds.{outer, inner, root, decl, signature, rule, enum, model}
 use Rattle.ast.specs.Tree.{Tree, node, block, Trees, none, _◂_}
+use Rattle.table.specs.Rows.{parentAt}
 use Rattle.table.specs.State.{Exit, childScope, ownSymbol, marked, back}
 use Rattle.table.specs.Table.{Table, find, isKind, exitAt}
 use Rattle.table.proofs.Frames.{find-mark}
 use Rattle.ordered.specs.Walk.{occurs, walkSeq}
-use Rattle.scopes.specs.Walk.{Listed, done, twice, enterName, enterRule, andThen, enter, enterAll, visit, visitAll}
+use Rattle.scopes.specs.Walk.{done, enterName, enterRule, andThen, enter, enterAll, visit, visitAll}
+use Rattle.ordered.specs.Kept.{Kept}
+use Rattle.ordered.proofs.Kept.{mark-kept, symbol-kept}
+use Rattle.ordered.proofs.Moves.{numbersSeq}
+use Rattle.scopes.proofs.Adds.{named, done-same, twice-done, and-inv}
 use Rattle.occurrences.specs.Sight.{In, orElse, own, ruleOwn, Rule, says, saysAll, rules, rulesAll}
 use Rattle.occurrences.proofs.Members.{in-left, in-right}
-use Rattle.occurrences.proofs.Frame.{Sane, parentAt, orElse-none, name-find-other, name-find, name-parent, name-exit, name-sane, mark-parent, mark-exit, mark-sane}
-use Rattle.occurrences.proofs.Steps.{numbersSeq, Bodies}
+use Rattle.occurrences.proofs.Frame.{orElse-none, name-find-other, name-find, name-parent, name-exit, mark-parent, mark-exit}
+use Rattle.occurrences.proofs.Steps.{Bodies}
 
 -- the nodes that entering marks
 unfoldable mutual
@@ -54,8 +59,9 @@ unfoldable mutual
   visitedAll none = []
   visitedAll (u ◂ us) = visited u ++ visitedAll us
 
-pub done-done : (e f : Exit) → done e ≡ done f → e ≡ f
-done-done e f q = cc
+-- the nodes of a module that get a mark
+abbrev pub moduleNumbers : ℕ → Trees → List ℕ
+moduleNumbers n ts = n ∷ (enteredAll ts ++ visitedAll ts)
 
 module _ (img : List ℕ) where
   -- no declaration has the kind of an IdentTerm, and rules have bodies
@@ -87,24 +93,19 @@ module _ (img : List ℕ) where
     marks : {e : Exit} (n : ℕ) → Enters (n ∷ []) (λ x. nothing) e (marked img n (e .scope) e)
     names : {e : Exit} (n : ℕ) → NoVar n → Enters [] (own img n) e (ownSymbol img n e)
 
-  pub andThen-done : (l : Listed) (f : Exit → Listed) (e′ : Exit) → andThen img l f ≡ done e′ → (e : Exit) × (l ≡ done e) × (f e ≡ done e′)
-  unfolding andThen
-  andThen-done (done e) f e′ q = (e, refl, q)
-  andThen-done (twice x a b) f e′ q = let z : _≡_ {A = ℕ} 0 1 = cc in absurd (omega arith)
-
-  pub name-done : (n : ℕ) (e e′ : Exit) → enterName img n e ≡ done e′ → ownSymbol img n e ≡ e′
-  unfolding enterName
+  name-done : (n : ℕ) (e e′ : Exit) → enterName img n e ≡ done e′ → ownSymbol img n e ≡ e′
+  unfolding enterName named
   name-done n e e′ q = go (find img (e .table) (e .scope) (nameOf img n)) q
     where
-      go : (o : Option ℕ) → elim o [ nothing ↦ done (ownSymbol img n e) | some first ↦ twice (nameOf img n) first n ] ≡ done e′ → ownSymbol img n e ≡ e′
-      go nothing h = cc
-      go (some first) h = let z : _≡_ {A = ℕ} 0 1 = cc in absurd (omega arith)
+      go : (o : Option ℕ) → named img n e o ≡ done e′ → ownSymbol img n e ≡ e′
+      go nothing h = done-same (ownSymbol img n e) e′ h
+      go (some first) h = absurd (twice-done (nameOf img n) first n e′ h)
 
   entersName : (n : ℕ) (e e′ : Exit) → NoVar n → enterName img n e ≡ done e′ → Enters [] (own img n) e e′
   entersName n e e′ v q = subst (Enters [] (own img n) e) (name-done n e e′ q) (names n v)
 
   same-exit : {ns : List ℕ} {D : ℕ → Option ℕ} (e f g : Exit) → Enters ns D e f → done f ≡ done g → Enters ns D e g
-  same-exit {ns} {D} e f g h q = subst (Enters ns D e) (done-done f g q) h
+  same-exit {ns} {D} e f g h q = subst (Enters ns D e) (done-same f g q) h
 
   entersRule : (sh : List ℕ) (n : ℕ) (e e′ : Exit) → NoVar n → enterRule img sh n e ≡ done e′ → Enters [] (ruleOwn img sh n) e e′
   unfolding enterRule ruleOwn
@@ -123,14 +124,14 @@ module _ (img : List ℕ) where
     enters (node n k (outer signature) sh ts) d e e′ q = next (marks n) (entersName n (marked img n (e .scope) e) e′ d q)
     enters (node n k (outer rule) sh ts) d e e′ q = next (marks n) (entersRule sh n (marked img n (e .scope) e) e′ (d .0) q)
     enters (node n k (outer enum) sh ts) d e e′ q =
-        let h = andThen-done (enterName img n (marked img n (e .scope) e)) (λ f. enterAll img ts f) e′ q in
+        let h = and-inv img (enterName img n (marked img n (e .scope) e)) (λ f. enterAll img ts f) e′ q in
         next (marks n) (next (entersName n (marked img n (e .scope) e) (h .0) (d .0) (h .1)) (entersAll ts (d .1) (h .0) e′ (h .2)))
     enters (node n k (outer model) sh ts) d e e′ q = entersName n e e′ (d .0) q
 
     pub entersAll : (us : Trees) → Decls us → (e e′ : Exit) → enterAll img us e ≡ done e′ → Enters (enteredAll us) (saysAll img us) e e′
     entersAll none d e e′ q = same-exit e e e′ stay q
     entersAll (u ◂ us) d e e′ q =
-        let h = andThen-done (enter img u e) (λ f. enterAll img us f) e′ q in
+        let h = and-inv img (enter img u e) (λ f. enterAll img us f) e′ q in
         next (enters u (d .0) e (h .0) (h .1)) (entersAll us (d .1) (h .0) e′ (h .2))
 
   -- entering keeps the scope, and makes none
@@ -166,15 +167,15 @@ module _ (img : List ℕ) where
       go false = refl
 
   pub record Entered (s : ℕ) (ns : List ℕ) (D : ℕ → Option ℕ) (t t′ : Table) : Type 0 where
-    pub sane : Sane img t′
+    pub sane : Kept img t′
     pub others : (r x : ℕ) → r ≢ s → find img t′ r x ≡ find img t r x
     pub here : (x : ℕ) → find img t′ s x ≡ orElse (find img t s x) (D x)
-    pub parents : (r : ℕ) → r < nodes img → parentAt img (t′ .words) r ≡ parentAt img (t .words) r
+    pub parents : (r : ℕ) → r < nodes img → parentAt (nodes img) (t′ .words) r ≡ parentAt (nodes img) (t .words) r
     pub exits : (m : ℕ) → m < nodes img → (In m ns → ⊥) → exitAt img (t′ .words) m ≡ exitAt img (t .words) m
     pub novar : (x : ℕ) → isKind img 13 (D x) ≡ false
 
   pub entering : {ns : List ℕ} {D : ℕ → Option ℕ} {e e′ : Exit} → Enters ns D e e′ → e′ .table .symbols ≤ nodes img → ((n : ℕ) → In n ns → n < nodes img)
-      → Sane img (e .table) → e .scope < e .table .scopes → Entered (e .scope) ns D (e .table) (e′ .table)
+      → Kept img (e .table) → suc (e .scope) ≡ e .table .scopes → Entered (e .scope) ns D (e .table) (e′ .table)
   unfolding marked ownSymbol isKind
   entering (stay {e = e}) b sm so i =
       record {
@@ -206,7 +207,7 @@ module _ (img : List ℕ) where
       let s = e .scope in
       let t = e .table in
       record {
-        sane = mark-sane img n s s t l so;
+        sane = mark-kept img n s s t l so;
         others = λ r x f. find-mark img n s s t l r x;
         here = λ x. find-mark img n s s t l s x ∙ sym (orElse-none (find img t s x));
         parents = λ r k. mark-parent img n s s t l r;
@@ -217,11 +218,11 @@ module _ (img : List ℕ) where
       let s = e .scope in
       let t = e .table in
       record {
-        sane = name-sane img s n t so i (omega arith);
-        others = λ r x f. name-find-other img s n t so i (omega arith) r x f;
-        here = λ x. name-find img s n t so i (omega arith) x;
-        parents = λ r l. name-parent img s n t so i (omega arith) r l;
-        exits = λ m l f. name-exit img s n t so i (omega arith) m l;
+        sane = symbol-kept img s n t (omega arith) i so;
+        others = λ r x f. name-find-other img s n t so (omega arith) r x f;
+        here = λ x. name-find img s n t so (omega arith) x;
+        parents = λ r l. name-parent img s n t so (omega arith) r l;
+        exits = λ m l f. name-exit img s n t so (omega arith) m l;
         novar = λ x. kind-own n x v;
       }
 
@@ -238,7 +239,7 @@ module _ (img : List ℕ) where
         → Visits ns rs (λ x. orElse (D x) (m x)) e′ e″ → Visits (n ∷ (es ++ ns)) rs m e (back img (e .scope) e″)
 
   same-end : {ns : List ℕ} {rs : List Rule} {m : ℕ → Option ℕ} (e f g : Exit) → Visits ns rs m e f → done f ≡ done g → Visits ns rs m e g
-  same-end {ns} {rs} {m} e f g h q = subst (Visits ns rs m e) (done-done f g q) h
+  same-end {ns} {rs} {m} e f g h q = subst (Visits ns rs m e) (done-same f g q) h
 
   mutual
     unfolding visit visited rules says Decl
@@ -253,8 +254,8 @@ module _ (img : List ℕ) where
     visits (node n k (outer enum) sh ts) d m e e′ q = visitsAll ts (d .1) m e e′ q
     visits (node n k (outer model) sh ts) d m e e′ q =
         let b = marked img n (e .table .scopes) (childScope img e) in
-        let g = andThen-done (andThen img (enterAll img ts b) (λ f. visitAll img ts f)) (λ f. done (back img (e .scope) f)) e′ q in
-        let h = andThen-done (enterAll img ts b) (λ f. visitAll img ts f) (g .0) (g .1) in
+        let g = and-inv img (andThen img (enterAll img ts b) (λ f. visitAll img ts f)) (λ f. done (back img (e .scope) f)) e′ q in
+        let h = and-inv img (enterAll img ts b) (λ f. visitAll img ts f) (g .0) (g .1) in
         same-end e (back img (e .scope) (g .0)) e′
         (nested n (entersAll ts (d .1) b (h .0) (h .1)) (visitsAll ts (d .1) (λ x. orElse (saysAll img ts x) (m x)) (h .0) (g .0) (h .2)))
         (g .2)
@@ -262,5 +263,5 @@ module _ (img : List ℕ) where
     pub visitsAll : (us : Trees) → Decls us → (m : ℕ → Option ℕ) (e e′ : Exit) → visitAll img us e ≡ done e′ → Visits (visitedAll us) (rulesAll img m us) m e e′
     visitsAll none d m e e′ q = same-end e e e′ idle q
     visitsAll (u ◂ us) d m e e′ q =
-        let h = andThen-done (visit img u e) (λ f. visitAll img us f) e′ q in
+        let h = and-inv img (visit img u e) (λ f. visitAll img us f) e′ q in
         after (visits u (d .0) m e (h .0) (h .1)) (visitsAll us (d .1) m (h .0) e′ (h .2))

@@ -11,20 +11,21 @@ use Rattle.ast.specs.Tree.{Trees}
 use Rattle.ordered.specs.Walk.{occurs, walkSeq}
 use Rattle.table.specs.State.{Exit}
 use Rattle.table.specs.Table.{Table, lookup, isKind, exitAt}
+use Rattle.ordered.specs.Kept.{Kept}
+use Rattle.ordered.proofs.Moves.{numbersSeq}
 use Rattle.occurrences.specs.Sight.{Place, ordinary, placeSeq, rulePlaces, In, Naming, Occurrence, Same}
 use Rattle.occurrences.proofs.Flat.{bind, var→occurrence, occurrence→var, same→equal, equal→same, introduced}
-use Rattle.occurrences.proofs.Frame.{Sane}
 use Rattle.occurrences.proofs.Good.{Good, good}
 use Rattle.occurrences.proofs.Keep.{bound, kept}
 use Rattle.occurrences.proofs.Members.{Distinct}
-use Rattle.occurrences.proofs.Steps.{numbersSeq, Bodies, State, occur, stepsSeq}
+use Rattle.occurrences.proofs.Steps.{Bodies, State, occur, stepsSeq}
 
 -- a walk of the statements ts that starts at e, and a table T that keeps what it wrote
 pub record Walked (img : List ℕ) (ts : Trees) (e : Exit) (T : Table) : Type 0 where
   pub body : Bodies img ts
   pub small : (n : ℕ) → In n (numbersSeq ts) → n < nodes img
   pub distinct : Distinct (numbersSeq ts)
-  pub sane : Sane img (e .table)
+  pub sane : Kept img (e .table)
   pub inside : e .scope < e .table .scopes
   pub outside : (x : ℕ) → isKind img 13 (lookup img (e .table) (e .scope) x) ≡ false
   pub scopes≤ : (walkSeq img occurs ts e) .table .scopes ≤ nodes img

@@ -9,10 +9,11 @@ use Rattle.ast.specs.Kinds.{outer, inner, plain, term, ident, head, headMember,
 use Rattle.ast.specs.Tests.{is, times}
 use Rattle.ast.specs.Tree.{Tree, node, block, Trees, none, _◂_}
 use Rattle.ast.proofs.Count.{times-append}
+use Rattle.ordered.proofs.Moves.{numbers, numbersSeq}
 use Rattle.occurrences.specs.Sight.{Sort, ordinary, declared, applied, defined, Place, Met, add, opened, place, placeSeq, placeThen, placeFirst, rulePlaces, Spot, spots, spotsSeq, spotsBack, spotsFirst, ruleSpots, In}
 use Rattle.occurrences.proofs.Members.{in-left, in-right, in-split}
 use Rattle.occurrences.proofs.Flat.{limitOf}
-use Rattle.occurrences.proofs.Steps.{numbers, numbersSeq, Simple, occur, declare, apply, sort, IdentOnly, VarTerm, VarTerms, Body, Bodies, Members, Defines}
+use Rattle.occurrences.proofs.Steps.{Simple, occur, declare, apply, sort, IdentOnly, VarTerm, VarTerms, Body, Bodies, Members, Defines}
 use Rattle.occurrences.proofs.Listing.{InTermSort, Ahead, InOrder, spotOf, spotsOf}
 
 -- the nodes of spots

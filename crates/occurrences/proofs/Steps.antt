@@ -10,29 +10,8 @@ use Rattle.table.specs.Layout.{allOnes}
 use Rattle.table.specs.State.{Exit, back}
 use Rattle.table.specs.Table.{mark}
 use Rattle.ordered.specs.Walk.{Role, occurs, declares, names, defines, walkIdent, walk, walkSeq, walkFirst}
+use Rattle.ordered.proofs.Moves.{numbers, numbersSeq}
 use Rattle.occurrences.specs.Sight.{Sort, ordinary, declared, applied, defined, Met, add, opened, place, placeSeq, placeThen, placeFirst}
-
--- the nodes that the walk marks, in its order
-unfoldable mutual
-  pub numbers : Tree → List ℕ
-  numbers (block ts) = numbersSeq ts
-  numbers (node n k (outer c) sh ts) = []
-  numbers (node n k (inner plain) sh ts) = numbersSeq ts ++ (n ∷ [])
-  numbers (node n k (inner term) sh ts) = numbersSeq ts ++ (n ∷ [])
-  numbers (node n k (inner ident) sh ts) = n ∷ []
-  numbers (node n k (inner head) sh ts) = numbersSeq ts ++ (n ∷ [])
-  numbers (node n k (inner headMember) sh ts) = numbersSeq ts ++ (n ∷ [])
-  numbers (node n k (inner member) sh ts) = numbersSeq ts ++ (n ∷ [])
-  numbers (node n k (inner branch) sh ts) = numbersSeq ts ++ (n ∷ [])
-  numbers (node n k (inner match) sh ts) = numbersSeq ts ++ (n ∷ [])
-  numbers (node n k (inner case) sh ts) = numbersSeq ts ++ (n ∷ [])
-  numbers (node n k (inner ifVar) sh ts) = numbersSeq ts ++ (n ∷ [])
-  numbers (node n k (inner definedThen) sh ts) = numbersSeq ts ++ (n ∷ [])
-  numbers (node n k (inner arg) sh ts) = numbersSeq ts ++ (n ∷ [])
-
-  pub numbersSeq : Trees → List ℕ
-  numbersSeq none = []
-  numbersSeq (u ◂ us) = numbers u ++ numbersSeq us
 
 -- where the walk stands, and the places met so far
 pub record State : Type 0 where

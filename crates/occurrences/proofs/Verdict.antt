@@ -19,6 +19,7 @@ use Rattle.ast.proofs.Formed.{Child, Items, Formed, FormedBlocks, FormedField, 
 use Rattle.ast.proofs.Unfold.{All, nil, cons, All-append, All-split, All-map, numbers-append, numbers-ones, kids-below, treeAt-is}
 use Rattle.ast.proofs.Shapes.{termKinds, headKinds}
 use Rattle.ast.proofs.Vars.{PlainVar, named, wildcard, Each, AfterFirst, PlainAt, every-kind, vars-at}
+use Rattle.ordered.proofs.Bools.{and-both, is-false}
 use Rattle.occurrences.proofs.Steps.{IdentOnly, VarTerm, VarTerms, Idents, Body, Bodies, Members, Defines}
 use Rattle.occurrences.proofs.Lists.{NoVar, Decl, Decls}
 
@@ -93,14 +94,6 @@ every-fits : (k : ℕ) → k ≤ 40 → T (fits k (kindOf k))
 unfolding fits kinds kindOf
 every-fits k l = every-kind fits tt k l
 
-and-split : (a b : Bool) → T (a && b) → T a × T b
-and-split true b t = (tt, t)
-and-split false b t = absurd t
-
-is-not : (a : Bool) → T (not a) → a ≡ false
-is-not true t = absurd t
-is-not false t = refl
-
 or-split : (a b : Bool) → T (a || b) → T a ⊎ T b
 or-split true b t = inl tt
 or-split false b t = inr t
@@ -135,8 +128,8 @@ module _ (img : List ℕ) (n : ℕ) (g : ℕ → Bool) where
   case-kind : (ks : List ℕ) (w : ℕ) → T (casesAll g ks) → T (eqb (getD ks w noChild) noChild || g (getD ks w noChild))
   unfolding casesAll
   case-kind [] w t = tt
-  case-kind (k ∷ ks) zero t = (and-split (eqb k noChild || g k) (casesAll g ks) t) .0
-  case-kind (k ∷ ks) (suc w) t = case-kind ks w ((and-split (eqb k noChild || g k) (casesAll g ks) t) .1)
+  case-kind (k ∷ ks) zero t = (and-both (eqb k noChild || g k) (casesAll g ks) t) .0
+  case-kind (k ∷ ks) (suc w) t = case-kind ks w ((and-both (eqb k noChild || g k) (casesAll g ks) t) .1)
 
   case-passes : (b : Bool) (k c : ℕ) → T (b || g k) → elim b as (λ x. Type 0) [ true ↦ Unit {0} | false ↦ Child img n k c ]
       → All Passes (numbers (elim b [ true ↦ [] | false ↦ one c ∷ [] ]))
@@ -159,7 +152,7 @@ module _ (img : List ℕ) (n : ℕ) (g : ℕ → Bool) where
   unfolding fieldsAll FormedFields fieldsKids numbers
   fields-pass [] p t h = nil
   fields-pass (f ∷ fs) p t h =
-      let s = and-split (fieldAll g f) (fieldsAll g fs) t in
+      let s = and-both (fieldAll g f) (fieldsAll g fs) t in
       rw numbers-append (All-append (field-passes f p (s .0) (h .1)) (fields-pass fs (after img f p) (s .1) (h .2)))
 
 module _ (img : List ℕ) where
@@ -354,19 +347,19 @@ module _ (img : List ℕ) (f : Formed img) (n : ℕ) (n<N : n < nodes img)
   decl-at root k m p sh v t h d = tt
   decl-at decl k m p sh v t h d = d
   decl-at signature k m p sh v t h d = v
-  decl-at rule k m p sh v t h d = (v, bodies-of ((kindOf k) .fields) p ((and-split (not (eqb k 13)) (fieldsAll bodyKind ((kindOf k) .fields)) t) .1) h)
+  decl-at rule k m p sh v t h d = (v, bodies-of ((kindOf k) .fields) p ((and-both (not (eqb k 13)) (fieldsAll bodyKind ((kindOf k) .fields)) t) .1) h)
   decl-at enum k m p sh v t h d = (v, d)
   decl-at model k m p sh v t h d = (v, d)
 
 -- a declaration is no IdentTerm
 no-var : (o : Outer) (k : ℕ) (fs : List Field) → T (fitsClass (outer o) k fs) → eqb k 13 ≡ false
 unfolding fitsClass
-no-var root k fs t = is-not (eqb k 13) t
-no-var decl k fs t = is-not (eqb k 13) t
-no-var signature k fs t = is-not (eqb k 13) t
-no-var rule k fs t = is-not (eqb k 13) ((and-split (not (eqb k 13)) (fieldsAll bodyKind fs) t) .0)
-no-var enum k fs t = is-not (eqb k 13) t
-no-var model k fs t = is-not (eqb k 13) t
+no-var root k fs t = is-false (eqb k 13) t
+no-var decl k fs t = is-false (eqb k 13) t
+no-var signature k fs t = is-false (eqb k 13) t
+no-var rule k fs t = is-false (eqb k 13) ((and-both (not (eqb k 13)) (fieldsAll bodyKind fs) t) .0)
+no-var enum k fs t = is-false (eqb k 13) t
+no-var model k fs t = is-false (eqb k 13) t
 
 module _ (img : List ℕ) (e : verdict img ≡ 0) where
   bodies : (m n : ℕ) → n < m → n < nodes img → T (bodyKind (kindAt img n)) → Body img (treeAt img n)
@@ -375,7 +368,7 @@ module _ (img : List ℕ) (e : verdict img ≡ 0) where
   bodies (suc m) n l h t =
       let f = formed img e in
       let k = kindAt img n in
-      let s = and-split (bodyClass ((kindOf k) .class)) (not (eqb k 11)) t in
+      let s = and-both (bodyClass ((kindOf k) .class)) (not (eqb k 11)) t in
       subst (Body img) (sym (treeAt-is img f n h))
       (body-at img f n h (λ c q. bodies m c (omega arith) (omega arith)) ((kindOf k) .class) k (startAt img n + 2) refl (s .0) (s .1)
       (every-fits k (f .each n h .kind)) (f .each n h .row) (subst PlainAt (treeAt-is img f n h) (vars-at img e n h)))

@@ -13,18 +13,24 @@ use Rattle.ast.specs.Image.{nodes, nameOf, kindAt}
 use Rattle.ast.specs.Kinds.{Class}
 use Rattle.ast.specs.Tree.{node, Trees}
 use Rattle.table.specs.Layout.{allOnes, tableLength}
+use Rattle.table.specs.Rows.{parentAt}
 use Rattle.table.specs.State.{Exit, childScope, marked}
 use Rattle.table.specs.Table.{Table, mark, newScope, find, lookup, isKind, exitAt}
 use Rattle.table.proofs.Frames.{find-mark, find-scope}
 use Rattle.ordered.specs.Walk.{occurs, walkSeq}
 use Rattle.scopes.specs.Walk.{done, enterAll, visitAll, resolveTree}
+use Rattle.ordered.specs.Kept.{Kept}
+use Rattle.ordered.proofs.Agreed.{Agree, lookup-agree}
+use Rattle.ordered.proofs.Kept.{mark-kept, scope-kept}
+use Rattle.ordered.proofs.Moves.{numbersSeq, rises}
+use Rattle.scopes.proofs.Adds.{and-inv}
+use Rattle.scopes.proofs.Resolving.{none-kept}
 use Rattle.occurrences.specs.Sight.{Place, In, rulePlaces, Rule, saysAll, rulesAll, orElse, Naming, Occurrence, Same, outerConst}
 use Rattle.occurrences.proofs.Members.{in-left, in-right, in-split, Distinct, distinct-left, distinct-right, distinct-apart}
-use Rattle.occurrences.proofs.Frame.{Sane, Later, later-next, parentAt, Agree, lookup-agree, lookup-child, lookup-root, mark-parent, mark-exit, mark-sane, child-parent, child-parent-other, child-empty, child-exit, child-sane}
-use Rattle.occurrences.proofs.Steps.{numbersSeq, Bodies}
-use Rattle.occurrences.proofs.Moves.{movesSeq, Bounds, rises, framed}
-use Rattle.occurrences.proofs.Lists.{enteredAll, visitedAll, Decls, stays, Entered, entering, entersAll, Visits, idle, after, walks, ruled, nested, visitsAll, andThen-done, kind-orElse}
-use Rattle.occurrences.proofs.Bounded.{moduleNumbers, bounded}
+use Rattle.occurrences.proofs.Frame.{Bounds, Later, later-next, lookup-child, lookup-root, mark-parent, mark-exit, child-parent, child-parent-other, child-empty, child-exit}
+use Rattle.occurrences.proofs.Steps.{Bodies}
+use Rattle.occurrences.proofs.Moves.{walks-seq, framed}
+use Rattle.occurrences.proofs.Lists.{enteredAll, visitedAll, moduleNumbers, Decls, stays, Entered, entering, entersAll, Visits, idle, after, walks, ruled, nested, visitsAll, kind-orElse}
 use Rattle.occurrences.proofs.OneRule.{Walked, place-node, occurrences, bindings, introducing}
 
 module _ (img : List ℕ) where
@@ -41,8 +47,8 @@ module _ (img : List ℕ) where
       let f = returns v in
       let g = returns u in
       record { scope = g .scope ∙ f .scope; scopes = omega arith; symbols = omega arith }
-  returns (walks {e = e} ts) = let r = rises img (movesSeq img occurs ts e) in record { scope = refl; scopes = r .0; symbols = r .1 }
-  returns (ruled {e = e} ts b) = let r = rises img (movesSeq img occurs ts e) in record { scope = refl; scopes = r .0; symbols = r .1 }
+  returns (walks {e = e} ts) = let r = rises img _ _ (walks-seq img ts e) in record { scope = refl; scopes = r .0; symbols = r .1 }
+  returns (ruled {e = e} ts b) = let r = rises img _ _ (walks-seq img ts e) in record { scope = refl; scopes = r .0; symbols = r .1 }
   returns (nested n v u) =
       let f = stays img v in
       let f₀ = f .scopes in
@@ -62,7 +68,7 @@ module _ (img : List ℕ) where
   WalkOf r T = (e : Exit) × Walked img (r .statements) e T × ((x : ℕ) → lookup img (e .table) (e .scope) x ≡ r .meaning x)
 
   pub record Held (ns : List ℕ) (rs : List Rule) (t t′ : Table) : Type 0 where
-    pub sane : Sane img t′
+    pub sane : Kept img t′
     pub later : Later img t t′ ns
     pub walked : (T : Table) → Keeps ns t′ T → (r : Rule) → In r rs → WalkOf r T
 
@@ -85,12 +91,12 @@ module _ (img : List ℕ) where
           r i
       go T k r (inr i) = g .walked T (record { lookups = k .lookups; exits = λ m l j. k .exits m l (in-right m ns ms j) }) r i
 
-  held-rule : (ts : Trees) (body : Bodies img ts) (m : ℕ → Option ℕ) (e : Exit) → Bounds img (walkSeq img occurs ts e)
-      → ((n : ℕ) → In n (numbersSeq ts) → n < nodes img) → Distinct (numbersSeq ts) → Sane img (e .table) → e .scope < e .table .scopes
+  held-rule : (ts : Trees) (body : Bodies img ts) (m : ℕ → Option ℕ) (e : Exit) → Bounds img ((walkSeq img occurs ts e) .table)
+      → ((n : ℕ) → In n (numbersSeq ts) → n < nodes img) → Distinct (numbersSeq ts) → Kept img (e .table) → e .scope < e .table .scopes
       → ((x : ℕ) → lookup img (e .table) (e .scope) x ≡ m x) → ((x : ℕ) → isKind img 13 (m x) ≡ false)
       → Held (numbersSeq ts) (record { statements = ts; meaning = m } ∷ []) (e .table) ((walkSeq img occurs ts e) .table)
   held-rule ts body m e b sm di so i reads outs =
-      let f = framed img (movesSeq img occurs ts e) b sm so i in
+      let f = framed img (walks-seq img ts e) b sm so i in
       record { sane = f .sane; later = f .later; walked = go }
     where
       go : (T : Table) → Keeps (numbersSeq ts) ((walkSeq img occurs ts e) .table) T → (r : Rule) → In r (record { statements = ts; meaning = m } ∷ []) → WalkOf r T
@@ -114,7 +120,7 @@ module _ (img : List ℕ) where
           )
 
   -- a new list, its scope below the one of e
-  module _ (n : ℕ) (es : List ℕ) (D m : ℕ → Option ℕ) (e : Exit) (t′ : Table) (so : Sane img (e .table)) (inside : e .scope < e .table .scopes)
+  module _ (n : ℕ) (es : List ℕ) (D m : ℕ → Option ℕ) (e : Exit) (t′ : Table) (so : Kept img (e .table)) (inside : e .scope < e .table .scopes)
       (K<N : e .table .scopes < nodes img) (n<N : n < nodes img)
       (en : Entered img (e .table .scopes) es D (mark img n (e .table .scopes) (e .table .scopes) (newScope img (e .scope) (e .table))) t′)
       (reads : (x : ℕ) → lookup img (e .table) (e .scope) x ≡ m x) where
@@ -143,7 +149,7 @@ module _ (img : List ℕ) where
     list-find : (x : ℕ) → find img t′ K x ≡ D x
     list-find x = en .here x ∙ ap (λ u. orElse u (D x)) (find-mark img n K K t₀ n<N K x ∙ child-empty img s t so K<N x)
 
-    list-parent : parentAt img (t′ .words) K ≡ s
+    list-parent : parentAt (nodes img) (t′ .words) K ≡ s
     list-parent = en .parents K K<N ∙ mark-parent img n K K t₀ n<N K ∙ child-parent img s t so K<N
 
     list-reads : (x : ℕ) → lookup img t′ K x ≡ orElse (D x) (m x)
@@ -159,8 +165,8 @@ module _ (img : List ℕ) where
           exits = λ k l f. en .exits k l (λ j. f (inr j)) ∙ mark-exit img n K K t₀ n<N k l (λ q. f (inl q)) ∙ child-exit img s t so K<N k l;
         }
 
-  holds : {ns : List ℕ} {rs : List Rule} {m : ℕ → Option ℕ} {e e′ : Exit} → Visits img ns rs m e e′ → Bounds img e′ → ((n : ℕ) → In n ns → n < nodes img)
-      → Distinct ns → Sane img (e .table) → e .scope < e .table .scopes → ((x : ℕ) → lookup img (e .table) (e .scope) x ≡ m x)
+  holds : {ns : List ℕ} {rs : List Rule} {m : ℕ → Option ℕ} {e e′ : Exit} → Visits img ns rs m e e′ → Bounds img (e′ .table) → ((n : ℕ) → In n ns → n < nodes img)
+      → Distinct ns → Kept img (e .table) → e .scope < e .table .scopes → ((x : ℕ) → lookup img (e .table) (e .scope) x ≡ m x)
       → ((x : ℕ) → isKind img 13 (m x) ≡ false) → Held ns rs (e .table) (e′ .table)
   unfolding marked childScope
   holds idle b sm di so i reads outs =
@@ -175,7 +181,7 @@ module _ (img : List ℕ) where
       (λ x. ap (λ s. lookup img (e′ .table) s x) p₀ ∙ f .later .lookups (e .scope) x i ∙ reads x) outs in
       held-after ns ms rs qs (e .table) (e′ .table) (e″ .table) (p .scopes) (q .scopes) di f g
   holds (walks {e = e} ts) b sm di so i reads outs =
-      let f = framed img (movesSeq img occurs ts e) b sm so i in
+      let f = framed img (walks-seq img ts e) b sm so i in
       record { sane = f .sane; later = f .later; walked = λ T k r j. absurd j }
   holds (ruled {m = m} {e = e} ts body) b sm di so i reads outs = held-rule ts body m e b sm di so i reads outs
   holds (nested {es = es} {ns = ns} {rs = rs} {D = D} {m = m} {e = e} {e′ = e′} {e″ = e″} n v u) b sm di so i reads outs =
@@ -191,7 +197,7 @@ module _ (img : List ℕ) where
       let n<N = sm n (inl refl) in
       let en : Entered img K es D (mark img n K K (newScope img (e .scope) (e .table))) (e′ .table) =
       entering img v (omega arith) (λ k j. sm k (inr (in-left k es ns j)))
-      (mark-sane img n K K (newScope img (e .scope) (e .table)) n<N (child-sane img (e .scope) (e .table) so K<N)) (omega arith) in
+      (mark-kept img n K K (newScope img (e .scope) (e .table)) n<N (scope-kept img (e .scope) (e .table) K<N so)) (omega arith) in
       let f : Held (n ∷ es) [] (e .table) (e′ .table) =
       record { sane = en .sane; later = list-later n es D m e (e′ .table) so i K<N n<N en reads; walked = λ T k r j. absurd j } in
       let g : Held ns rs (e′ .table) (e″ .table) =
@@ -202,26 +208,25 @@ module _ (img : List ℕ) where
 
   -- what resolving leaves for the rules rs
   pub record Resolved (rs : List Rule) (e : Exit) : Type 0 where
-    pub bounds : Bounds img e
-    pub sane : Sane img (e .table)
+    pub bounds : Bounds img (e .table)
+    pub sane : Kept img (e .table)
     pub walks : (r : Rule) → In r rs → WalkOf r (e .table)
 
   pub resolves : (n k : ℕ) (c : Class) (sh : List ℕ) (ts : Trees) (ws : List ℕ) (e : Exit)
-      → resolveTree img (node n k c sh ts) (record { words = ws; scopes = 0; symbols = 0 }) ≡ done e → tableLength (nodes img) ≤ length ws
+      → resolveTree img (node n k c sh ts) (record { words = ws; scopes = 0; symbols = 0 }) ≡ done e → tableLength (nodes img) ≤ length ws → Bounds img (e .table)
       → Decls img ts → ((m : ℕ) → In m (moduleNumbers n ts) → m < nodes img) → Distinct (moduleNumbers n ts)
       → Resolved (rulesAll img (saysAll img ts) ts) e
   unfolding resolveTree newScope marked
-  resolves n k c sh ts ws e q size d sm di =
-      let b = bounded img n k c sh ts ws e q sm di in
+  resolves n k c sh ts ws e q size b d sm di =
       let t₀ : Table = record { words = ws; scopes = 0; symbols = 0 } in
       let t₁ : Table = newScope img allOnes t₀ in
-      let so : Sane img t₀ = record { size = size; within = λ i l. absurd (omega arith) } in
+      let so : Kept img t₀ = none-kept img ws size in
       let es = enteredAll ts in
       let ns = visitedAll ts in
       let D = saysAll img ts in
       let n<N = sm n (inl refl) in
       let e₁ : Exit = marked img n 0 (record { scope = 0; table = t₁ }) in
-      let h = andThen-done img (enterAll img ts e₁) (λ f. visitAll img ts f) e q in
+      let h = and-inv img (enterAll img ts e₁) (λ f. visitAll img ts f) e q in
       let E = entersAll img ts d e₁ (h .0) (h .1) in
       let v = visitsAll img ts d D (h .0) e (h .2) in
       let p = stays img E in
@@ -230,7 +235,7 @@ module _ (img : List ℕ) where
       let z = returns v in
       let z₀ = z .symbols in
       let en : Entered img 0 es D (mark img n 0 0 t₁) (h .0 .table) =
-      entering img E (omega arith) (λ m i. sm m (inr (in-left m es ns i))) (mark-sane img n 0 0 t₁ n<N (child-sane img allOnes t₀ so (omega arith))) (omega arith) in
+      entering img E (omega arith) (λ m i. sm m (inr (in-left m es ns i))) (mark-kept img n 0 0 t₁ n<N (scope-kept img allOnes t₀ (omega arith) so)) (omega arith) in
       let reads : (x : ℕ) → lookup img (h .0 .table) (h .0 .scope) x ≡ D x = λ x.
       ap (λ s. lookup img (h .0 .table) s x) p₀
       ∙ lookup-root img (h .0 .table) 0 x (omega arith)

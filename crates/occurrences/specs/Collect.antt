@@ -1,7 +1,7 @@
 -- What the contracts say: the rows of a node's tree, of a run of nodes in a row, of the rules of a declaration; what a
 -- collector asks before it starts; how bindings are counted.
 use mathlib.Core.Path.{_≡_}
-use mathlib.Core.Bool.{true, false}
+use mathlib.Core.Bool.{Bool, true, false}
 use mathlib.Core.List.{List, [], _∷_, _++_}
 use mathlib.Core.Option.{Option, none as nothing, some}
 use Prim.Native.Nat.{ℕ, zero, suc, _+_, _<_, _≤_, _^_}
@@ -12,6 +12,7 @@ use Rattle.ast.specs.Kinds.{Kind}
 use Rattle.ast.specs.Tree.{treeAt}
 use Rattle.ast.specs.Items.{items}
 use Rattle.ast.specs.Is.{Is}
+use Rattle.ast.specs.Scan.{bump, claimAll}
 use Rattle.ast.specs.Tests.{verdict}
 use Rattle.table.specs.Table.{Table}
 use Rattle.table.specs.Rows.{nodeAt, Sorted}
@@ -108,6 +109,15 @@ under us (w ∷ l) = elim (leb 2 (getD us (w .right) 0)) [ true ↦ under us l |
 unfoldable pub uncounted : List ℕ → List ℕ → List ℕ
 uncounted [] us = us
 uncounted (b ∷ bs) us = uncounted bs (set us b 0)
+
+-- one more for a binding, or its count back to 0; the same for some bindings
+abbrev pub recount : Bool → ℕ → ℕ
+recount true w = bump w
+recount false w = 0
+
+abbrev pub recounted : Bool → List ℕ → List ℕ → List ℕ
+recounted true bs us = claimAll bs us
+recounted false bs us = uncounted bs us
 
 abbrev pub loneOf : Checked → Option Row
 loneOf Ok = nothing

@@ -3,7 +3,6 @@ ghost use mathlib.Core.Path.{_≡_};
 ghost use mathlib.Core.List.{[], _∷_};
 ghost use Prim.Native.Nat.{_+_, _<_, _≤_, _^_};
 ghost use lib.ListN.{length, getD, set};
-ghost use Rattle.ast.specs.Scan.{bump, claimAll};
 ghost use Rattle.ast.specs.Image as «image-spec»;
 ghost use Rattle.ast.specs.Kinds.{kindOf};
 ghost use Rattle.table.specs.Rows.{Sorted};
@@ -14,21 +13,18 @@ ghost use Rattle.occurrences.specs.Sight.{moduleRules};
 ghost use Rattle.occurrences.specs.Answers.{listedAnswer, checkedAnswer};
 ghost use Rattle.occurrences.specs.Occurrences as «occurrences-spec»;
 ghost use Rattle.occurrences.specs.Occurrences.{found, occurrenceRows, lone, rowsByRule};
-ghost use Rattle.occurrences.specs.Collect.{sought, spot, identRows, rowsIn, rowsAt, Room, Ready, Run, joined, listsIn, listsAt, Listing, ListingRun, Whole, Nodes, readRows, under, uncounted, loneOf, Scratch, Searched};
+ghost use Rattle.occurrences.specs.Collect.{sought, spot, identRows, rowsIn, rowsAt, Room, Ready, Run, joined, listsIn, listsAt, Listing, ListingRun, Whole, Nodes, readRows, under, recount, recounted, loneOf, Scratch, Searched};
 use ast::NodeId;
 use scopes::Resolved;
 use table::Found;
-use table::ScopeId;
 
 // What lookup of the ident's name gives at the exit of the node.
 fn lookup_at(image: &[u8], table: &[u32], symbols: u32, node: NodeId, ident: NodeId) -> Found
     requires { ⌜ Sorted («image-spec».nodes (now image)) symbols (now table) ⌝ }
     ensures { λ r. ⌜ optionOf r ≡ found (now (image .entry)) (sought (now (table .entry)) symbols) (spot (node .0) (ident .0)) ⌝ }
 {
-    let n = ast::wide(ast::node_count(image));
-    let exit = table::get(table, 3 + n + ast::wide(node.0));
-    let name = ast::name_of(image, ident);
-    table::seek(image, table, symbols, ScopeId(exit), name)
+    let exit = table::exit_of(image, table, node);
+    table::seek(image, table, symbols, exit, ast::name_of(image, ident))
 }
 
 // An ident directly under a Term or AppHead: a row if it is a Var.
@@ -469,32 +465,29 @@ pub enum Checked {
     Lone(NodeId, NodeId),
 }
 
-// One more for the binding: 0, 1, or 2 for several.
-fn count_binding(counts: &mut [u32], binding: usize)
-    ensures { λ _. ⌜ now (counts .exit) ≡ set (now (counts .entry)) binding (bump (getD (now (counts .entry)) binding 0)) ⌝ }
+// One more for the binding: 0, 1, or 2 for several; or its count back to 0.
+fn count_binding(counts: &mut [u32], binding: usize, up: bool)
+    ensures { λ _. ⌜ now (counts .exit) ≡ set (now (counts .entry)) binding (recount up (getD (now (counts .entry)) binding 0)) ⌝ }
 {
-    if table::get(counts, binding) == 0 {
-        table::put(counts, binding, 1);
+    if up {
+        if table::get(counts, binding) == 0 {
+            table::put(counts, binding, 1);
+        } else {
+            table::put(counts, binding, 2);
+        }
     } else {
-        table::put(counts, binding, 2);
+        table::put(counts, binding, 0);
     }
 }
 
-// The binding of row i.
-fn binding_at(rows: &[u32], n: u32, i: u32) -> u32
-    ensures { λ r. ⌜ r ≡ getD (now (rows .entry)) (1 + n + i) 0 ⌝ }
-{
-    table::get(rows, 1 + ast::wide(n) + ast::wide(i))
-}
-
-// One more for the binding of each row.
-fn count_bindings(rows: &[u32], n: u32, count: u32, counts: &mut [u32])
-    ensures { λ _. ⌜ now (counts .exit) ≡ claimAll (rights (readRows n (now (rows .entry)) count 0)) (now (counts .entry)) ⌝ }
+// The binding of each row counted, or all of them back to 0.
+fn count_bindings(rows: &[u32], n: u32, count: u32, counts: &mut [u32], up: bool)
+    ensures { λ _. ⌜ now (counts .exit) ≡ recounted up (rights (readRows n (now (rows .entry)) count 0)) (now (counts .entry)) ⌝ }
 {
     let mut i = 0u32;
     while i < count {
-        let binding = binding_at(rows, n, i);
-        count_binding(counts, ast::wide(binding));
+        let binding = rows::right_at(rows, n, i);
+        count_binding(counts, ast::wide(binding), up);
         i += 1;
     }
 }
@@ -505,26 +498,14 @@ fn first_lone(rows: &[u32], n: u32, count: u32, counts: &[u32]) -> Checked
 {
     let mut i = 0u32;
     while i < count {
-        let binding = binding_at(rows, n, i);
+        let binding = rows::right_at(rows, n, i);
         if table::get(counts, ast::wide(binding)) < 2 {
-            let node = table::get(rows, 1 + ast::wide(i));
+            let node = rows::left_at(rows, i);
             return Checked::Lone(NodeId(node), NodeId(binding));
         }
         i += 1;
     }
     Checked::Ok
-}
-
-// The counts of the rows' bindings set back to 0.
-fn uncount(rows: &[u32], n: u32, count: u32, counts: &mut [u32])
-    ensures { λ _. ⌜ now (counts .exit) ≡ uncounted (rights (readRows n (now (rows .entry)) count 0)) (now (counts .entry)) ⌝ }
-{
-    let mut i = 0u32;
-    while i < count {
-        let binding = binding_at(rows, n, i);
-        table::put(counts, ast::wide(binding), 0);
-        i += 1;
-    }
 }
 
 // Counts are per binding and per rule: the rule's rows are collected, counted, and the first lone one is found.
@@ -541,9 +522,9 @@ fn check_rule(
 {
     let n = ast::node_count(image);
     let count = collect_rule(image, table, symbols, rows, 0, rule);
-    count_bindings(rows, n, count, counts);
+    count_bindings(rows, n, count, counts, true);
     let found = first_lone(rows, n, count, counts);
-    uncount(rows, n, count, counts);
+    count_bindings(rows, n, count, counts, false);
     found
 }
 

@@ -1,30 +1,45 @@
--- What the walk keeps of its table: the rows stand by rising scope, all below the count of scopes.
+-- The steps of a walk keep what it keeps of its table.
 use mathlib.Core.Path.{_≡_, refl, ap, _∙_}
-use mathlib.Core.Logic.{⊎-elim}
+use mathlib.Core.Logic.{⊎-elim, _≢_}
 use mathlib.Core.List.{List}
-use Prim.Native.Nat.{ℕ, suc, _+_, _*_, _-_, _<_, _≤_}
+use Prim.Native.Nat.{ℕ, suc, _+_, _*_, _<_, _≤_}
 use native.Mathlib.Omega.{arith}
 use native.Mathlib.Nat.{eq-or-lt-of-le}
-use lib.ListN.{length, set, drop, length-set}
-use lib.Seq.{getD-set-same, getD-set-other, drop-set-lt}
+use lib.ListN.{length, getD, set, drop, length-set}
+use lib.Seq.{getD-set-other, drop-set-lt}
 use Rattle.ast.specs.Image.{nodes}
-use Rattle.table.specs.Layout.{tableLength}
-use Rattle.table.specs.Rows.{scopeOf, Sorted}
+use Rattle.table.specs.Layout.{entryPlace, exitPlace, parentPlace, scopePlace, nodePlace, tableLength}
+use Rattle.table.specs.Rows.{scopeOf}
 use Rattle.table.specs.Table.{Table, mark, newScope, newSymbol}
+use Rattle.table.proofs.Frames.{symbol-scope}
+use Rattle.ordered.specs.Kept.{Kept}
 
 module _ (img : List ℕ) where
-  -- the rows stand by rising scope, each of a scope that is there
-  pub record Kept (t : Table) : Type 0 where
-    pub rising : Sorted (nodes img) (t .symbols) (t .words)
-    pub under : (j : ℕ) → j < t .symbols → scopeOf (nodes img) (t .words) j < t .scopes
-
-  -- a store before the rows keeps them
-  stored : (ws : List ℕ) (i v j : ℕ) → i < 3 + 3 * nodes img → scopeOf (nodes img) (set ws i v) j ≡ scopeOf (nodes img) ws j
-  stored ws i v j h = getD-set-other ws i (3 + 3 * nodes img + j) v 0 (λ q. omega arith)
-
-  pub mark-rows : (n a b : ℕ) (t : Table) → n < nodes img → (j : ℕ) → scopeOf (nodes img) ((mark img n a b t) .words) j ≡ scopeOf (nodes img) (t .words) j
+  -- a word that the step does not store stays
+  pub mark-word : (n a b : ℕ) (t : Table) (i : ℕ) → i ≢ entryPlace (nodes img) n → i ≢ exitPlace (nodes img) n → getD ((mark img n a b t) .words) i 0 ≡ getD (t .words) i 0
   unfolding mark
-  mark-rows n a b t h j = stored (set (t .words) (3 + n) a) (3 + nodes img + n) b j (omega arith) ∙ stored (t .words) (3 + n) a j (omega arith)
+  mark-word n a b t i f g =
+      getD-set-other (set (t .words) (entryPlace (nodes img) n) a) (exitPlace (nodes img) n) i b 0 g ∙ getD-set-other (t .words) (entryPlace (nodes img) n) i a 0 f
+
+  pub scope-word : (p : ℕ) (t : Table) (i : ℕ) → i ≢ parentPlace (nodes img) (t .scopes) → getD ((newScope img p t) .words) i 0 ≡ getD (t .words) i 0
+  unfolding newScope
+  scope-word p t i f = getD-set-other (t .words) (parentPlace (nodes img) (t .scopes)) i p 0 f
+
+  pub symbol-word : (s n : ℕ) (t : Table) (i : ℕ) → i ≢ scopePlace (nodes img) (t .symbols) → i ≢ nodePlace (nodes img) (t .symbols) → getD ((newSymbol img s n t) .words) i 0 ≡ getD (t .words) i 0
+  unfolding newSymbol
+  symbol-word s n t i f g =
+      getD-set-other (set (t .words) (scopePlace (nodes img) (t .symbols)) s) (nodePlace (nodes img) (t .symbols)) i n 0 g
+      ∙ getD-set-other (t .words) (scopePlace (nodes img) (t .symbols)) i s 0 f
+
+  -- so the scopes of the rows stay
+  pub mark-rows : (n a b : ℕ) (t : Table) → n < nodes img → (j : ℕ) → scopeOf (nodes img) ((mark img n a b t) .words) j ≡ scopeOf (nodes img) (t .words) j
+  mark-rows n a b t h j = mark-word n a b t (scopePlace (nodes img) j) (omega arith) (omega arith)
+
+  pub scope-rows : (p : ℕ) (t : Table) → t .scopes < nodes img → (j : ℕ) → scopeOf (nodes img) ((newScope img p t) .words) j ≡ scopeOf (nodes img) (t .words) j
+  scope-rows p t h j = scope-word p t (scopePlace (nodes img) j) (omega arith)
+
+  pub symbol-rows : (s n : ℕ) (t : Table) (j : ℕ) → j < t .symbols → scopeOf (nodes img) ((newSymbol img s n t) .words) j ≡ scopeOf (nodes img) (t .words) j
+  symbol-rows s n t j h = symbol-word s n t (scopePlace (nodes img) j) (omega arith) (omega arith)
 
   pub mark-length : (n a b : ℕ) (t : Table) → length ((mark img n a b t) .words) ≡ length (t .words)
   unfolding mark
@@ -34,15 +49,9 @@ module _ (img : List ℕ) where
   unfolding newScope
   scope-length p t = length-set (t .words) (3 + 2 * nodes img + t .scopes) p
 
-  pub scope-rows : (p : ℕ) (t : Table) → t .scopes < nodes img → (j : ℕ) → scopeOf (nodes img) ((newScope img p t) .words) j ≡ scopeOf (nodes img) (t .words) j
-  unfolding newScope
-  scope-rows p t h j = stored (t .words) (3 + 2 * nodes img + t .scopes) p j (omega arith)
-
-  pub symbol-rows : (s n : ℕ) (t : Table) (j : ℕ) → j < t .symbols → scopeOf (nodes img) ((newSymbol img s n t) .words) j ≡ scopeOf (nodes img) (t .words) j
+  pub symbol-length : (s n : ℕ) (t : Table) → length ((newSymbol img s n t) .words) ≡ length (t .words)
   unfolding newSymbol
-  symbol-rows s n t j h =
-      getD-set-other (set (t .words) (3 + 3 * nodes img + t .symbols) s) (3 + 4 * nodes img + t .symbols) (3 + 3 * nodes img + j) n 0 (λ q. omega arith)
-      ∙ getD-set-other (t .words) (3 + 3 * nodes img + t .symbols) (3 + 3 * nodes img + j) s 0 (λ q. omega arith)
+  symbol-length s n t = length-set (set (t .words) (3 + 3 * nodes img + t .symbols) s) (3 + 4 * nodes img + t .symbols) n ∙ length-set (t .words) (3 + 3 * nodes img + t .symbols) s
 
   -- the words past the table
   abbrev pub past : Table → List ℕ
@@ -66,34 +75,24 @@ module _ (img : List ℕ) where
 
   -- the same rows, and as many
   kept-same : (t u : Table) → u .symbols ≡ t .symbols → t .scopes ≤ u .scopes → length (u .words) ≡ length (t .words)
-      → ((j : ℕ) → scopeOf (nodes img) (u .words) j ≡ scopeOf (nodes img) (t .words) j) → Kept t → Kept u
+      → ((j : ℕ) → scopeOf (nodes img) (u .words) j ≡ scopeOf (nodes img) (t .words) j) → Kept img t → Kept img u
   kept-same t u y k l r s =
       record {
         rising = record { within = (let w = s .rising .within in omega arith); long = (let z = s .rising .long in omega arith); rises = λ i j a b. let p = r i in let q = r j in let z = s .rising .rises i j a (omega arith) in omega arith };
         under = λ j b. let q = r j in let z = s .under j (omega arith) in omega arith;
       }
 
-  pub mark-kept : (n a b : ℕ) (t : Table) → n < nodes img → Kept t → Kept (mark img n a b t)
+  pub mark-kept : (n a b : ℕ) (t : Table) → n < nodes img → Kept img t → Kept img (mark img n a b t)
   unfolding mark
   mark-kept n a b t h s =
       kept-same t (mark img n a b t) refl (omega arith) (mark-length n a b t) (mark-rows n a b t h) s
 
-  pub scope-kept : (p : ℕ) (t : Table) → t .scopes < nodes img → Kept t → Kept (newScope img p t)
+  pub scope-kept : (p : ℕ) (t : Table) → t .scopes < nodes img → Kept img t → Kept img (newScope img p t)
   unfolding newScope
   scope-kept p t h s = kept-same t (newScope img p t) refl (omega arith) (scope-length p t) (scope-rows p t h) s
 
-  pub new-row : (s n : ℕ) (t : Table) → t .symbols < nodes img → 3 + 5 * nodes img ≤ length (t .words) → scopeOf (nodes img) ((newSymbol img s n t) .words) (t .symbols) ≡ s
-  unfolding newSymbol
-  new-row s n t h l =
-      getD-set-other (set (t .words) (3 + 3 * nodes img + t .symbols) s) (3 + 4 * nodes img + t .symbols) (3 + 3 * nodes img + t .symbols) n 0 (λ q. omega arith)
-      ∙ getD-set-same (t .words) (3 + 3 * nodes img + t .symbols) s 0 (omega arith)
-
-  pub symbol-length : (s n : ℕ) (t : Table) → length ((newSymbol img s n t) .words) ≡ length (t .words)
-  unfolding newSymbol
-  symbol-length s n t = length-set (set (t .words) (3 + 3 * nodes img + t .symbols) s) (3 + 4 * nodes img + t .symbols) n ∙ length-set (t .words) (3 + 3 * nodes img + t .symbols) s
-
   -- a symbol of the newest scope
-  pub symbol-kept : (s n : ℕ) (t : Table) → t .symbols < nodes img → suc s ≡ t .scopes → Kept t → Kept (newSymbol img s n t)
+  pub symbol-kept : (s n : ℕ) (t : Table) → t .symbols < nodes img → suc s ≡ t .scopes → Kept img t → Kept img (newSymbol img s n t)
   unfolding newSymbol
   symbol-kept s n t h e d =
       record {
@@ -105,7 +104,7 @@ module _ (img : List ℕ) where
       u = (newSymbol img s n t) .words
 
       new : scopeOf (nodes img) u (t .symbols) ≡ s
-      new = new-row s n t h (d .rising .long)
+      new = symbol-scope img s n t h (d .rising .long)
 
       older : (i j : ℕ) → i ≤ j → j < t .symbols → scopeOf (nodes img) u i ≤ scopeOf (nodes img) u j
       older i j a l = let p = symbol-rows s n t i (omega arith) in let q = symbol-rows s n t j l in let z = d .rising .rises i j a l in omega arith

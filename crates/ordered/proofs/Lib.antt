@@ -6,3 +6,7 @@ pub mod Lists
 pub mod Atoms
 pub mod Stmts
 pub mod Args
+pub mod Bools
+pub mod Blocks
+pub mod Moves
+pub mod Agreed

@@ -11,16 +11,8 @@ use Rattle.ast.specs.Tree.{Tree, node, block, Trees, none, _◂_}
 use Rattle.table.specs.State.{Exit, introduce, childScope, ownSymbol, marked, unmarked, back}
 use Rattle.table.specs.Table.{lookup, isKind, isValue, mark, newScope, newSymbol}
 use Rattle.ast.proofs.Count.{nodesOf, nodesAll}
+use Rattle.ordered.specs.Size.{size, sizes}
 use Rattle.ordered.specs.Walk.{Role, occurs, declares, names, defines, walkIdent, headRole, walkArg, walk, walkSeq, walkFirst}
-
-unfoldable mutual
-  pub size : Tree → ℕ
-  size (node n k c sh ts) = suc (sizes ts)
-  size (block ts) = sizes ts
-
-  pub sizes : Trees → ℕ
-  sizes none = 0
-  sizes (t ◂ ts) = size t + sizes ts
 
 -- as many as the numbers of its nodes
 mutual

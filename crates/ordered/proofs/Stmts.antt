@@ -1,9 +1,8 @@
 -- What a walk over a statement is.
 use mathlib.Core.Path.{_≡_, refl, sym, ap, subst, _∙_}
 use mathlib.Core.List.{List, [], _∷_}
-use Prim.Native.Nat.{ℕ, zero, suc, _+_, _-_, _<_, _≤_}
-use native.Mathlib.Omega.{arith}
-use native.Mathlib.Nat.{sub-zero, le-refl, le-trans}
+use Prim.Native.Nat.{ℕ, suc, _+_, _-_, _<_, _≤_}
+use native.Mathlib.Nat.{sub-zero}
 use lib.ListN.{length}
 use Rattle.ast.specs.Image.{field}
 use Rattle.ast.specs.Is.{Is, kindBy}
@@ -11,11 +10,12 @@ use Rattle.ast.specs.Items.{items, blocks}
 use Rattle.ast.specs.Kinds.{Class, child, list, kindOf}
 use Rattle.ast.specs.Tree.{Tree, Trees}
 use Rattle.table.specs.State.{Exit, marked, back}
-use Rattle.ast.proofs.Row.{append-none, next, ends, blocksEnd, nodeOf, Child, Items, FormedBlocks, FormedFields}
+use Rattle.ast.proofs.Row.{append-none, next, ends, nodeOf, Child, Items, FormedFields}
 use Rattle.ast.proofs.Shapes.{one-more, formed-row, row, tree-of, child-is}
 use Rattle.ast.proofs.Small.{blocks-small}
 use Rattle.ordered.specs.Walk.{occurs, walk, walkSeq}
 use Rattle.ordered.specs.Walkers.{over, rest, Ready, Run}
+use Rattle.ordered.proofs.Blocks.{BlocksFrom, blocks-from, blocks-place, NextBlock, next-block}
 use Rattle.ordered.proofs.Grows.{Grows, stays, further, back-grows, seq-grows}
 use Rattle.ordered.proofs.Steps.{part-room}
 use Rattle.ordered.proofs.Lists.{rest-start, rest-grows, runOf}
@@ -87,11 +87,6 @@ module _ (img : List ℕ) where
       ap (λ (u : Tree). walk img occurs u e) (tree-of img is)
       ∙ ap (λ (us : Trees). marked img n (e .scope) (walkSeq img occurs us e)) (append-none (blocks img n (field img n 0) 1))
 
-  ends-grows : (n c j : ℕ) → j ≤ blocksEnd img n c j
-  unfolding blocksEnd
-  ends-grows n zero j = le-refl j
-  ends-grows n (suc c) j = let h = ends-grows n c (j + 1 + field img n j) in omega arith
-
   blocks-grows : (n c j : ℕ) (e : Exit) → Grows img e (walkSeq img occurs (blocks img n c j) e)
   blocks-grows n c j e = seq-grows img occurs _ (blocks-small img n c j) e
 
@@ -105,25 +100,16 @@ module _ (img : List ℕ) where
 
   -- a loop over blocks: after i of them it stands at place j and at f
   pub record BlocksLeft (n i j : ℕ) (e f : Exit) : Type 0 where
-    pub within : i ≤ field img n 0
-    pub formed : FormedBlocks img n 36 (field img n 0 - i) j
-    pub short : blocksEnd img n (field img n 0 - i) j ≤ 8192
+    pub from : BlocksFrom img n (field img n 0) i j
     pub long : length (f .table .words) ≡ length (e .table .words)
     pub left : walkSeq img occurs (blocks img n (field img n 0) 1) e ≡ walkSeq img occurs (blocks img n (field img n 0 - i) j) f
 
   pub branch-start : {n : ℕ} {e : Exit} → Is img (kindOf 39) n → BlocksLeft n 0 1 e e
-  unfolding FormedFields ends next kindOf
   branch-start {n} {e} is =
-      record {
-        within = omega arith;
-        formed = subst (λ (c : ℕ). FormedBlocks img n 36 c 1) (sym (sub-zero (field img n 0))) ((row img is) .0);
-        short = subst (λ (c : ℕ). blocksEnd img n c 1 ≤ 8192) (sym (sub-zero (field img n 0))) ((formed-row img is) .short);
-        long = refl;
-        left = ap (λ (c : ℕ). walkSeq img occurs (blocks img n c 1) e) (sym (sub-zero (field img n 0)));
-      }
+      record { from = blocks-from img is refl; long = refl; left = ap (λ (c : ℕ). walkSeq img occurs (blocks img n c 1) e) (sym (sub-zero (field img n 0))) }
 
   pub branch-place : {n i j : ℕ} {e f : Exit} → BlocksLeft n i j e f → j ≤ 8192
-  branch-place {n} {i} {j} p = le-trans (ends-grows n (field img n 0 - i) j) (p .short)
+  branch-place p = blocks-place img (p .from)
 
   -- one block more, of size s
   pub record BlockItem (n i j s : ℕ) (e f : Exit) : Type 0 where
@@ -132,13 +118,12 @@ module _ (img : List ℕ) where
     pub more : (g : Exit) → g ≡ back img (f .scope) (rest img occurs n (j + 1) s 0 f) → length (g .table .words) ≡ length (e .table .words) → BlocksLeft n (i + 1) (j + 1 + s) e g
 
   pub blockItem : {n i j s : ℕ} {e f : Exit} → Ready img (kindOf 39) n e → BlocksLeft n i j e f → i < field img n 0 → s ≡ field img n j → BlockItem n i j s e f
-  unfolding FormedBlocks blocksEnd
   blockItem {n} {i} {j} {s} {e} {f} p b l q =
       subst (λ (x : ℕ). BlockItem n i j x e f) (sym q)
       (record {
-        run = runOf img (p .is) (hs .0) (le-trans (ends-grows n c (j + 1 + z)) sh) (part-room img p (branch-whole e (p .is) ∙ ap (marked img n (e .scope)) m) (further (back-grows img (f .scope) (stays _)) (blocks-grows n c (j + 1 + z) _)));
-        fits = le-trans (ends-grows n c (j + 1 + z)) sh;
-        more = λ g w long. record { within = omega arith; formed = hs .1; short = sh; long = long; left = m ∙ ap (walkSeq img occurs (blocks img n c (j + 1 + z))) (sym w) };
+        run = runOf img (p .is) (k .items) (k .fits) (part-room img p (branch-whole e (p .is) ∙ ap (marked img n (e .scope)) m) (further (back-grows img (f .scope) (stays _)) (blocks-grows n c (j + 1 + z) _)));
+        fits = k .fits;
+        more = λ g w long. record { from = k .from; long = long; left = m ∙ ap (walkSeq img occurs (blocks img n c (j + 1 + z))) (sym w) };
       })
     where
       z : ℕ
@@ -147,11 +132,8 @@ module _ (img : List ℕ) where
       c : ℕ
       c = field img n 0 - (i + 1)
 
-      hs : FormedBlocks img n 36 (suc c) j
-      hs = subst (λ (x : ℕ). FormedBlocks img n 36 x j) (one-more l) (b .formed)
-
-      sh : blocksEnd img n c (j + 1 + z) ≤ 8192
-      sh = subst (λ (x : ℕ). blocksEnd img n x j ≤ 8192) (one-more l) (b .short)
+      k : NextBlock img n (field img n 0) i j
+      k = next-block img (b .from) l
 
       m : walkSeq img occurs (blocks img n (field img n 0) 1) e ≡ walkSeq img occurs (blocks img n c (j + 1 + z)) (back img (f .scope) (rest img occurs n (j + 1) z 0 f))
       m = b .left ∙ ap (λ (x : ℕ). walkSeq img occurs (blocks img n x j) f) (one-more l) ∙ blocks-step n c j f

@@ -1,2 +1,4 @@
 pub mod Walk
 pub mod Walkers
+pub mod Kept
+pub mod Size

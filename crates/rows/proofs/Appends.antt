@@ -3,10 +3,10 @@ use mathlib.Core.Path.{_≡_, refl, sym, ap, ap₂, _∙_}
 use mathlib.Core.List.{List, [], _∷_, _++_, append-assoc, append-nil}
 use Prim.Native.Nat.{ℕ, zero, suc, _+_, _*_, _-_, _<_, _≤_}
 use native.Mathlib.Nat.{add-zero}
-use native.Mathlib.Numerals.{add-one}
 use native.Mathlib.Omega.{arith}
-use lib.ListN.{length, getD, set, take, drop, replicate, length-append, length-replicate, length-drop, length-set, replicate-append-replicate}
-use Rattle.rows.specs.Rows.{Row, row, lefts, rights, rowsLength, filled, written, cleared, putRows, Appended}
+use lib.ListN.{length, set, drop, replicate, length-append, length-replicate, length-drop, length-set, replicate-append-replicate}
+use borrow.Author.Fill.{fill-none, fill-more}
+use Rattle.rows.specs.Rows.{Row, lefts, rights, rowsLength, filled, written, cleared, putRows, Appended}
 
 pub lefts-length : (l : List Row) → length (lefts l) ≡ length l
 unfolding lefts
@@ -35,19 +35,14 @@ appended-next {N} {c} {r} {q} {l} {k} {ws} {vs} {us} f g =
       words = g .words ∙ ap₂ (λ (d : ℕ) (z : List ℕ). putRows N d k z) (f .count) (f .words) ∙ sym (put-append N c l k ws);
     }
 
--- one word more cleared
-clear-suc : (n : ℕ) (ws : List ℕ) → n < length ws → set (cleared n ws) n 0 ≡ cleared (suc n) ws
-unfolding cleared
-clear-suc n [] h = absurd (omega arith)
-clear-suc zero (x ∷ xs) h = refl
-clear-suc (suc n) (x ∷ xs) h = ap (λ (r : List ℕ). 0 ∷ r) (clear-suc n xs (omega arith))
-
-pub clear-next : (n : ℕ) (ws : List ℕ) → n < length ws → set (cleared n ws) n 0 ≡ cleared (n + 1) ws
-clear-next n ws h = rw add-one (clear-suc n ws h)
-
 pub clear-none : (ws : List ℕ) → ws ≡ cleared 0 ws
 unfolding cleared
-clear-none ws = refl
+clear-none ws = fill-none ws 0
+
+-- one word more cleared
+pub clear-next : (n : ℕ) (ws : List ℕ) → n < length ws → set (cleared n ws) n 0 ≡ cleared (n + 1) ws
+unfolding cleared
+clear-next n ws h = fill-more n 0 ws h
 
 pub clear-length : (n : ℕ) (ws : List ℕ) → n ≤ length ws → length (cleared n ws) ≡ length ws
 unfolding cleared

@@ -2,7 +2,7 @@
 ghost use mathlib.Core.Path.{_≡_};
 ghost use mathlib.Core.List.{[], _∷_};
 ghost use Prim.Native.Nat.{_+_, _<_, _≤_, _^_};
-ghost use lib.ListN.{length};
+ghost use lib.ListN.{length, getD};
 ghost use Rattle.rows.specs.Rows.{row, cleared, Appended};
 
 // The first n words set to 0.
@@ -25,4 +25,17 @@ pub fn put_row(rows: &mut [u32], n: u32, count: u32, left: u32, right: u32) -> u
     table::put(rows, 1 + ast::wide(count), left);
     table::put(rows, 1 + ast::wide(n) + ast::wide(count), right);
     count + 1
+}
+
+// The two words of row i, of an image of n nodes.
+pub fn left_at(rows: &[u32], i: u32) -> u32
+    ensures { λ r. ⌜ r ≡ getD (now (rows .entry)) (1 + i) 0 ⌝ }
+{
+    table::get(rows, 1 + ast::wide(i))
+}
+
+pub fn right_at(rows: &[u32], n: u32, i: u32) -> u32
+    ensures { λ r. ⌜ r ≡ getD (now (rows .entry)) (1 + n + i) 0 ⌝ }
+{
+    table::get(rows, 1 + ast::wide(n) + ast::wide(i))
 }

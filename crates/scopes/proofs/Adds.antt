@@ -16,8 +16,10 @@ use Rattle.table.specs.Table.{find, mark, newScope, newSymbol}
 use Rattle.ordered.specs.Walk.{occurs, walkSeq}
 use Rattle.ordered.specs.Walkers.{Few}
 use Rattle.ordered.proofs.Grows.{seq-grows}
-use Rattle.ordered.proofs.Kept.{Kept, past, mark-kept, scope-kept, symbol-kept, mark-past, scope-past, symbol-past, mark-length, scope-length, symbol-length, mark-rows, scope-rows}
-use Rattle.ordered.proofs.Size.{size, sizes, seq-within}
+use Rattle.ordered.specs.Kept.{Kept}
+use Rattle.ordered.proofs.Kept.{past, mark-kept, scope-kept, symbol-kept, mark-past, scope-past, symbol-past, mark-length, scope-length, symbol-length, mark-rows, scope-rows}
+use Rattle.ordered.specs.Size.{size, sizes}
+use Rattle.ordered.proofs.Size.{seq-within}
 use Rattle.scopes.specs.Walk.{Listed, done, twice, enterName, enterRule, andThen, enter, enterAll, visit, visitAll}
 use Rattle.scopes.specs.Lists.{ent, ents, vis, viss, Fits}
 
@@ -73,6 +75,12 @@ twice-done x y z g q = let h : _≡_ {A = ℕ} 0 1 = cc in omega arith
 pub few-back : {img : List ℕ} {Q : Exit → Type 0} {a b : ℕ} {e f : Exit} → Went img Q a b e f → Few img (f .table) → Few img (e .table)
 few-back w h = let p = w .more in let q = w .grown in let i = h .scopes in let j = h .symbols in record { scopes = omega arith; symbols = omega arith }
 
+-- what follows is done only where all before it is
+pub and-inv : (img : List ℕ) (l : Listed) (g : Exit → Listed) (f : Exit) → andThen img l g ≡ done f → (e : Exit) × (l ≡ done e) × (g e ≡ done f)
+unfolding andThen
+and-inv img (done e) g f q = (e, refl, q)
+and-inv img (twice x a b) g f q = absurd (twice-done x a b f q)
+
 module _ {img : List ℕ} {Q : Exit → Type 0} where
   in-done : {a b : ℕ} {e f : Exit} → Went img Q a b e f → In img Q a b e (done f)
   in-done {a} {b} {e} {f} w = record { went = λ g q. subst (Went img Q a b e) (done-same f g q) w }
@@ -120,8 +128,13 @@ module _ {img : List ℕ} {Q : Exit → Type 0} where
   and-in (twice x y z) g w h = in-twice x y z
 
 module _ (img : List ℕ) where
-  named-in : (n : ℕ) (e : Exit) (o : Option ℕ) → In img (Newest img) 0 1 e (elim o [ nothing ↦ done (ownSymbol img n e) | some first ↦ twice (nameOf img n) first n ])
-  unfolding ownSymbol newSymbol
+  -- a name's entry, by what its scope has of the name
+  unfoldable pub named : ℕ → Exit → Option ℕ → Listed
+  unfolding ownSymbol
+  named n e o = elim o [ nothing ↦ done (ownSymbol img n e) | some first ↦ twice (nameOf img n) first n ]
+
+  named-in : (n : ℕ) (e : Exit) (o : Option ℕ) → In img (Newest img) 0 1 e (named n e o)
+  unfolding named newSymbol
   named-in n e nothing =
       in-done
       (record {
@@ -137,7 +150,7 @@ module _ (img : List ℕ) where
   named-in n e (some a) = in-twice (nameOf img n) a n
 
   pub name-in : (n : ℕ) (e : Exit) → In img (Newest img) 0 1 e (enterName img n e)
-  unfolding enterName
+  unfolding enterName named
   name-in n e = named-in n e (find img (e .table) (e .scope) (nameOf img n))
 
   rule-in : (sh : List ℕ) (n : ℕ) (e : Exit) → In img (Newest img) 0 1 e (enterRule img sh n e)

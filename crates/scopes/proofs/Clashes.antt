@@ -18,11 +18,11 @@ use Rattle.table.specs.Table.{find, mark}
 use Rattle.table.proofs.Frames.{own, find-none, find-mark, find-symbol}
 use Rattle.table.proofs.Rising.{either}
 use Rattle.ordered.proofs.Kept.{mark-length}
-use Rattle.ordered.proofs.Size.{size, sizes}
+use Rattle.ordered.specs.Size.{size, sizes}
 use Rattle.scopes.specs.Walk.{Listed, done, twice, enterName, enterRule, andThen, enter, enterAll, visit, visitAll}
 use Rattle.scopes.specs.Lists.{ent, ents, vis, viss, Fits}
 use Rattle.scopes.specs.Clash.{Clash, orElse, ruleNode, declared, declaredAll, earliest, clashFrom, modelClash, modelClashes}
-use Rattle.scopes.proofs.Adds.{Newest, Went, done-same, twice-done, name-in, enter-in, enterAll-in, opened, opened-counts, child-newest, child-empty, visit-in, fits-next}
+use Rattle.scopes.proofs.Adds.{named, Newest, Went, done-same, twice-done, name-in, enter-in, enterAll-in, opened, opened-counts, child-newest, child-empty, visit-in, fits-next}
 
 -- the clash that a walk stopped at
 unfoldable pub shows : Listed → Option Clash
@@ -99,13 +99,10 @@ module _ (img : List ℕ) where
   unfolding marked mark
   space-marked n cur e s = record { room = s .room; long = (let y = mark-length img n cur (e .scope) (e .table) in let z = s .long in omega arith) }
 
-  named : ℕ → Exit → Option ℕ → Listed
-  named n e o = elim o [ nothing ↦ done (ownSymbol img n e) | some first ↦ twice (nameOf img n) first n ]
-
   clashed : ℕ → Option ℕ → Option Clash
   clashed n o = elim o [ some m ↦ some (record { name = nameOf img n; first = m; second = n }) | nothing ↦ nothing ]
 
-  told-named : (ds : List ℕ) (n : ℕ) (e : Exit) → Finds ds e → Space 1 e → (o : Option ℕ) → earliest img ds (nameOf img n) ≡ o → Told ds (n ∷ []) (named n e o)
+  told-named : (ds : List ℕ) (n : ℕ) (e : Exit) → Finds ds e → Space 1 e → (o : Option ℕ) → earliest img ds (nameOf img n) ≡ o → Told ds (n ∷ []) (named img n e o)
   unfolding named clashed clashFrom shows ownSymbol
   told-named ds n e h s nothing q =
       record {
@@ -118,7 +115,7 @@ module _ (img : List ℕ) where
 
   told-name : (ds : List ℕ) (n : ℕ) (e : Exit) → Finds ds e → Space 1 e → Told ds (n ∷ []) (enterName img n e)
   unfolding enterName named
-  told-name ds n e h s = subst (λ (o : Option ℕ). Told ds (n ∷ []) (named n e o)) (sym (h (nameOf img n))) (told-named ds n e h s (earliest img ds (nameOf img n)) refl)
+  told-name ds n e h s = subst (λ (o : Option ℕ). Told ds (n ∷ []) (named img n e o)) (sym (h (nameOf img n))) (told-named ds n e h s (earliest img ds (nameOf img n)) refl)
 
   told-rule : (sh ds : List ℕ) (n : ℕ) (e : Exit) → Finds ds e → Space 1 e → Told ds (ruleNode img sh n) (enterRule img sh n e)
   unfolding enterRule ruleNode

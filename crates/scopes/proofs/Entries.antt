@@ -24,13 +24,13 @@ use Rattle.table.specs.Table.{find, findFrom, mark}
 use Rattle.table.specs.Values.{exitOf}
 use Rattle.table.specs.declared.Walked.{Walked}
 use Rattle.ast.specs.declared.NodeId.{NodeId}
-use Rattle.ordered.proofs.Size.{size}
+use Rattle.ordered.specs.Size.{size}
 use Rattle.ordered.proofs.Kept.{past, mark-past, mark-length, symbol-past}
 use Rattle.scopes.specs.Walk.{Listed, done, twice, enterName, enterRule, andThen, enter, enterAll, visit}
 use Rattle.scopes.specs.Lists.{listedOf, ent, ents, vis, restEnter, Seen, Entering, Enters, Signature, Lists, Stamped}
 use Rattle.scopes.specs.declared.Declared.{Declared}
 use Rattle.scopes.specs.declared.Declared.the-variants.{Done, Twice}
-use Rattle.scopes.proofs.Adds.{Went, done-same, twice-done, name-in, enter-in}
+use Rattle.scopes.proofs.Adds.{named, Went, done-same, twice-done, name-in, enter-in}
 use Rattle.scopes.proofs.Stamps.{seen-none, seen-stamp, seen-symbol, seen-marked}
 
 -- the last case is the one left
@@ -90,18 +90,15 @@ module _ (img : List ℕ) where
   unfolding find
   found-here n e x o q p = sym (p ∙ ap (findFrom img (e .table .symbols) (e .table .words) 0 (e .scope)) q)
 
-  named : ℕ → Exit → Option ℕ → Listed
-  named n e o = elim o [ nothing ↦ done (ownSymbol img n e) | some first ↦ twice (nameOf img n) first n ]
-
   enter-new : (n : ℕ) (e : Exit) (x : ℕ) → x ≡ nameOf img n → nothing ≡ findFrom img (e .table .symbols) (e .table .words) 0 (e .scope) x
       → enterName img n e ≡ done (ownSymbol img n e)
   unfolding enterName named
-  enter-new n e x q p = ap (named n e) (found-here n e x nothing q p)
+  enter-new n e x q p = ap (named img n e) (found-here n e x nothing q p)
 
   enter-twice : (n : ℕ) (e : Exit) (x a : ℕ) → x ≡ nameOf img n → some a ≡ findFrom img (e .table .symbols) (e .table .words) 0 (e .scope) x
       → enterName img n e ≡ twice x a n
   unfolding enterName named
-  enter-twice n e x a q p = ap (named n e) (found-here n e x (some a) q p) ∙ ap (λ (y : ℕ). twice y a n) (sym q)
+  enter-twice n e x a q p = ap (named img n e) (found-here n e x (some a) q p) ∙ ap (λ (y : ℕ). twice y a n) (sym q)
 
   module _ {seen : List ℕ} {e : Exit} (p : Entering img seen 1 e) (n x : ℕ) (name-is : x ≡ nameOf img n) where
     entered : {us vs : List ℕ} (w : Walked) → nothing ≡ findFrom img (e .table .symbols) (e .table .words) 0 (e .scope) x → exitOf w vs ≡ ownSymbol img n e

@@ -1,9 +1,10 @@
 -- The trees of an accepted image: the nodes are below N, and what the walk enters as a symbol is a named node of a kind that has
 -- a symbol number.
 use mathlib.Core.Path.{_≡_, sym, ap, subst, _∙_}
-use mathlib.Core.Bool.{Bool, true, false, not, _&&_}
+use mathlib.Core.Bool.{Bool, true, not, _&&_}
 use mathlib.Core.List.{List, [], _∷_}
 use Prim.Native.Nat.{ℕ, zero, suc, _+_, _<_, _≤_}
+use native.Mathlib.Decide.{decLt}
 use native.Mathlib.Omega.{arith}
 use native.Mathlib.Nat.{add-zero}
 use lib.Dec.{T, eqb, leb, leb→le, eqb→eq, T-not}
@@ -17,35 +18,9 @@ use Rattle.ast.proofs.Accepted.{formed}
 use Rattle.ast.proofs.Unfold.{treeAt-is}
 use Rattle.ast.proofs.Vars.{Everywhere, everywhere, every-kind}
 use Rattle.table.specs.Sound.{hasName, isSymbol}
-use Rattle.table.proofs.Sounds.{named-yes, symbol-rule, symbol-arg, symbol-var, symbol-decl}
-
--- an optional name, by the shape
-unfoldable pub namedBy : List ℕ → Bool
-namedBy [] = false
-namedBy (zero ∷ sh) = false
-namedBy (suc c ∷ sh) = true
-
--- the walk enters the node as a symbol
-unfoldable pub enters : Class → List ℕ → Bool
-unfolding namedBy
-enters (outer root) sh = false
-enters (outer decl) sh = false
-enters (outer signature) sh = true
-enters (outer rule) sh = namedBy sh
-enters (outer enum) sh = true
-enters (outer model) sh = true
-enters (inner plain) sh = false
-enters (inner term) sh = false
-enters (inner ident) sh = true
-enters (inner head) sh = false
-enters (inner headMember) sh = false
-enters (inner member) sh = false
-enters (inner branch) sh = false
-enters (inner match) sh = false
-enters (inner case) sh = false
-enters (inner ifVar) sh = false
-enters (inner definedThen) sh = false
-enters (inner arg) sh = namedBy sh
+use Rattle.table.proofs.Sounds.{named-yes, symbol-out, symbol-rule, symbol-arg, symbol-var, symbol-decl}
+use Rattle.ordered.proofs.Bools.{and-both, true-not-false, false-true}
+use Rattle.ordered.proofs.Moves.{namedBy, enters}
 
 -- the kinds of these classes
 declares : ℕ → Bool
@@ -80,17 +55,18 @@ every-allowed : (k : ℕ) → k ≤ 40 → T (allows k (kindOf k))
 unfolding allows kinds
 every-allowed k l = every-kind allows tt k l
 
-and-both : (a b : Bool) → T (a && b) → T a × T b
-and-both true b t = (tt, t)
-and-both false b t = absurd t
-
-no-false : false ≡ true → ⊥
-no-false e = let z : _≡_ {A = ℕ} 0 1 = cc in omega arith
-
 -- a node of a tree: its number, and that what is entered is a symbol
 unfoldable pub Fit : List ℕ → Tree → Type 0
 Fit img (block ts) = Unit {0}
 Fit img (node n k c sh ts) = (n < nodes img) × (enters c sh ≡ true → isSymbol img n ≡ true)
+
+-- a symbol is a node
+pub symbol-below : (img : List ℕ) (n : ℕ) → isSymbol img n ≡ true → n < nodes img
+symbol-below img n s = go (decLt n (nodes img))
+  where
+    go : Dec (n < nodes img) → n < nodes img
+    go (yes l) = l
+    go (no l) = absurd (true-not-false s (symbol-out img n (omega arith)))
 
 module _ (img : List ℕ) (n : ℕ) (below : n < nodes img) where
   decl-symbol : T (declares (kindAt img n)) → isSymbol img n ≡ true
@@ -114,7 +90,7 @@ module _ (img : List ℕ) (n : ℕ) (below : n < nodes img) where
 
   present : (w : ℕ) (sh : List ℕ) → namedBy (elim w [ zero ↦ 0 | suc c ↦ 1 ] ∷ sh) ≡ true → w ≡ 0 → ⊥
   unfolding namedBy
-  present zero sh e z = no-false e
+  present zero sh e z = false-true e
   present (suc w) sh e z = omega arith
 
   has : (q : (sh : List ℕ) × (shape img n ≡ elim (field img n 0) [ zero ↦ 0 | suc c ↦ 1 ] ∷ sh)) → namedBy (shape img n) ≡ true → hasName img n ≡ true
@@ -122,23 +98,23 @@ module _ (img : List ℕ) (n : ℕ) (below : n < nodes img) where
 
   class-symbol : (c : Class) → T (allowed c (kindAt img n)) → enters c (shape img n) ≡ true → isSymbol img n ≡ true
   unfolding enters allowed
-  class-symbol (outer root) t e = absurd (no-false e)
-  class-symbol (outer decl) t e = absurd (no-false e)
+  class-symbol (outer root) t e = absurd (false-true e)
+  class-symbol (outer decl) t e = absurd (false-true e)
   class-symbol (outer signature) t e = decl-symbol t
   class-symbol (outer rule) t e = let k = eqb→eq (kindAt img n) 6 t in symbol-rule img n below k ∙ has (shape-six k) e
   class-symbol (outer enum) t e = decl-symbol t
   class-symbol (outer model) t e = decl-symbol t
-  class-symbol (inner plain) t e = absurd (no-false e)
-  class-symbol (inner term) t e = absurd (no-false e)
+  class-symbol (inner plain) t e = absurd (false-true e)
+  class-symbol (inner term) t e = absurd (false-true e)
   class-symbol (inner ident) t e = let k = eqb→eq (kindAt img n) 13 t in symbol-var img n below (λ q. omega arith) (λ q. omega arith) k
-  class-symbol (inner head) t e = absurd (no-false e)
-  class-symbol (inner headMember) t e = absurd (no-false e)
-  class-symbol (inner member) t e = absurd (no-false e)
-  class-symbol (inner branch) t e = absurd (no-false e)
-  class-symbol (inner match) t e = absurd (no-false e)
-  class-symbol (inner case) t e = absurd (no-false e)
-  class-symbol (inner ifVar) t e = absurd (no-false e)
-  class-symbol (inner definedThen) t e = absurd (no-false e)
+  class-symbol (inner head) t e = absurd (false-true e)
+  class-symbol (inner headMember) t e = absurd (false-true e)
+  class-symbol (inner member) t e = absurd (false-true e)
+  class-symbol (inner branch) t e = absurd (false-true e)
+  class-symbol (inner match) t e = absurd (false-true e)
+  class-symbol (inner case) t e = absurd (false-true e)
+  class-symbol (inner ifVar) t e = absurd (false-true e)
+  class-symbol (inner definedThen) t e = absurd (false-true e)
   class-symbol (inner arg) t e = let k = eqb→eq (kindAt img n) 10 t in symbol-arg img n below k ∙ has (shape-ten k) e
 
 module _ (img : List ℕ) (accepted : verdict img ≡ 0) where

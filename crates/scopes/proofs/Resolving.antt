@@ -7,7 +7,7 @@ use Prim.Native.Nat.{ℕ, zero, suc, _+_, _*_, _-_, _<_, _≤_}
 use native.Mathlib.Omega.{arith}
 use native.Mathlib.Nat.{zero-add}
 use lib.Dec.{leb→le}
-use lib.ListN.{length, getD, set, drop, replicate, length-set, length-append, length-replicate, length-drop}
+use lib.ListN.{length, getD, set, drop, replicate, length-set, length-append, length-replicate}
 use lib.Seq.{getD-set-same, getD-set-other, drop-set-lt, drop-at}
 use Rattle.ast.specs.Answer.{refused, twice as twiceAnswer, result}
 use Rattle.ast.specs.Image.{nodes, last, kindAt}
@@ -26,8 +26,12 @@ use Rattle.table.specs.State.{Exit, marked}
 use Rattle.table.specs.Table.{Table, mark, newScope}
 use Rattle.table.proofs.Sounds.{parent-low, row-yes, sound-rest}
 use Rattle.ordered.specs.Walkers.{Few}
-use Rattle.ordered.proofs.Kept.{Kept, past, mark-kept, scope-kept, mark-past, scope-past, mark-length, scope-length}
-use Rattle.ordered.proofs.Size.{size, size-nodes}
+use Rattle.ordered.specs.Kept.{Kept}
+use Rattle.ordered.proofs.Kept.{past, mark-kept, scope-kept, mark-past, scope-past, mark-length, scope-length}
+use Rattle.ordered.specs.Size.{size}
+use Rattle.ordered.proofs.Size.{size-nodes}
+use Rattle.rows.specs.Rows.{cleared}
+use Rattle.rows.proofs.Appends.{clear-length}
 use Rattle.scopes.specs.Walk.{Listed, done, twice, enterAll, visitAll, resolveTree}
 use Rattle.scopes.specs.Resolve.{Outcome, testTable, zeroed, walked, headed, outcomeOf, resolve}
 use Rattle.scopes.specs.Clash.{Clash, clashIn, firstClash}
@@ -36,7 +40,11 @@ use Rattle.scopes.proofs.Clashes.{shows, list-shown, visitAll-shown}
 use Rattle.scopes.proofs.Namings.{Fit, tree-fits}
 use Rattle.scopes.proofs.Moves.{Good, good-mark, moves-good, enterAll-ends, visitAll-ends, ends-and}
 
--- the module's own scope, in a table with no scope and no symbol
+-- a table with no scope and no symbol
+pub none-kept : (img ws : List ℕ) → tableLength (nodes img) ≤ length ws → Kept img (record { words = ws; scopes = 0; symbols = 0 })
+none-kept img ws long = record { rising = record { within = omega arith; long = long; rises = λ i j a b. absurd (omega arith) }; under = λ j b. absurd (omega arith) }
+
+-- the module's own scope in it
 module _ (img ws : List ℕ) (n : ℕ) (below : n < nodes img) (long : tableLength (nodes img) ≤ length ws) where
   abbrev empty : Table
   empty = record { words = ws; scopes = 0; symbols = 0 }
@@ -52,7 +60,7 @@ module _ (img ws : List ℕ) (n : ℕ) (below : n < nodes img) (long : tableLeng
   unfolding marked mark newScope
   begun-newest =
       record {
-        kept = mark-kept img n 0 0 (newScope img allOnes empty) below (scope-kept img allOnes empty (omega arith) (record { rising = record { within = omega arith; long = long; rises = λ i j a b. absurd (omega arith) }; under = λ j b. absurd (omega arith) }));
+        kept = mark-kept img n 0 0 (newScope img allOnes empty) below (scope-kept img allOnes empty (omega arith) (none-kept img ws long));
         last = (let z : suc 0 ≡ 0 + 1 = omega arith in z);
       }
 
@@ -129,40 +137,46 @@ module _ (img tab : List ℕ) where
   table-long e = leb→le _ _ (needed 12 _ (both _ _ e .1))
 
   pub zeroed-length : tableLength (nodes img) ≤ length tab → length (zeroed img tab) ≡ length tab
+  unfolding zeroed cleared
+  zeroed-length h = clear-length (tableLength (nodes img)) tab h
+
+  pub zeroed-long : tableLength (nodes img) ≤ length (zeroed img tab)
   unfolding zeroed
-  zeroed-length h =
+  zeroed-long =
       let L = tableLength (nodes img) in
       let a = length-append (replicate L 0) (drop L tab) in
       let b = length-replicate {A = ℕ} L 0 in
-      let c = length-drop L tab in
       omega arith
 
   pub zeroed-past : drop (tableLength (nodes img)) (zeroed img tab) ≡ drop (tableLength (nodes img)) tab
   unfolding zeroed
   zeroed-past = drop-at (replicate (tableLength (nodes img)) 0) (drop (tableLength (nodes img)) tab) (tableLength (nodes img)) (length-replicate (tableLength (nodes img)) 0)
 
-  module _ (passes : testTable img tab ≡ 0) where
+  module _ (accepted : verdict img ≡ 0) where
     whole-size : size (treeAt img (last img)) ≡ nodes img
-    whole-size = size-nodes (treeAt img (last img)) ∙ count.size img (table-accepted passes)
+    whole-size = size-nodes (treeAt img (last img)) ∙ count.size img accepted
 
-    long-zeros : tableLength (nodes img) ≤ length (zeroed img tab)
-    long-zeros = let z = zeroed-length (table-long passes) in let l = table-long passes in omega arith
-
-    pub walked-ended : (e : Exit) → walked img tab ≡ done e → Ended img (zeroed img tab) e
+    pub walk-ended : (e : Exit) → walked img tab ≡ done e → Ended img (zeroed img tab) e
     unfolding walked
-    walked-ended e h =
+    walk-ended e h =
         let n = last img in
-        let below = last-below img (table-accepted passes) in
-        let is = treeAt-is img (formed img (table-accepted passes)) n below in
+        let below = last-below img accepted in
+        let is = treeAt-is img (formed img accepted) n below in
         let ts = ordered (classAt img n) (grow (treeAt img) (kids img n)) in
-        tree-ended img (zeroed img tab) long-zeros n (kindAt img n) (classAt img n) (shape img n) ts
-        (subst (Small (nodes img)) is (tree-small img n)) (subst (Everywhere (Fit img)) is (tree-fits img (table-accepted passes) n below))
+        tree-ended img (zeroed img tab) zeroed-long n (kindAt img n) (classAt img n) (shape img n) ts
+        (subst (Small (nodes img)) is (tree-small img n)) (subst (Everywhere (Fit img)) is (tree-fits img accepted n below))
         (let z = ap size is in let y = whole-size in omega arith) e
         (ap (λ (u : Tree). resolveTree img u (record { words = zeroed img tab; scopes = 0; symbols = 0 })) (sym is) ∙ h)
 
-    pub walked-shown : shows (walked img tab) ≡ firstClash img
+    walk-shown : shows (walked img tab) ≡ firstClash img
     unfolding walked firstClash
-    walked-shown = tree-shown img (zeroed img tab) long-zeros (treeAt img (last img)) (tree-small img (last img)) (let z = whole-size in omega arith)
+    walk-shown = tree-shown img (zeroed img tab) zeroed-long (treeAt img (last img)) (tree-small img (last img)) (let z = whole-size in omega arith)
+
+  pub walked-ended : testTable img tab ≡ 0 → (e : Exit) → walked img tab ≡ done e → Ended img (zeroed img tab) e
+  walked-ended p e h = walk-ended (table-accepted p) e h
+
+  pub walked-shown : testTable img tab ≡ 0 → shows (walked img tab) ≡ firstClash img
+  walked-shown p = walk-shown (table-accepted p)
 
 -- the table with its counts -----------------------------------------------------------------------------------------------
 module _ (img : List ℕ) (t : Table) where
@@ -301,14 +315,14 @@ module _ (img tab : List ℕ) where
   own-table-sound k y e =
       let f = filled k y e in
       ap (testSound img) (f .table-is)
-      ∙ headed-sound img (zeroed img tab) (f .end) (let z = zeroed-length img tab (table-long img tab (f .passes)) in let l = table-long img tab (f .passes) in omega arith) (walked-ended img tab (f .passes) (f .end) (f .is))
+      ∙ headed-sound img (zeroed img tab) (f .end) (zeroed-long img tab) (walked-ended img tab (f .passes) (f .end) (f .is))
 
   -- its words have K and Y
   pub own-counts : (k y : ℕ) → (resolve img tab) .answer ≡ result k y → (scopesIn img ((resolve img tab) .table) ≡ k) × (symbolsIn img ((resolve img tab) .table) ≡ y)
   own-counts k y e =
       let f = filled k y e in
       let d = walked-ended img tab (f .passes) (f .end) (f .is) in
-      let l : tableLength (nodes img) ≤ length (f .end .table .words) = (let z = d .long in let w = zeroed-length img tab (table-long img tab (f .passes)) in let v = table-long img tab (f .passes) in omega arith) in
+      let l : tableLength (nodes img) ≤ length (f .end .table .words) = (let z = d .long in let w = zeroed-long img tab in omega arith) in
       (ap (scopesIn img) (f .table-is) ∙ headed-scopes img (f .end .table) l ∙ f .scopes-are, ap (symbolsIn img) (f .table-is) ∙ headed-symbols img (f .end .table) l ∙ f .symbols-are)
 
   -- the words past 3 + 5N are untouched, and the length stays

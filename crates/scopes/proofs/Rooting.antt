@@ -20,7 +20,9 @@ use Rattle.table.specs.Layout.{allOnes, tableLength}
 use Rattle.table.specs.State.{Exit, childScope, marked}
 use Rattle.table.specs.Values.{tableOf, exitOf}
 use Rattle.table.specs.declared.Walked.{Walked}
-use Rattle.ordered.proofs.Size.{size, sizes, size-nodes}
+use Rattle.ordered.specs.Size.{size, sizes}
+use Rattle.ordered.proofs.Size.{size-nodes}
+use Rattle.rows.specs.Rows.{cleared}
 use Rattle.scopes.specs.Walk.{andThen, enterAll, visitAll, resolveTree}
 use Rattle.scopes.specs.Resolve.{testTable, zeroed, walked, headed, resolve}
 use Rattle.scopes.specs.Lists.{listedOf, overList, Visits, ListRun, Lent}
@@ -31,7 +33,7 @@ use Rattle.scopes.proofs.Resolving.{begun, begun-counts, begun-newest, 
 use Rattle.scopes.proofs.Visiting.{listOf, over-start}
 
 module _ (img : List ℕ) where
-  root-is : verdict img ≡ 0 → Is img (kindOf 0) (last img)
+  pub root-is : verdict img ≡ 0 → Is img (kindOf 0) (last img)
   root-is e = record { accepted = e; below = last-below img e; kind = ap kindOf ((formed img e) .root) }
 
   rootTrees : ℕ → Trees
@@ -105,10 +107,10 @@ module _ (img : List ℕ) where
           ∙ ap (λ (us : Trees). andThen img (enterAll img us m) (visitAll img us)) a ∙ over-start img n 1 (field img n 0) m
 
 -- Resolve, by the words that the code has at each step
-module _ (img tab : List ℕ) (passes : testTable img tab ≡ 0) (us : List ℕ) (c : ℕ) (count-is : c ≡ tableLength (nodes img)) (cleared : us ≡ replicate c 0 ++ drop c tab) where
+module _ (img tab : List ℕ) (passes : testTable img tab ≡ 0) (us : List ℕ) (c : ℕ) (count-is : c ≡ tableLength (nodes img)) (begins : us ≡ cleared c tab) where
   as-zeroed : us ≡ zeroed img tab
-  unfolding zeroed
-  as-zeroed = cleared ∙ ap (λ (k : ℕ). replicate k 0 ++ drop k tab) count-is
+  unfolding zeroed cleared
+  as-zeroed = begins ∙ ap (λ (k : ℕ). cleared k tab) count-is
 
   pub lent : length us ≡ length tab → Lent img us
   lent l = record { accepted = table-accepted img tab passes; long = (let z = table-long img tab passes in omega arith) }
@@ -125,13 +127,13 @@ module _ (img tab : List ℕ) (passes : testTable img tab ≡ 0) (us : List ℕ)
         (sym (e .0), q ∙ sym (e .1))
 
     -- "twice", with the words cleared again
-    pub resolved-twice : {ws : List ℕ} (x : ℕ) (a b : NodeId) → r ≡ Twice x a b → ws ≡ replicate c 0 ++ drop c vs → (twiceAnswer x (a .0) (b .0) ≡ (resolve img tab) .answer) × (ws ≡ (resolve img tab) .table)
-    unfolding zeroed
+    pub resolved-twice : {ws : List ℕ} (x : ℕ) (a b : NodeId) → r ≡ Twice x a b → ws ≡ cleared c vs → (twiceAnswer x (a .0) (b .0) ≡ (resolve img tab) .answer) × (ws ≡ (resolve img tab) .table)
+    unfolding zeroed cleared
     resolved-twice x a b d q =
         let e = stops-outcome img tab x (a .0) (b .0) passes (walked-as ∙ ap (λ (o : Declared). listedOf o vs) d) in
         let z : drop (tableLength (nodes img)) vs ≡ drop (tableLength (nodes img)) tab = h .passed ∙ ap (drop (tableLength (nodes img))) as-zeroed ∙ zeroed-past img tab in (
           sym (e .0),
-          q ∙ ap (λ (k : ℕ). replicate k 0 ++ drop k vs) count-is ∙ ap (λ (l : List ℕ). replicate (tableLength (nodes img)) 0 ++ l) z ∙ sym (e .1),
+          q ∙ ap (λ (k : ℕ). cleared k vs) count-is ∙ ap (λ (l : List ℕ). replicate (tableLength (nodes img)) 0 ++ l) z ∙ sym (e .1),
         )
 
 pub resolved-refused : (img tab : List ℕ) (k : ℕ) → k ≡ testTable img tab → (k ≡ 0 → ⊥) → (refused k ≡ (resolve img tab) .answer) × (tab ≡ (resolve img tab) .table)

@@ -4,7 +4,7 @@ use mathlib.Core.Logic.{⊎-elim}
 use mathlib.Core.Bool.{Bool, true, false}
 use mathlib.Core.List.{List}
 use mathlib.Core.Option.{none}
-use Prim.Native.Nat.{ℕ, zero, suc, _+_, _*_, _<_, _≤_}
+use Prim.Native.Nat.{ℕ, zero, suc, _+_, _<_, _≤_}
 use native.Mathlib.Omega.{arith}
 use native.Mathlib.Nat.{eq-or-lt-of-le}
 use native.Mathlib.Numerals.{add-one}
@@ -13,33 +13,29 @@ use lib.ListN.{length, getD, set, length-set}
 use lib.Seq.{getD-set-same, getD-set-other}
 use borrow.Author.Tests.{eqb-true, eqb-false, ne-eqb}
 use Rattle.ast.specs.Image.{nodes, nameOf}
-use Rattle.table.specs.Layout.{tableLength}
+use Rattle.table.specs.Layout.{scopePlace, nodePlace, tableLength}
 use Rattle.table.specs.Rows.{scopeOf, nodeAt}
 use Rattle.table.specs.State.{Exit, ownSymbol, marked}
 use Rattle.table.specs.Table.{Table, rowIs, findFrom, mark, newSymbol}
 use Rattle.table.proofs.Finds.{row-out, row-in}
 use Rattle.table.proofs.Frames.{SameRows, symbol-same, symbol-node}
+use Rattle.ordered.proofs.Bools.{false-true}
+use Rattle.ordered.proofs.Kept.{mark-word}
 use Rattle.scopes.specs.Lists.{Seen, Stamped}
-
-no-false : false ≡ true → ⊥
-no-false e = let z : _≡_ {A = ℕ} 0 1 = cc in omega arith
-
-no-true : true ≡ false → ⊥
-no-true e = let z : _≡_ {A = ℕ} 0 1 = cc in omega arith
 
 -- as the code stamps: i is the place of the name x
 module _ {seen : List ℕ} {x s i : ℕ} (place-is : i ≡ x) where
   pub stamped-past : length seen ≤ i → Stamped seen x s false seen
-  stamped-past h = record { new = λ e. absurd (no-false e); old = λ e. (λ l. absurd (omega arith), refl) }
+  stamped-past h = record { new = λ e. absurd (false-true e); old = λ e. (λ l. absurd (omega arith), refl) }
 
   pub stamped-old : getD seen i 0 ≡ s + 1 → Stamped seen x s false seen
-  stamped-old h = record { new = λ e. absurd (no-false e); old = λ e. (λ l. ap (λ (j : ℕ). getD seen j 0) (sym place-is) ∙ h ∙ add-one s, refl) }
+  stamped-old h = record { new = λ e. absurd (false-true e); old = λ e. (λ l. ap (λ (j : ℕ). getD seen j 0) (sym place-is) ∙ h ∙ add-one s, refl) }
 
   pub stamped-new : i < length seen → (getD seen i 0 ≡ s + 1 → ⊥) → Stamped seen x s true (set seen i (s + 1))
   stamped-new l h =
       record {
         new = λ e. (λ q. h (ap (λ (j : ℕ). getD seen j 0) place-is ∙ q ∙ sym (add-one s)), subst (λ (j : ℕ). j < length seen) place-is l, rw (place-is, add-one s));
-        old = λ e. absurd (no-true e);
+        old = λ e. absurd (false-true (sym e));
       }
 
 module _ (img : List ℕ) where
@@ -51,11 +47,11 @@ module _ (img : List ℕ) where
 
   -- marks change no row
   mark-same : (n a b : ℕ) (t : Table) → n < nodes img → SameRows (nodes img) (t .symbols) ((mark img n a b t) .words) (t .words)
-  unfolding mark
-  mark-same n a b t l = record { scopes = λ j k. word (3 + 3 * nodes img + j) (omega arith); nodes = λ j k. word (3 + 4 * nodes img + j) (omega arith) }
-    where
-      word : (i : ℕ) → 3 + 2 * nodes img ≤ i → getD ((mark img n a b t) .words) i 0 ≡ getD (t .words) i 0
-      word i h = getD-set-other (set (t .words) (3 + n) a) (3 + nodes img + n) i b 0 (λ q. omega arith) ∙ getD-set-other (t .words) (3 + n) i a 0 (λ q. omega arith)
+  mark-same n a b t l =
+      record {
+        scopes = λ j k. mark-word img n a b t (scopePlace (nodes img) j) (omega arith) (omega arith);
+        nodes = λ j k. mark-word img n a b t (nodePlace (nodes img) j) (omega arith) (omega arith);
+      }
 
   -- a scope above all rows: whatever the stamps are
   pub seen-start : (seen : List ℕ) (e : Exit) → ((j : ℕ) → j < e .table .symbols → scopeOf (nodes img) (e .table .words) j < e .scope) → Seen img seen e

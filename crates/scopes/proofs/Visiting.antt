@@ -23,7 +23,8 @@ use Rattle.ordered.specs.Walkers.{over, inside, rest, Few, Room, Ready, Run}
 use Rattle.ordered.proofs.Grows.{Grows, seq-grows}
 use Rattle.ordered.proofs.Kept.{past}
 use Rattle.ordered.proofs.Lists.{rest-start, runOf}
-use Rattle.ordered.proofs.Size.{size, sizes, seq-within}
+use Rattle.ordered.specs.Size.{size, sizes}
+use Rattle.ordered.proofs.Size.{seq-within}
 use Rattle.ordered.proofs.Steps.{room-below, tree-grows}
 use Rattle.scopes.specs.Walk.{Listed, done, twice, andThen, enterAll, visit, visitAll}
 use Rattle.scopes.specs.Lists.{listedOf, ents, vis, viss, restEnter, restVisit, overList, Enters, Visits, Inside, Fits, Visit, Lists, EnterRun, VisitRun, ListRun}

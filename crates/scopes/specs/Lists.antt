@@ -17,8 +17,8 @@ use Rattle.table.specs.State.{Exit}
 use Rattle.table.specs.Values.{exitOf}
 use Rattle.ordered.specs.Walk.{occurs}
 use Rattle.ordered.specs.Walkers.{inside, Room}
-use Rattle.ordered.proofs.Kept.{Kept}
-use Rattle.ordered.proofs.Size.{size, sizes}
+use Rattle.ordered.specs.Kept.{Kept}
+use Rattle.ordered.specs.Size.{size, sizes}
 use Rattle.scopes.specs.Walk.{Listed, done, twice, andThen, enterAll, visitAll}
 use Rattle.scopes.specs.declared.Declared.{Declared}
 use Rattle.scopes.specs.declared.Declared.the-variants.{Done, Twice}

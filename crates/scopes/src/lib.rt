@@ -1,9 +1,9 @@
 // Declaration lists, Resolve and Lookup.
 ghost use mathlib.Core.Path.{_≡_};
 ghost use Prim.Native.Nat.{ℕ, suc, _+_, _*_, _-_, _<_, _≤_, _^_};
-ghost use mathlib.Core.List.{[], _∷_, _++_};
+ghost use mathlib.Core.List.{[], _∷_};
 ghost use mathlib.Core.Option.{some};
-ghost use lib.ListN.{length, getD, set, drop, replicate};
+ghost use lib.ListN.{length, drop};
 ghost use lib.Seq.{slice};
 ghost use Rattle.ast.specs.Image as «image-spec»;
 ghost use Rattle.ast.specs.Tests as «tests-spec»;
@@ -376,18 +376,6 @@ pub fn walk_module(image: &[u8], table: &mut [u32]) -> Declared
     walk_decls(image, table, &mut seen, module, root, 1, count)
 }
 
-// The first `count` words zero.
-pub fn clear(table: &mut [u32], count: usize)
-    requires { ⌜ count ≤ length (now table) ⌝ }
-    ensures { λ _. ⌜ now (table .exit) ≡ replicate count 0 ++ drop count (now (table .entry)) ⌝ }
-{
-    let mut i = 0;
-    while i < count {
-        table[i] = 0;
-        i += 1;
-    }
-}
-
 // N, K and Y, in front.
 pub fn insert_counts(image: &[u8], table: &mut [u32], w: Walked)
     ensures { λ _. ⌜ now (table .exit) ≡ headed (now (image .entry)) (tableOf w (now (table .entry))) ⌝ }
@@ -410,14 +398,14 @@ pub fn resolve_into(image: &[u8], table: &mut [u32]) -> Resolved
     ensures { λ r. ⌜ (resolvedAnswer r ≡ (resolve (now (image .entry)) (now (table .entry))) .answer) × (now (table .exit) ≡ (resolve (now (image .entry)) (now (table .entry))) .table) ⌝ }
 {
     let words = 3 + 5 * ast::wide(ast::node_count(image));
-    clear(table, words);
+    rows::clear(table, words);
     match walk_module(image, table) {
         Declared::Done(w) => {
             insert_counts(image, table, w);
             Resolved::Scopes(w.scopes, w.symbols)
         }
         Declared::Twice(name, first, second) => {
-            clear(table, words);
+            rows::clear(table, words);
             Resolved::Twice(name, first, second)
         }
     }

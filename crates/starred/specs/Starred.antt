@@ -1,7 +1,7 @@
 -- The starred small rule files of document 01, and one that is not starred, as ONE computed check of the definitions.
 use mathlib.Core.Path.{_≡_, refl}
-use mathlib.Core.List.{List, [], _∷_}
-use Prim.Native.Nat.{ℕ}
+use mathlib.Core.List.{List, [], _∷_, _++_}
+use Prim.Native.Nat.{ℕ, _+_}
 use lib.ListN.{replicate}
 use Rattle.ast.specs.Image.{word, nodes, kindAt, startAt, opAt, field, nameOf, operands, names, bytes, last, nameEnd, nameStart, nameBytes}
 use Rattle.ast.specs.Kinds.{kindOf}
@@ -22,21 +22,24 @@ use Rattle.occurrences.specs.Occurrences.{listed, rowsFor, ruleRows, allRows, o
 use Rattle.starred.specs.Encode.{File, bytesOf, kindsOf, startsOf, wordsOf, endsOf, joined, encode}
 use Rattle.lines.specs.Report.{Line, resolved, error, var, endOnce, endOk, refusal, declaredTwice, zipped, rowLines, endLines, bodyLines, linesOf, report}
 
+-- the rows of the statement `if x = x`, numbered from n on
+abbrev ifSame : ℕ → ℕ → List (List ℕ)
+ifSame x n =
+    (13 ∷ x ∷ [])
+    ∷ (12 ∷ 0 ∷ n ∷ [])
+    ∷ (13 ∷ x ∷ [])
+    ∷ (12 ∷ 0 ∷ (n + 2) ∷ [])
+    ∷ (30 ∷ (n + 1) ∷ (n + 3) ∷ [])
+    ∷ (28 ∷ 0 ∷ (n + 4) ∷ [])
+    ∷ (37 ∷ (n + 5) ∷ [])
+    ∷ (36 ∷ 0 ∷ (n + 6) ∷ []) ∷ []
+
 -- ★A: one unnamed rule `if x = x`
 abbrev pub ifEqual : File
 ifEqual =
     record {
-      rows = (13 ∷ 0 ∷ [])
-          ∷ (12 ∷ 0 ∷ 0 ∷ [])
-          ∷ (13 ∷ 0 ∷ [])
-          ∷ (12 ∷ 0 ∷ 2 ∷ [])
-          ∷ (30 ∷ 1 ∷ 3 ∷ [])
-          ∷ (28 ∷ 0 ∷ 4 ∷ [])
-          ∷ (37 ∷ 5 ∷ [])
-          ∷ (36 ∷ 0 ∷ 6 ∷ [])
-          ∷ (6 ∷ 0 ∷ 1 ∷ 7 ∷ [])
-          ∷ (1 ∷ 4 ∷ 8 ∷ [])
-          ∷ (0 ∷ 1 ∷ 9 ∷ []) ∷ [];
+      rows = ifSame 0 0
+          ++ ((6 ∷ 0 ∷ 1 ∷ 7 ∷ []) ∷ (1 ∷ 4 ∷ 8 ∷ []) ∷ (0 ∷ 1 ∷ 9 ∷ []) ∷ []);
       names = (120 ∷ []) ∷ [];
     }
 
@@ -52,21 +55,9 @@ moduleAlone =
 abbrev constEqual : File
 constEqual =
     record {
-      rows = (24 ∷ 0 ∷ [])
-          ∷ (23 ∷ 0 ∷ 0 ∷ [])
-          ∷ (5 ∷ 1 ∷ 1 ∷ [])
-          ∷ (1 ∷ 3 ∷ 2 ∷ [])
-          ∷ (13 ∷ 1 ∷ [])
-          ∷ (12 ∷ 0 ∷ 4 ∷ [])
-          ∷ (13 ∷ 1 ∷ [])
-          ∷ (12 ∷ 0 ∷ 6 ∷ [])
-          ∷ (30 ∷ 5 ∷ 7 ∷ [])
-          ∷ (28 ∷ 0 ∷ 8 ∷ [])
-          ∷ (37 ∷ 9 ∷ [])
-          ∷ (36 ∷ 0 ∷ 10 ∷ [])
-          ∷ (6 ∷ 0 ∷ 1 ∷ 11 ∷ [])
-          ∷ (1 ∷ 4 ∷ 12 ∷ [])
-          ∷ (0 ∷ 2 ∷ 3 ∷ 13 ∷ []) ∷ [];
+      rows = ((24 ∷ 0 ∷ []) ∷ (23 ∷ 0 ∷ 0 ∷ []) ∷ (5 ∷ 1 ∷ 1 ∷ []) ∷ (1 ∷ 3 ∷ 2 ∷ []) ∷ [])
+          ++ ifSame 1 4
+          ++ ((6 ∷ 0 ∷ 1 ∷ 11 ∷ []) ∷ (1 ∷ 4 ∷ 12 ∷ []) ∷ (0 ∷ 2 ∷ 3 ∷ 13 ∷ []) ∷ []);
       names = (84 ∷ []) ∷ (99 ∷ []) ∷ [];
     }
 
@@ -135,27 +126,9 @@ definedThen =
 abbrev branches : File
 branches =
     record {
-      rows = (13 ∷ 0 ∷ [])
-          ∷ (12 ∷ 0 ∷ 0 ∷ [])
-          ∷ (13 ∷ 0 ∷ [])
-          ∷ (12 ∷ 0 ∷ 2 ∷ [])
-          ∷ (30 ∷ 1 ∷ 3 ∷ [])
-          ∷ (28 ∷ 0 ∷ 4 ∷ [])
-          ∷ (37 ∷ 5 ∷ [])
-          ∷ (36 ∷ 0 ∷ 6 ∷ [])
-          ∷ (13 ∷ 0 ∷ [])
-          ∷ (12 ∷ 0 ∷ 8 ∷ [])
-          ∷ (13 ∷ 0 ∷ [])
-          ∷ (12 ∷ 0 ∷ 10 ∷ [])
-          ∷ (30 ∷ 9 ∷ 11 ∷ [])
-          ∷ (28 ∷ 0 ∷ 12 ∷ [])
-          ∷ (37 ∷ 13 ∷ [])
-          ∷ (36 ∷ 0 ∷ 14 ∷ [])
-          ∷ (39 ∷ 2 ∷ 1 ∷ 7 ∷ 1 ∷ 15 ∷ [])
-          ∷ (36 ∷ 2 ∷ 16 ∷ [])
-          ∷ (6 ∷ 0 ∷ 1 ∷ 17 ∷ [])
-          ∷ (1 ∷ 4 ∷ 18 ∷ [])
-          ∷ (0 ∷ 1 ∷ 19 ∷ []) ∷ [];
+      rows = ifSame 0 0
+          ++ ifSame 0 8
+          ++ ((39 ∷ 2 ∷ 1 ∷ 7 ∷ 1 ∷ 15 ∷ []) ∷ (36 ∷ 2 ∷ 16 ∷ []) ∷ (6 ∷ 0 ∷ 1 ∷ 17 ∷ []) ∷ (1 ∷ 4 ∷ 18 ∷ []) ∷ (0 ∷ 1 ∷ 19 ∷ []) ∷ []);
       names = (120 ∷ []) ∷ [];
     }
 
@@ -163,35 +136,10 @@ branches =
 abbrev branchesAfter : File
 branchesAfter =
     record {
-      rows = (13 ∷ 0 ∷ [])
-          ∷ (12 ∷ 0 ∷ 0 ∷ [])
-          ∷ (13 ∷ 0 ∷ [])
-          ∷ (12 ∷ 0 ∷ 2 ∷ [])
-          ∷ (30 ∷ 1 ∷ 3 ∷ [])
-          ∷ (28 ∷ 0 ∷ 4 ∷ [])
-          ∷ (37 ∷ 5 ∷ [])
-          ∷ (36 ∷ 0 ∷ 6 ∷ [])
-          ∷ (13 ∷ 0 ∷ [])
-          ∷ (12 ∷ 0 ∷ 8 ∷ [])
-          ∷ (13 ∷ 0 ∷ [])
-          ∷ (12 ∷ 0 ∷ 10 ∷ [])
-          ∷ (30 ∷ 9 ∷ 11 ∷ [])
-          ∷ (28 ∷ 0 ∷ 12 ∷ [])
-          ∷ (37 ∷ 13 ∷ [])
-          ∷ (36 ∷ 0 ∷ 14 ∷ [])
-          ∷ (13 ∷ 0 ∷ [])
-          ∷ (12 ∷ 0 ∷ 16 ∷ [])
-          ∷ (13 ∷ 0 ∷ [])
-          ∷ (12 ∷ 0 ∷ 18 ∷ [])
-          ∷ (30 ∷ 17 ∷ 19 ∷ [])
-          ∷ (28 ∷ 0 ∷ 20 ∷ [])
-          ∷ (37 ∷ 21 ∷ [])
-          ∷ (36 ∷ 0 ∷ 22 ∷ [])
-          ∷ (39 ∷ 2 ∷ 1 ∷ 15 ∷ 1 ∷ 23 ∷ [])
-          ∷ (36 ∷ 2 ∷ 24 ∷ [])
-          ∷ (6 ∷ 0 ∷ 2 ∷ 7 ∷ 25 ∷ [])
-          ∷ (1 ∷ 4 ∷ 26 ∷ [])
-          ∷ (0 ∷ 1 ∷ 27 ∷ []) ∷ [];
+      rows = ifSame 0 0
+          ++ ifSame 0 8
+          ++ ifSame 0 16
+          ++ ((39 ∷ 2 ∷ 1 ∷ 15 ∷ 1 ∷ 23 ∷ []) ∷ (36 ∷ 2 ∷ 24 ∷ []) ∷ (6 ∷ 0 ∷ 2 ∷ 7 ∷ 25 ∷ []) ∷ (1 ∷ 4 ∷ 26 ∷ []) ∷ (0 ∷ 1 ∷ 27 ∷ []) ∷ []);
       names = (120 ∷ []) ∷ [];
     }
 

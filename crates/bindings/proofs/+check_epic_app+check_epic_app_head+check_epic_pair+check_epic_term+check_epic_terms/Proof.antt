@@ -145,165 +145,127 @@ check-epic-term-claims t = (field-reads.Asked, field-reads.Learnt, check-epic-id
 abbrev check-epic-terms-claims : ℕ → check-epic-terms-lts.Claims
 check-epic-terms-claims t = (field-reads.Asked, field-reads.Learnt, wide-reads.Asked, wide-reads.Learnt, check-epic-term-below t, check-epic-term.Post)
 
--- src/lib.rt:172:23
 check-epic-app-field-requires : (t : ℕ) → check-epic-app-lts.Need-field-requires (check-epic-app-claims t) (check-epic-app-at t) check-epic-app.Post
 check-epic-app-field-requires t c κs = search needs
 
--- src/lib.rt:173:23
 check-epic-app-field-requires-2 : (t : ℕ) → check-epic-app-lts.Need-field-requires-2 (check-epic-app-claims t) (check-epic-app-at t) check-epic-app.Post
 check-epic-app-field-requires-2 t c κs = search needs
 
--- src/lib.rt:174:9
 check-epic-app-check-epic-app-head-requires :
     (t : ℕ) → check-epic-app-lts.Need-check-epic-app-head-requires (check-epic-app-claims t) (check-epic-app-at t) check-epic-app.Post
 check-epic-app-check-epic-app-head-requires t c κs = let o = app-both _ _ (c .before .before .before .before .before .before .pre .1 .is) (c .before .before .field .ensures) (c .before .field2 .ensures) in (let l = o .low in omega arith, record { is = o .is; room = room-first _ (o .same) (c .before .before .before .before .before .before .pre .1 .room) })
 
--- src/lib.rt:175:5
 check-epic-app-check-epic-terms-requires :
     (t : ℕ) → check-epic-app-lts.Need-check-epic-terms-requires (check-epic-app-claims t) (check-epic-app-at t) check-epic-app.Post
 check-epic-app-check-epic-terms-requires t c κs = let o = app-both _ _ (c .before .before .before .before .before .before .before .before .before .before .pre .1 .is) (c .before .before .before .before .before .before .field .ensures) (c .before .before .before .before .before .field2 .ensures) in (let l = o .low2 in omega arith, record { is = o .is2; room = room-rest (o .same) (c .before .before .before .before .before .before .before .before .before .before .pre .1 .room) (c .before .before .before .check-epic-app-head .ensures) })
 
--- src/lib.rt:161:1
 check-epic-app-same-length : (t : ℕ) → check-epic-app-lts.Need-same-length (check-epic-app-claims t) (check-epic-app-at t) check-epic-app.Post
 check-epic-app-same-length t c = search needs
 
--- src/lib.rt:161:1
 check-epic-app-returns : (t : ℕ) → check-epic-app-lts.Need-returns (check-epic-app-claims t) (check-epic-app-at t) check-epic-app.Post
 check-epic-app-returns t c = appended-as (sym ((app-both _ _ (c .before .before .before .before .before .before .before .before .before .before .before .before .before .pre .1 .is) (c .before .before .before .before .before .before .before .before .before .field .ensures) (c .before .before .before .before .before .before .before .before .field2 .ensures)) .same)) (appended-next (c .before .before .before .before .before .before .check-epic-app-head .ensures) (c .before .before .check-epic-terms .ensures))
 
--- src/lib.rt:190:9
 check-epic-app-head-field-requires : (t : ℕ) → check-epic-app-head-lts.Need-field-requires (check-epic-app-head-claims t) (check-epic-app-head-at t) check-epic-app-head.Post
 check-epic-app-head-field-requires t c κs = search needs
 
--- src/lib.rt:191:24
 check-epic-app-head-field-requires-2 : (t : ℕ) → check-epic-app-head-lts.Need-field-requires-2 (check-epic-app-head-claims t) (check-epic-app-head-at t) check-epic-app-head.Post
 check-epic-app-head-field-requires-2 t c κs = search needs
 
--- src/lib.rt:195:35
 check-epic-app-head-field-requires-3 : (t : ℕ) → check-epic-app-head-lts.Need-field-requires-3 (check-epic-app-head-claims t) (check-epic-app-head-at t) check-epic-app-head.Post
 check-epic-app-head-field-requires-3 t c κs = search needs
 
--- src/lib.rt:196:13
 check-epic-app-head-check-epic-term-requires :
     (t : ℕ) → check-epic-app-head-lts.Need-check-epic-term-requires (check-epic-app-head-claims t) (check-epic-app-head-at t) check-epic-app-head.Post
 check-epic-app-head-check-epic-term-requires t c κs = let o = head-receiver _ _ (c .before .before .before .before .before .before .before .before .pre .1 .is) (sym (c .before .before .match .keys2) ∙ c .before .before .before .before .field .ensures) (c .before .before .before .field2 .ensures) (c .before .field3 .ensures) in (let l = o .low in omega arith, record { is = o .is; room = room-as (o .same) (c .before .before .before .before .before .before .before .before .pre .1 .room) })
 
--- src/lib.rt:198:14
 check-epic-app-head-check-epic-term-requires-2 :
     (t : ℕ) → check-epic-app-head-lts.Need-check-epic-term-requires-2 (check-epic-app-head-claims t) (check-epic-app-head-at t) check-epic-app-head.Post
 check-epic-app-head-check-epic-term-requires-2 t c κs = let o = head-term _ _ (c .before .before .before .before .before .before .before .pre .1 .is) (let l = head-last _ (c .before .before .before .before .before .before .before .pre .1 .is) in omega arith) (c .before .before .field2 .ensures) in (let l = o .low in omega arith, record { is = o .is; room = room-as (o .same) (c .before .before .before .before .before .before .before .pre .1 .room) })
 
--- src/lib.rt:179:1
 check-epic-app-head-returns : (t : ℕ) → check-epic-app-head-lts.Need-returns (check-epic-app-head-claims t) (check-epic-app-head-at t) check-epic-app-head.Post
 check-epic-app-head-returns t c = appended-no _ _ (head-none _ _ (c .before .before .before .before .before .before .pre .1 .is) (sym (c .match .keys1) ∙ c .before .before .field .ensures))
 
--- src/lib.rt:179:1
 check-epic-app-head-same-length : (t : ℕ) → check-epic-app-head-lts.Need-same-length (check-epic-app-head-claims t) (check-epic-app-head-at t) check-epic-app-head.Post
 check-epic-app-head-same-length t c = search needs
 
--- src/lib.rt:179:1
 check-epic-app-head-returns-2 : (t : ℕ) → check-epic-app-head-lts.Need-returns-2 (check-epic-app-head-claims t) (check-epic-app-head-at t) check-epic-app-head.Post
 check-epic-app-head-returns-2 t c = appended-as (sym ((head-receiver _ _ (c .before .before .before .before .before .before .before .before .before .before .before .pre .1 .is) (sym (c .before .before .before .before .before .match .keys2) ∙ c .before .before .before .before .before .before .before .field .ensures) (c .before .before .before .before .before .before .field2 .ensures) (c .before .before .before .before .field3 .ensures)) .same)) (c .before .before .check-epic-term .ensures)
 
--- src/lib.rt:179:1
 check-epic-app-head-same-length-2 : (t : ℕ) → check-epic-app-head-lts.Need-same-length-2 (check-epic-app-head-claims t) (check-epic-app-head-at t) check-epic-app-head.Post
 check-epic-app-head-same-length-2 t c = search needs
 
--- src/lib.rt:179:1
 check-epic-app-head-returns-3 : (t : ℕ) → check-epic-app-head-lts.Need-returns-3 (check-epic-app-head-claims t) (check-epic-app-head-at t) check-epic-app-head.Post
 check-epic-app-head-returns-3 t c = appended-as (sym ((head-term _ _ (c .before .before .before .before .before .before .before .before .before .before .pre .1 .is) (let l = head-last _ (c .before .before .before .before .before .before .before .before .before .before .pre .1 .is) in omega arith) (c .before .before .before .before .before .field2 .ensures)) .same)) (c .before .before .check-epic-term2 .ensures)
 
--- src/lib.rt:155:24
 check-epic-pair-field-requires : (t : ℕ) → check-epic-pair-lts.Need-field-requires (check-epic-pair-claims t) (check-epic-pair-at t) check-epic-pair.Post
 check-epic-pair-field-requires t c κs = search needs
 
--- src/lib.rt:156:25
 check-epic-pair-field-requires-2 : (t : ℕ) → check-epic-pair-lts.Need-field-requires-2 (check-epic-pair-claims t) (check-epic-pair-at t) check-epic-pair.Post
 check-epic-pair-field-requires-2 t c κs = search needs
 
--- src/lib.rt:157:9
 check-epic-pair-check-epic-term-requires :
     (t : ℕ) → check-epic-pair-lts.Need-check-epic-term-requires (check-epic-pair-claims t) (check-epic-pair-at t) check-epic-pair.Post
 check-epic-pair-check-epic-term-requires t c κs = let o = epic-pair _ _ (c .before .before .before .before .before .before .pre .1 .is) (c .before .before .field .ensures) (c .before .field2 .ensures) in (let l = o .low in omega arith, record { is = o .is; room = room-first _ (o .same) (c .before .before .before .before .before .before .pre .1 .room) })
 
--- src/lib.rt:158:5
 check-epic-pair-check-epic-term-requires-2 :
     (t : ℕ) → check-epic-pair-lts.Need-check-epic-term-requires-2 (check-epic-pair-claims t) (check-epic-pair-at t) check-epic-pair.Post
 check-epic-pair-check-epic-term-requires-2 t c κs = let o = epic-pair _ _ (c .before .before .before .before .before .before .before .before .before .before .pre .1 .is) (c .before .before .before .before .before .before .field .ensures) (c .before .before .before .before .before .field2 .ensures) in (let l = o .low2 in omega arith, record { is = o .is2; room = room-rest (o .same) (c .before .before .before .before .before .before .before .before .before .before .pre .1 .room) (c .before .before .before .check-epic-term .ensures) })
 
--- src/lib.rt:144:1
 check-epic-pair-same-length : (t : ℕ) → check-epic-pair-lts.Need-same-length (check-epic-pair-claims t) (check-epic-pair-at t) check-epic-pair.Post
 check-epic-pair-same-length t c = search needs
 
--- src/lib.rt:144:1
 check-epic-pair-returns : (t : ℕ) → check-epic-pair-lts.Need-returns (check-epic-pair-claims t) (check-epic-pair-at t) check-epic-pair.Post
 check-epic-pair-returns t c = appended-as (sym ((epic-pair _ _ (c .before .before .before .before .before .before .before .before .before .before .before .before .before .pre .1 .is) (c .before .before .before .before .before .before .before .before .before .field .ensures) (c .before .before .before .before .before .before .before .before .field2 .ensures)) .same)) (appended-next (c .before .before .before .before .before .before .check-epic-term .ensures) (c .before .before .check-epic-term2 .ensures))
 
--- src/lib.rt:128:9
 check-epic-term-field-requires : (t : ℕ) → check-epic-term-lts.Need-field-requires (check-epic-term-claims t) (check-epic-term-at t) check-epic-term.Post
 check-epic-term-field-requires t c κs = search needs
 
--- src/lib.rt:129:24
 check-epic-term-field-requires-2 : (t : ℕ) → check-epic-term-lts.Need-field-requires-2 (check-epic-term-claims t) (check-epic-term-at t) check-epic-term.Post
 check-epic-term-field-requires-2 t c κs = search needs
 
--- src/lib.rt:131:14
 check-epic-term-check-epic-ident-requires :
     (t : ℕ) → check-epic-term-lts.Need-check-epic-ident-requires (check-epic-term-claims t) (check-epic-term-at t) check-epic-term.Post
 check-epic-term-check-epic-ident-requires t c κs = room-as (epic-ident _ _ (c .before .before .before .before .before .before .before .pre .1 .is) (sym (c .before .match .keys1) ∙ c .before .before .before .field .ensures) (c .before .before .field2 .ensures)) (c .before .before .before .before .before .before .before .pre .1 .room)
 
--- src/lib.rt:132:14
 check-epic-term-check-epic-app-requires :
     (t : ℕ) → check-epic-term-lts.Need-check-epic-app-requires (check-epic-term-claims t) (check-epic-term-at t) check-epic-term.Post
 check-epic-term-check-epic-app-requires t c κs = let o = epic-app _ _ (c .before .before .before .before .before .before .before .pre .1 .is) (sym (c .before .match .keys2) ∙ c .before .before .before .field .ensures) (c .before .before .field2 .ensures) in (let l = o .low in omega arith, record { is = o .is; room = room-as (o .same) (c .before .before .before .before .before .before .before .pre .1 .room) })
 
--- src/lib.rt:134:32
 check-epic-term-field-requires-3 : (t : ℕ) → check-epic-term-lts.Need-field-requires-3 (check-epic-term-claims t) (check-epic-term-at t) check-epic-term.Post
 check-epic-term-field-requires-3 t c κs = search needs
 
--- src/lib.rt:135:13
 check-epic-term-check-epic-term-requires :
     (t : ℕ) → check-epic-term-lts.Need-check-epic-term-requires (check-epic-term-claims t) (check-epic-term-at t) check-epic-term.Post
 check-epic-term-check-epic-term-requires t c κs = let o = epic-inner _ _ (c .before .before .before .before .before .before .before .before .pre .1 .is) (c .before .before .match .keys3) (c .before .before .before .before .field .ensures) (c .before .before .before .field2 .ensures) (c .before .field3 .ensures) in (let l = o .low in omega arith, record { is = o .is; room = room-as (o .same) (c .before .before .before .before .before .before .before .before .pre .1 .room) })
 
--- src/lib.rt:137:14
 check-epic-term-check-epic-pair-requires :
     (t : ℕ) → check-epic-term-lts.Need-check-epic-pair-requires (check-epic-term-claims t) (check-epic-term-at t) check-epic-term.Post
 check-epic-term-check-epic-pair-requires t c κs = let o = epic-comp _ _ (c .before .before .before .before .before .before .before .pre .1 .is) (sym (c .before .match .keys4) ∙ c .before .before .before .field .ensures) (c .before .before .field2 .ensures) in (let l = o .low in omega arith, record { is = o .is; room = room-as (o .same) (c .before .before .before .before .before .before .before .pre .1 .room) })
 
--- src/lib.rt:117:1
 check-epic-term-same-length : (t : ℕ) → check-epic-term-lts.Need-same-length (check-epic-term-claims t) (check-epic-term-at t) check-epic-term.Post
 check-epic-term-same-length t c = search needs
 
--- src/lib.rt:117:1
 check-epic-term-returns : (t : ℕ) → check-epic-term-lts.Need-returns (check-epic-term-claims t) (check-epic-term-at t) check-epic-term.Post
 check-epic-term-returns t c = appended-as (sym (epic-ident _ _ (c .before .before .before .before .before .before .before .before .before .before .pre .1 .is) (sym (c .before .before .before .before .match .keys1) ∙ c .before .before .before .before .before .before .field .ensures) (c .before .before .before .before .before .field2 .ensures))) (c .before .before .check-epic-ident .ensures)
 
--- src/lib.rt:117:1
 check-epic-term-same-length-2 : (t : ℕ) → check-epic-term-lts.Need-same-length-2 (check-epic-term-claims t) (check-epic-term-at t) check-epic-term.Post
 check-epic-term-same-length-2 t c = search needs
 
--- src/lib.rt:117:1
 check-epic-term-returns-2 : (t : ℕ) → check-epic-term-lts.Need-returns-2 (check-epic-term-claims t) (check-epic-term-at t) check-epic-term.Post
 check-epic-term-returns-2 t c = appended-as (sym ((epic-app _ _ (c .before .before .before .before .before .before .before .before .before .before .pre .1 .is) (sym (c .before .before .before .before .match .keys2) ∙ c .before .before .before .before .before .before .field .ensures) (c .before .before .before .before .before .field2 .ensures)) .same)) (c .before .before .check-epic-app .ensures)
 
--- src/lib.rt:117:1
 check-epic-term-same-length-3 : (t : ℕ) → check-epic-term-lts.Need-same-length-3 (check-epic-term-claims t) (check-epic-term-at t) check-epic-term.Post
 check-epic-term-same-length-3 t c = search needs
 
--- src/lib.rt:117:1
 check-epic-term-returns-3 : (t : ℕ) → check-epic-term-lts.Need-returns-3 (check-epic-term-claims t) (check-epic-term-at t) check-epic-term.Post
 check-epic-term-returns-3 t c = appended-as (sym ((epic-inner _ _ (c .before .before .before .before .before .before .before .before .before .before .before .pre .1 .is) (c .before .before .before .before .before .match .keys3) (c .before .before .before .before .before .before .before .field .ensures) (c .before .before .before .before .before .before .field2 .ensures) (c .before .before .before .before .field3 .ensures)) .same)) (c .before .before .check-epic-term .ensures)
 
--- src/lib.rt:117:1
 check-epic-term-same-length-4 : (t : ℕ) → check-epic-term-lts.Need-same-length-4 (check-epic-term-claims t) (check-epic-term-at t) check-epic-term.Post
 check-epic-term-same-length-4 t c = search needs
 
--- src/lib.rt:117:1
 check-epic-term-returns-4 : (t : ℕ) → check-epic-term-lts.Need-returns-4 (check-epic-term-claims t) (check-epic-term-at t) check-epic-term.Post
 check-epic-term-returns-4 t c = appended-as (sym ((epic-comp _ _ (c .before .before .before .before .before .before .before .before .before .before .pre .1 .is) (sym (c .before .before .before .before .match .keys4) ∙ c .before .before .before .before .before .before .field .ensures) (c .before .before .before .before .before .field2 .ensures)) .same)) (c .before .before .check-epic-pair .ensures)
 
--- src/lib.rt:117:1
 check-epic-term-returns-5 : (t : ℕ) → check-epic-term-lts.Need-returns-5 (check-epic-term-claims t) (check-epic-term-at t) check-epic-term.Post
 check-epic-term-returns-5 t c = appended-no _ _ (epic-none _ _ _ (c .before .before .before .before .before .before .pre .1 .is) (c .before .before .field .ensures) (c .match .rest .0 .0 .0 .1) (c .match .rest .0 .0 .1) (λ e. c .match .rest .0 .1 (inl e)) (λ e. c .match .rest .0 .1 (inr e)) (c .match .rest .1))
 
@@ -313,27 +275,21 @@ check-epic-terms-Inv-loop image table w rows₀ count list len i₀ c₀ rows i 
 abbrev check-epic-terms-μ-loop : check-epic-terms-lts.MeasureT-loop
 check-epic-terms-μ-loop image table w rows₀ count list len i₀ c₀ rows i c = len - i
 
--- src/lib.rt:213:25
 check-epic-terms-field-requires : (t : ℕ) → check-epic-terms-lts.Need-field-requires (check-epic-terms-claims t) (check-epic-terms-at t) check-epic-terms.Post check-epic-terms-Inv-loop check-epic-terms-μ-loop
 check-epic-terms-field-requires t c κs = search needs
 
--- src/lib.rt:213:9
 check-epic-terms-wide-requires : (t : ℕ) → check-epic-terms-lts.Need-wide-requires (check-epic-terms-claims t) (check-epic-terms-at t) check-epic-terms.Post check-epic-terms-Inv-loop check-epic-terms-μ-loop
 check-epic-terms-wide-requires t c κs = search needs
 
--- src/lib.rt:216:5
 check-epic-terms-loop-holds : (t : ℕ) → check-epic-terms-lts.Need-loop-holds (check-epic-terms-claims t) (check-epic-terms-at t) check-epic-terms.Post check-epic-terms-Inv-loop check-epic-terms-μ-loop
 check-epic-terms-loop-holds t c = (omega arith, left-start _ _ (epic-list _ _ (c .before .before .before .before .before .pre .1 .is)) (c .before .before .before .before .before .pre .1 .room .fits))
 
--- src/lib.rt:217:51
 check-epic-terms-add-field : (t : ℕ) → check-epic-terms-lts.Need-add-field (check-epic-terms-claims t) (check-epic-terms-at t) check-epic-terms.Post check-epic-terms-Inv-loop check-epic-terms-μ-loop
 check-epic-terms-add-field t c = search needs
 
--- src/lib.rt:217:27
 check-epic-terms-field-requires-2 : (t : ℕ) → check-epic-terms-lts.Need-field-requires-2 (check-epic-terms-claims t) (check-epic-terms-at t) check-epic-terms.Post check-epic-terms-Inv-loop check-epic-terms-μ-loop
 check-epic-terms-field-requires-2 t c κs = search needs
 
--- src/lib.rt:218:9
 check-epic-terms-check-epic-term-requires :
     (t : ℕ) → check-epic-terms-lts.Need-check-epic-term-requires (check-epic-terms-claims t)
     (check-epic-terms-at t)
@@ -342,23 +298,18 @@ check-epic-terms-check-epic-term-requires :
     check-epic-terms-μ-loop
 check-epic-terms-check-epic-term-requires t c κs = let o = epic-item _ _ (c .before .before .before .loop .i) (c .before .before .before .before .before .before .before .before .before .pre .1 .is) (omega arith) (c .before .field2 .ensures) in (let l = o .low in omega arith, record { is = o .is; room = room-left _ (c .before .before .before .before .before .before .before .before .before .pre .1 .room .rising) (c .before .before .before .loop .inv .1) (o .same) })
 
--- src/lib.rt:219:9
 check-epic-terms-add-i : (t : ℕ) → check-epic-terms-lts.Need-add-i (check-epic-terms-claims t) (check-epic-terms-at t) check-epic-terms.Post check-epic-terms-Inv-loop check-epic-terms-μ-loop
 check-epic-terms-add-i t c = search needs
 
--- src/lib.rt:216:5
 check-epic-terms-loop-less : (t : ℕ) → check-epic-terms-lts.Need-loop-less (check-epic-terms-claims t) (check-epic-terms-at t) check-epic-terms.Post check-epic-terms-Inv-loop check-epic-terms-μ-loop
 check-epic-terms-loop-less t c = search needs
 
--- src/lib.rt:216:5
 check-epic-terms-loop-again : (t : ℕ) → check-epic-terms-lts.Need-loop-again (check-epic-terms-claims t) (check-epic-terms-at t) check-epic-terms.Post check-epic-terms-Inv-loop check-epic-terms-μ-loop
 check-epic-terms-loop-again t c = (omega arith, left-next (c .before .before .before .before .before .before .loop .inv .1) ((epic-item _ _ (c .before .before .before .before .before .before .loop .i) (c .before .before .before .before .before .before .before .before .before .before .before .before .pre .1 .is) (omega arith) (c .before .before .before .before .field2 .ensures)) .same) (c .before .before .check-epic-term .ensures) (c .before .before .check-epic-term .kept .1 .1 .1 .0))
 
--- src/lib.rt:202:1
 check-epic-terms-same-length : (t : ℕ) → check-epic-terms-lts.Need-same-length (check-epic-terms-claims t) (check-epic-terms-at t) check-epic-terms.Post check-epic-terms-Inv-loop check-epic-terms-μ-loop
 check-epic-terms-same-length t c = c .before .loop .inv .1 .long
 
--- src/lib.rt:202:1
 check-epic-terms-returns : (t : ℕ) → check-epic-terms-lts.Need-returns (check-epic-terms-claims t) (check-epic-terms-at t) check-epic-terms.Post check-epic-terms-Inv-loop check-epic-terms-μ-loop
 check-epic-terms-returns t c = left-end (c .before .loop .inv .1) (listed-end _ _ true _ _ 1 (c .before .loop .i) (omega arith))
 

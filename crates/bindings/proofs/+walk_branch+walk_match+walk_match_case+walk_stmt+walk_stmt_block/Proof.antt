@@ -7,9 +7,10 @@ use Rattle.table.specs.Values.{tableOf}
 use Rattle.ast.specs.Image.{nodes, field}
 use Rattle.rows.proofs.Appends.{appended-next}
 use Rattle.rows.proofs.Parts.{appended-as, appended-no, Left, left-start, left-next, left-end}
+use Rattle.ordered.proofs.Blocks.{BlocksFrom, blocks-from, blocks-place}
 use Rattle.bindings.specs.Checks.{inside, listed}
 use Rattle.bindings.proofs.Epic.{room-as, room-first, room-rest, room-left, listed-start, listed-end}
-use Rattle.bindings.proofs.Bodies.{BlocksFrom, blocksLeft, blocks-start, blocks-whole, blocks-place, block-item, blocks-end, cases-start, cases-item, case-whole, case-run, stmt-if, stmt-then, stmt-branch, stmt-match, stmt-last, stmts-item}
+use Rattle.bindings.proofs.Bodies.{blocksLeft, blocks-whole, block-item, blocks-end, cases-start, cases-item, case-whole, case-run, stmt-if, stmt-then, stmt-branch, stmt-match, stmt-last, stmts-item}
 use Prim.Native.Nat.{ℕ, _<_}
 use borrow.Fn.Kinds.{In}
 use borrow.Fn.PlainCycle.{Measures, is, falls, and}
@@ -106,7 +107,7 @@ walk-stmt-block-below t =
     walk-stmt-block.Pre
 
 abbrev walk-branch-Inv-loop : walk-branch-lts.InvT-loop
-walk-branch-Inv-loop image table w rows₀ count branch blocks i₀ j₀ c₀ rows i j c = BlocksFrom image (branch .0) i j × Left (nodes image) (inside image (tableOf w table) false (branch .0)) (blocksLeft image (tableOf w table) (branch .0) (field image (branch .0) 0 - i) j) count rows₀ c rows
+walk-branch-Inv-loop image table w rows₀ count branch blocks i₀ j₀ c₀ rows i j c = BlocksFrom image (branch .0) (field image (branch .0) 0) i j × Left (nodes image) (inside image (tableOf w table) false (branch .0)) (blocksLeft image (tableOf w table) (branch .0) (field image (branch .0) 0 - i) j) count rows₀ c rows
 
 abbrev walk-branch-μ-loop : walk-branch-lts.MeasureT-loop
 walk-branch-μ-loop image table w rows₀ count branch blocks i₀ j₀ c₀ rows i j c = blocks - i
@@ -126,59 +127,45 @@ walk-stmt-claims t = (field-reads.Asked, field-reads.Learnt, check-then-atom-rea
 abbrev walk-stmt-block-claims : ℕ → walk-stmt-block-lts.Claims
 walk-stmt-block-claims t = (field-reads.Asked, field-reads.Learnt, walk-stmt-below t, walk-stmt.Post)
 
--- src/lib.rt:435:28
 walk-branch-field-requires : (t : ℕ) → walk-branch-lts.Need-field-requires (walk-branch-claims t) (walk-branch-at t) walk-branch.Post walk-branch-Inv-loop walk-branch-μ-loop
 walk-branch-field-requires t c κs = search needs
 
--- src/lib.rt:435:9
 walk-branch-wide-requires : (t : ℕ) → walk-branch-lts.Need-wide-requires (walk-branch-claims t) (walk-branch-at t) walk-branch.Post walk-branch-Inv-loop walk-branch-μ-loop
 walk-branch-wide-requires t c κs = search needs
 
--- src/lib.rt:439:5
 walk-branch-loop-holds : (t : ℕ) → walk-branch-lts.Need-loop-holds (walk-branch-claims t) (walk-branch-at t) walk-branch.Post walk-branch-Inv-loop walk-branch-μ-loop
-walk-branch-loop-holds t c = (blocks-start _ (c .before .before .before .before .before .pre .1 .is), left-start _ _ (blocks-whole _ _ (c .before .before .before .before .before .pre .1 .is)) (c .before .before .before .before .before .pre .1 .room .fits))
+walk-branch-loop-holds t c = (blocks-from _ (c .before .before .before .before .before .pre .1 .is) refl, left-start _ _ (blocks-whole _ _ (c .before .before .before .before .before .pre .1 .is)) (c .before .before .before .before .before .pre .1 .room .fits))
 
--- src/lib.rt:440:29
 walk-branch-field-requires-2 : (t : ℕ) → walk-branch-lts.Need-field-requires-2 (walk-branch-claims t) (walk-branch-at t) walk-branch.Post walk-branch-Inv-loop walk-branch-μ-loop
 walk-branch-field-requires-2 t c κs = let b = blocks-place _ (c .before .loop .inv .0) in omega arith
 
--- src/lib.rt:440:13
 walk-branch-wide-requires-2 : (t : ℕ) → walk-branch-lts.Need-wide-requires-2 (walk-branch-claims t) (walk-branch-at t) walk-branch.Post walk-branch-Inv-loop walk-branch-μ-loop
 walk-branch-wide-requires-2 t c κs = search needs
 
--- src/lib.rt:441:63
 walk-branch-add-walk-stmt-block : (t : ℕ) → walk-branch-lts.Need-add-walk-stmt-block (walk-branch-claims t) (walk-branch-at t) walk-branch.Post walk-branch-Inv-loop walk-branch-μ-loop
 walk-branch-add-walk-stmt-block t c = let b = blocks-place _ (c .before .before .before .before .loop .inv .0) in omega arith
 
--- src/lib.rt:441:9
 walk-branch-walk-stmt-block-requires : (t : ℕ) → walk-branch-lts.Need-walk-stmt-block-requires (walk-branch-claims t) (walk-branch-at t) walk-branch.Post walk-branch-Inv-loop walk-branch-μ-loop
 walk-branch-walk-stmt-block-requires t c κs = let o = block-item _ _ (c .before .before .before .before .before .before .before .before .before .before .pre .1 .is) (c .before .before .before .before .loop .inv .0) (omega arith) (c .before .wide2 .ensures ∙ c .before .before .field2 .ensures) in (omega arith, record { run = o .run; room = room-left _ (c .before .before .before .before .before .before .before .before .before .before .pre .1 .room .rising) (c .before .before .before .before .loop .inv .1) (o .same) })
 
--- src/lib.rt:442:13
 walk-branch-add-j : (t : ℕ) → walk-branch-lts.Need-add-j (walk-branch-claims t) (walk-branch-at t) walk-branch.Post walk-branch-Inv-loop walk-branch-μ-loop
 walk-branch-add-j t c = let b = (block-item _ (tableOf (c .before .before .before .before .before .before .before .before .before .before .before .before .before .args .w) (c .before .before .before .before .before .before .before .before .before .before .before .before .before .args .table .now)) (c .before .before .before .before .before .before .before .before .before .before .before .before .before .pre .1 .is) (c .before .before .before .before .before .before .before .loop .inv .0) (omega arith) (c .before .before .before .before .wide2 .ensures ∙ c .before .before .before .before .before .field2 .ensures)) .fits in omega arith
 
--- src/lib.rt:442:13
 walk-branch-add-j-2 : (t : ℕ) → walk-branch-lts.Need-add-j-2 (walk-branch-claims t) (walk-branch-at t) walk-branch.Post walk-branch-Inv-loop walk-branch-μ-loop
 walk-branch-add-j-2 t c = let b = (block-item _ (tableOf (c .before .before .before .before .before .before .before .before .before .before .before .before .before .args .w) (c .before .before .before .before .before .before .before .before .before .before .before .before .before .args .table .now)) (c .before .before .before .before .before .before .before .before .before .before .before .before .before .pre .1 .is) (c .before .before .before .before .before .before .before .loop .inv .0) (omega arith) (c .before .before .before .before .wide2 .ensures ∙ c .before .before .before .before .before .field2 .ensures)) .fits in omega arith
 
--- src/lib.rt:443:9
 walk-branch-add-i : (t : ℕ) → walk-branch-lts.Need-add-i (walk-branch-claims t) (walk-branch-at t) walk-branch.Post walk-branch-Inv-loop walk-branch-μ-loop
 walk-branch-add-i t c = search needs
 
--- src/lib.rt:439:5
 walk-branch-loop-less : (t : ℕ) → walk-branch-lts.Need-loop-less (walk-branch-claims t) (walk-branch-at t) walk-branch.Post walk-branch-Inv-loop walk-branch-μ-loop
 walk-branch-loop-less t c = search needs
 
--- src/lib.rt:439:5
 walk-branch-loop-again : (t : ℕ) → walk-branch-lts.Need-loop-again (walk-branch-claims t) (walk-branch-at t) walk-branch.Post walk-branch-Inv-loop walk-branch-μ-loop
 walk-branch-loop-again t c = let o = block-item _ _ (c .before .before .before .before .before .before .before .before .before .before .before .before .before .pre .1 .is) (c .before .before .before .before .before .before .before .loop .inv .0) (omega arith) (c .before .before .before .before .wide2 .ensures ∙ c .before .before .before .before .before .field2 .ensures) in (o .from, left-next (c .before .before .before .before .before .before .before .loop .inv .1) (o .same) (c .before .before .walk-stmt-block .ensures) (c .before .before .walk-stmt-block .kept .1 .1 .1 .0))
 
--- src/lib.rt:424:1
 walk-branch-same-length : (t : ℕ) → walk-branch-lts.Need-same-length (walk-branch-claims t) (walk-branch-at t) walk-branch.Post walk-branch-Inv-loop walk-branch-μ-loop
 walk-branch-same-length t c = c .before .loop .inv .1 .long
 
--- src/lib.rt:424:1
 walk-branch-returns : (t : ℕ) → walk-branch-lts.Need-returns (walk-branch-claims t) (walk-branch-at t) walk-branch.Post walk-branch-Inv-loop walk-branch-μ-loop
 walk-branch-returns t c = left-end (c .before .loop .inv .1) (blocks-end _ _ _ (c .before .loop .i) (c .before .loop .j) (omega arith))
 
@@ -188,125 +175,95 @@ walk-match-Inv-loop image table w rows₀ count id cases i₀ c₀ rows i c = (i
 abbrev walk-match-μ-loop : walk-match-lts.MeasureT-loop
 walk-match-μ-loop image table w rows₀ count id cases i₀ c₀ rows i c = cases - i
 
--- src/lib.rt:459:27
 walk-match-field-requires : (t : ℕ) → walk-match-lts.Need-field-requires (walk-match-claims t) (walk-match-at t) walk-match.Post walk-match-Inv-loop walk-match-μ-loop
 walk-match-field-requires t c κs = search needs
 
--- src/lib.rt:459:9
 walk-match-wide-requires : (t : ℕ) → walk-match-lts.Need-wide-requires (walk-match-claims t) (walk-match-at t) walk-match.Post walk-match-Inv-loop walk-match-μ-loop
 walk-match-wide-requires t c κs = search needs
 
--- src/lib.rt:462:5
 walk-match-loop-holds : (t : ℕ) → walk-match-lts.Need-loop-holds (walk-match-claims t) (walk-match-at t) walk-match.Post walk-match-Inv-loop walk-match-μ-loop
 walk-match-loop-holds t c = (omega arith, left-start _ _ (cases-start _ _ (c .before .before .before .before .before .pre .1 .is)) (c .before .before .before .before .before .pre .1 .room .fits))
 
--- src/lib.rt:463:49
 walk-match-add-field : (t : ℕ) → walk-match-lts.Need-add-field (walk-match-claims t) (walk-match-at t) walk-match.Post walk-match-Inv-loop walk-match-μ-loop
 walk-match-add-field t c = search needs
 
--- src/lib.rt:463:27
 walk-match-field-requires-2 : (t : ℕ) → walk-match-lts.Need-field-requires-2 (walk-match-claims t) (walk-match-at t) walk-match.Post walk-match-Inv-loop walk-match-μ-loop
 walk-match-field-requires-2 t c κs = search needs
 
--- src/lib.rt:464:9
 walk-match-walk-match-case-requires : (t : ℕ) → walk-match-lts.Need-walk-match-case-requires (walk-match-claims t) (walk-match-at t) walk-match.Post walk-match-Inv-loop walk-match-μ-loop
 walk-match-walk-match-case-requires t c κs = let o = cases-item _ _ (c .before .before .before .loop .i) (c .before .before .before .before .before .before .before .before .before .pre .1 .is) (omega arith) (c .before .field2 .ensures) in (let l = o .low in omega arith, record { is = o .is; room = room-left _ (c .before .before .before .before .before .before .before .before .before .pre .1 .room .rising) (c .before .before .before .loop .inv .1) (o .same) })
 
--- src/lib.rt:465:9
 walk-match-add-i : (t : ℕ) → walk-match-lts.Need-add-i (walk-match-claims t) (walk-match-at t) walk-match.Post walk-match-Inv-loop walk-match-μ-loop
 walk-match-add-i t c = search needs
 
--- src/lib.rt:462:5
 walk-match-loop-less : (t : ℕ) → walk-match-lts.Need-loop-less (walk-match-claims t) (walk-match-at t) walk-match.Post walk-match-Inv-loop walk-match-μ-loop
 walk-match-loop-less t c = search needs
 
--- src/lib.rt:462:5
 walk-match-loop-again : (t : ℕ) → walk-match-lts.Need-loop-again (walk-match-claims t) (walk-match-at t) walk-match.Post walk-match-Inv-loop walk-match-μ-loop
 walk-match-loop-again t c = (omega arith, left-next (c .before .before .before .before .before .before .loop .inv .1) ((cases-item _ _ (c .before .before .before .before .before .before .loop .i) (c .before .before .before .before .before .before .before .before .before .before .before .before .pre .1 .is) (omega arith) (c .before .before .before .before .field2 .ensures)) .same) (c .before .before .walk-match-case .ensures) (c .before .before .walk-match-case .kept .1 .1 .1 .0))
 
--- src/lib.rt:448:1
 walk-match-same-length : (t : ℕ) → walk-match-lts.Need-same-length (walk-match-claims t) (walk-match-at t) walk-match.Post walk-match-Inv-loop walk-match-μ-loop
 walk-match-same-length t c = c .before .loop .inv .1 .long
 
--- src/lib.rt:448:1
 walk-match-returns : (t : ℕ) → walk-match-lts.Need-returns (walk-match-claims t) (walk-match-at t) walk-match.Post walk-match-Inv-loop walk-match-μ-loop
 walk-match-returns t c = left-end (c .before .loop .inv .1) (listed-end _ _ false _ _ 2 (c .before .loop .i) (omega arith))
 
--- src/lib.rt:481:25
 walk-match-case-field-requires : (t : ℕ) → walk-match-case-lts.Need-field-requires (walk-match-case-claims t) (walk-match-case-at t) walk-match-case.Post
 walk-match-case-field-requires t c κs = search needs
 
--- src/lib.rt:481:9
 walk-match-case-wide-requires : (t : ℕ) → walk-match-case-lts.Need-wide-requires (walk-match-case-claims t) (walk-match-case-at t) walk-match-case.Post
 walk-match-case-wide-requires t c κs = search needs
 
--- src/lib.rt:482:9
 walk-match-case-check-match-case-pattern-requires :
     (t : ℕ) → walk-match-case-lts.Need-check-match-case-pattern-requires (walk-match-case-claims t) (walk-match-case-at t) walk-match-case.Post
 walk-match-case-check-match-case-pattern-requires t c κs = record { is = c .before .before .before .before .before .before .pre .1 .is; room = room-first _ (case-whole _ _ (c .before .before .before .before .before .before .pre .1 .is) (c .before .wide .ensures ∙ c .before .before .field .ensures)) (c .before .before .before .before .before .before .pre .1 .room) }
 
--- src/lib.rt:483:5
 walk-match-case-walk-stmt-block-requires :
     (t : ℕ) → walk-match-case-lts.Need-walk-stmt-block-requires (walk-match-case-claims t) (walk-match-case-at t) walk-match-case.Post
 walk-match-case-walk-stmt-block-requires t c κs = (omega arith, record { run = case-run _ (c .before .before .before .before .before .before .before .before .before .before .pre .1 .is) (c .before .before .before .before .before .wide .ensures ∙ c .before .before .before .before .before .before .field .ensures); room = room-rest (case-whole _ _ (c .before .before .before .before .before .before .before .before .before .before .pre .1 .is) (c .before .before .before .before .before .wide .ensures ∙ c .before .before .before .before .before .before .field .ensures)) (c .before .before .before .before .before .before .before .before .before .before .pre .1 .room) (c .before .before .before .check-match-case-pattern .ensures) })
 
--- src/lib.rt:470:1
 walk-match-case-same-length : (t : ℕ) → walk-match-case-lts.Need-same-length (walk-match-case-claims t) (walk-match-case-at t) walk-match-case.Post
 walk-match-case-same-length t c = search needs
 
--- src/lib.rt:470:1
 walk-match-case-returns : (t : ℕ) → walk-match-case-lts.Need-returns (walk-match-case-claims t) (walk-match-case-at t) walk-match-case.Post
 walk-match-case-returns t c = appended-as (sym (case-whole _ _ (c .before .before .before .before .before .before .before .before .before .before .before .before .before .pre .1 .is) (c .before .before .before .before .before .before .before .before .wide .ensures ∙ c .before .before .before .before .before .before .before .before .before .field .ensures))) (appended-next (c .before .before .before .before .before .before .check-match-case-pattern .ensures) (c .before .before .walk-stmt-block .ensures))
 
--- src/lib.rt:411:9
 walk-stmt-field-requires : (t : ℕ) → walk-stmt-lts.Need-field-requires (walk-stmt-claims t) (walk-stmt-at t) walk-stmt.Post
 walk-stmt-field-requires t c κs = search needs
 
--- src/lib.rt:412:24
 walk-stmt-field-requires-2 : (t : ℕ) → walk-stmt-lts.Need-field-requires-2 (walk-stmt-claims t) (walk-stmt-at t) walk-stmt.Post
 walk-stmt-field-requires-2 t c κs = search needs
 
--- src/lib.rt:416:31
 walk-stmt-field-requires-3 : (t : ℕ) → walk-stmt-lts.Need-field-requires-3 (walk-stmt-claims t) (walk-stmt-at t) walk-stmt.Post
 walk-stmt-field-requires-3 t c κs = search needs
 
--- src/lib.rt:417:13
 walk-stmt-check-then-atom-requires : (t : ℕ) → walk-stmt-lts.Need-check-then-atom-requires (walk-stmt-claims t) (walk-stmt-at t) walk-stmt.Post
 walk-stmt-check-then-atom-requires t c κs = let o = stmt-then _ _ (c .before .before .before .before .before .before .before .before .pre .1 .is) (sym (c .before .before .match .keys2) ∙ c .before .before .before .before .field .ensures) (c .before .before .before .field2 .ensures) (c .before .field3 .ensures) in record { is = o .is; room = room-as (o .same) (c .before .before .before .before .before .before .before .before .pre .1 .room) }
 
--- src/lib.rt:419:14
 walk-stmt-walk-branch-requires : (t : ℕ) → walk-stmt-lts.Need-walk-branch-requires (walk-stmt-claims t) (walk-stmt-at t) walk-stmt.Post
 walk-stmt-walk-branch-requires t c κs = let o = stmt-branch _ _ (c .before .before .before .before .before .before .before .pre .1 .is) (sym (c .before .match .keys3) ∙ c .before .before .before .field .ensures) (c .before .before .field2 .ensures) in (let l = o .low in omega arith, record { is = o .is; room = room-as (o .same) (c .before .before .before .before .before .before .before .pre .1 .room) })
 
--- src/lib.rt:420:14
 walk-stmt-walk-match-requires : (t : ℕ) → walk-stmt-lts.Need-walk-match-requires (walk-stmt-claims t) (walk-stmt-at t) walk-stmt.Post
 walk-stmt-walk-match-requires t c κs = let o = stmt-match _ _ (c .before .before .before .before .before .before .before .pre .1 .is) (let l = stmt-last _ (c .before .before .before .before .before .before .before .pre .1 .is) in omega arith) (c .before .before .field2 .ensures) in (let l = o .low in omega arith, record { is = o .is; room = room-as (o .same) (c .before .before .before .before .before .before .before .pre .1 .room) })
 
--- src/lib.rt:400:1
 walk-stmt-returns : (t : ℕ) → walk-stmt-lts.Need-returns (walk-stmt-claims t) (walk-stmt-at t) walk-stmt.Post
 walk-stmt-returns t c = appended-no _ _ (stmt-if _ _ (c .before .before .before .before .before .before .pre .1 .is) (sym (c .match .keys1) ∙ c .before .before .field .ensures))
 
--- src/lib.rt:400:1
 walk-stmt-same-length : (t : ℕ) → walk-stmt-lts.Need-same-length (walk-stmt-claims t) (walk-stmt-at t) walk-stmt.Post
 walk-stmt-same-length t c = search needs
 
--- src/lib.rt:400:1
 walk-stmt-returns-2 : (t : ℕ) → walk-stmt-lts.Need-returns-2 (walk-stmt-claims t) (walk-stmt-at t) walk-stmt.Post
 walk-stmt-returns-2 t c = appended-as (sym ((stmt-then _ _ (c .before .before .before .before .before .before .before .before .before .before .before .pre .1 .is) (sym (c .before .before .before .before .before .match .keys2) ∙ c .before .before .before .before .before .before .before .field .ensures) (c .before .before .before .before .before .before .field2 .ensures) (c .before .before .before .before .field3 .ensures)) .same)) (c .before .before .check-then-atom .ensures)
 
--- src/lib.rt:400:1
 walk-stmt-same-length-2 : (t : ℕ) → walk-stmt-lts.Need-same-length-2 (walk-stmt-claims t) (walk-stmt-at t) walk-stmt.Post
 walk-stmt-same-length-2 t c = search needs
 
--- src/lib.rt:400:1
 walk-stmt-returns-3 : (t : ℕ) → walk-stmt-lts.Need-returns-3 (walk-stmt-claims t) (walk-stmt-at t) walk-stmt.Post
 walk-stmt-returns-3 t c = appended-as (sym ((stmt-branch _ _ (c .before .before .before .before .before .before .before .before .before .before .pre .1 .is) (sym (c .before .before .before .before .match .keys3) ∙ c .before .before .before .before .before .before .field .ensures) (c .before .before .before .before .before .field2 .ensures)) .same)) (c .before .before .walk-branch .ensures)
 
--- src/lib.rt:400:1
 walk-stmt-same-length-3 : (t : ℕ) → walk-stmt-lts.Need-same-length-3 (walk-stmt-claims t) (walk-stmt-at t) walk-stmt.Post
 walk-stmt-same-length-3 t c = search needs
 
--- src/lib.rt:400:1
 walk-stmt-returns-4 : (t : ℕ) → walk-stmt-lts.Need-returns-4 (walk-stmt-claims t) (walk-stmt-at t) walk-stmt.Post
 walk-stmt-returns-4 t c = appended-as (sym ((stmt-match _ _ (c .before .before .before .before .before .before .before .before .before .before .pre .1 .is) (let l = stmt-last _ (c .before .before .before .before .before .before .before .before .before .before .pre .1 .is) in omega arith) (c .before .before .before .before .before .field2 .ensures)) .same)) (c .before .before .walk-match .ensures)
 
@@ -316,39 +273,30 @@ walk-stmt-block-Inv-loop image table w rows₀ count node first len i₀ c₀ ro
 abbrev walk-stmt-block-μ-loop : walk-stmt-block-lts.MeasureT-loop
 walk-stmt-block-μ-loop image table w rows₀ count node first len i₀ c₀ rows i c = len - i
 
--- src/lib.rt:392:5
 walk-stmt-block-loop-holds : (t : ℕ) → walk-stmt-block-lts.Need-loop-holds (walk-stmt-block-claims t) (walk-stmt-block-at t) walk-stmt-block.Post walk-stmt-block-Inv-loop walk-stmt-block-μ-loop
 walk-stmt-block-loop-holds t c = (omega arith, left-start _ _ (listed-start _ _ false _ _ _) (c .before .before .before .pre .1 .room .fits))
 
--- src/lib.rt:393:51
 walk-stmt-block-add-field : (t : ℕ) → walk-stmt-block-lts.Need-add-field (walk-stmt-block-claims t) (walk-stmt-block-at t) walk-stmt-block.Post walk-stmt-block-Inv-loop walk-stmt-block-μ-loop
 walk-stmt-block-add-field t c = let s = c .before .before .before .before .before .pre .1 .run .short in omega arith
 
--- src/lib.rt:393:27
 walk-stmt-block-field-requires : (t : ℕ) → walk-stmt-block-lts.Need-field-requires (walk-stmt-block-claims t) (walk-stmt-block-at t) walk-stmt-block.Post walk-stmt-block-Inv-loop walk-stmt-block-μ-loop
 walk-stmt-block-field-requires t c κs = let s = c .before .before .before .before .before .pre .1 .run .short in omega arith
 
--- src/lib.rt:394:9
 walk-stmt-block-walk-stmt-requires : (t : ℕ) → walk-stmt-block-lts.Need-walk-stmt-requires (walk-stmt-block-claims t) (walk-stmt-block-at t) walk-stmt-block.Post walk-stmt-block-Inv-loop walk-stmt-block-μ-loop
 walk-stmt-block-walk-stmt-requires t c κs = let o = stmts-item _ _ (c .before .before .before .loop .i) (c .before .before .before .before .before .before .before .pre .1 .run) (omega arith) (c .before .field .ensures) in (let l = o .low in omega arith, record { is = o .is; room = room-left _ (c .before .before .before .before .before .before .before .pre .1 .room .rising) (c .before .before .before .loop .inv .1) (o .same) })
 
--- src/lib.rt:395:9
 walk-stmt-block-add-i : (t : ℕ) → walk-stmt-block-lts.Need-add-i (walk-stmt-block-claims t) (walk-stmt-block-at t) walk-stmt-block.Post walk-stmt-block-Inv-loop walk-stmt-block-μ-loop
 walk-stmt-block-add-i t c = search needs
 
--- src/lib.rt:392:5
 walk-stmt-block-loop-less : (t : ℕ) → walk-stmt-block-lts.Need-loop-less (walk-stmt-block-claims t) (walk-stmt-block-at t) walk-stmt-block.Post walk-stmt-block-Inv-loop walk-stmt-block-μ-loop
 walk-stmt-block-loop-less t c = search needs
 
--- src/lib.rt:392:5
 walk-stmt-block-loop-again : (t : ℕ) → walk-stmt-block-lts.Need-loop-again (walk-stmt-block-claims t) (walk-stmt-block-at t) walk-stmt-block.Post walk-stmt-block-Inv-loop walk-stmt-block-μ-loop
 walk-stmt-block-loop-again t c = (omega arith, left-next (c .before .before .before .before .before .before .loop .inv .1) ((stmts-item _ _ (c .before .before .before .before .before .before .loop .i) (c .before .before .before .before .before .before .before .before .before .before .pre .1 .run) (omega arith) (c .before .before .before .before .field .ensures)) .same) (c .before .before .walk-stmt .ensures) (c .before .before .walk-stmt .kept .1 .1 .1 .0))
 
--- src/lib.rt:377:1
 walk-stmt-block-same-length : (t : ℕ) → walk-stmt-block-lts.Need-same-length (walk-stmt-block-claims t) (walk-stmt-block-at t) walk-stmt-block.Post walk-stmt-block-Inv-loop walk-stmt-block-μ-loop
 walk-stmt-block-same-length t c = c .before .loop .inv .1 .long
 
--- src/lib.rt:377:1
 walk-stmt-block-returns : (t : ℕ) → walk-stmt-block-lts.Need-returns (walk-stmt-block-claims t) (walk-stmt-block-at t) walk-stmt-block.Post walk-stmt-block-Inv-loop walk-stmt-block-μ-loop
 walk-stmt-block-returns t c = left-end (c .before .loop .inv .1) (listed-end _ _ false _ _ _ (c .before .loop .i) (omega arith))
 

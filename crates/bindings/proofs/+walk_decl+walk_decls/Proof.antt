@@ -51,55 +51,42 @@ walk-decl-claims t = (field-reads.Asked, field-reads.Learnt, wide-reads.Asked, w
 abbrev walk-decls-claims : ℕ → walk-decls-lts.Claims
 walk-decls-claims t = (field-reads.Asked, field-reads.Learnt, walk-decl-below t, walk-decl.Post)
 
--- src/lib.rt:521:9
 walk-decl-field-requires : (t : ℕ) → walk-decl-lts.Need-field-requires (walk-decl-claims t) (walk-decl-at t) walk-decl.Post
 walk-decl-field-requires t c κs = search needs
 
--- src/lib.rt:522:24
 walk-decl-field-requires-2 : (t : ℕ) → walk-decl-lts.Need-field-requires-2 (walk-decl-claims t) (walk-decl-at t) walk-decl.Post
 walk-decl-field-requires-2 t c κs = search needs
 
--- src/lib.rt:525:33
 walk-decl-field-requires-3 : (t : ℕ) → walk-decl-lts.Need-field-requires-3 (walk-decl-claims t) (walk-decl-at t) walk-decl.Post
 walk-decl-field-requires-3 t c κs = search needs
 
--- src/lib.rt:525:17
 walk-decl-wide-requires : (t : ℕ) → walk-decl-lts.Need-wide-requires (walk-decl-claims t) (walk-decl-at t) walk-decl.Post
 walk-decl-wide-requires t c κs = search needs
 
--- src/lib.rt:526:13
 walk-decl-walk-stmt-block-requires : (t : ℕ) → walk-decl-lts.Need-walk-stmt-block-requires (walk-decl-claims t) (walk-decl-at t) walk-decl.Post
 walk-decl-walk-stmt-block-requires t c κs = let o = decl-rule _ _ (c .before .before .before .before .before .before .before .before .before .pre .1 .is) (sym (c .before .before .before .match .keys1) ∙ c .before .before .before .before .before .field .ensures) (c .before .before .before .before .field2 .ensures) (c .before .wide .ensures ∙ c .before .before .field3 .ensures) in record { run = o .run; room = room-as (o .same) (c .before .before .before .before .before .before .before .before .before .pre .1 .room) }
 
--- src/lib.rt:529:33
 walk-decl-field-requires-4 : (t : ℕ) → walk-decl-lts.Need-field-requires-4 (walk-decl-claims t) (walk-decl-at t) walk-decl.Post
 walk-decl-field-requires-4 t c κs = search needs
 
--- src/lib.rt:529:17
 walk-decl-wide-requires-2 : (t : ℕ) → walk-decl-lts.Need-wide-requires-2 (walk-decl-claims t) (walk-decl-at t) walk-decl.Post
 walk-decl-wide-requires-2 t c κs = search needs
 
--- src/lib.rt:530:13
 walk-decl-walk-decls-requires : (t : ℕ) → walk-decl-lts.Need-walk-decls-requires (walk-decl-claims t) (walk-decl-at t) walk-decl.Post
 walk-decl-walk-decls-requires t c κs = let o = decl-model _ _ (c .before .before .before .before .before .before .before .before .before .pre .1 .is) (sym (c .before .before .before .match .keys2) ∙ c .before .before .before .before .before .field .ensures) (c .before .before .before .before .field2 .ensures) (c .before .wide2 .ensures ∙ c .before .before .field4 .ensures) in (let l = o .low in omega arith, record { run = o .run; room = room-as (o .same) (c .before .before .before .before .before .before .before .before .before .pre .1 .room) })
 
--- src/lib.rt:510:1
 walk-decl-same-length : (t : ℕ) → walk-decl-lts.Need-same-length (walk-decl-claims t) (walk-decl-at t) walk-decl.Post
 walk-decl-same-length t c = search needs
 
--- src/lib.rt:510:1
 walk-decl-returns : (t : ℕ) → walk-decl-lts.Need-returns (walk-decl-claims t) (walk-decl-at t) walk-decl.Post
 walk-decl-returns t c = appended-as (sym ((decl-rule _ _ (c .before .before .before .before .before .before .before .before .before .before .before .before .pre .1 .is) (sym (c .before .before .before .before .before .before .match .keys1) ∙ c .before .before .before .before .before .before .before .before .field .ensures) (c .before .before .before .before .before .before .before .field2 .ensures) (c .before .before .before .before .wide .ensures ∙ c .before .before .before .before .before .field3 .ensures)) .same)) (c .before .before .walk-stmt-block .ensures)
 
--- src/lib.rt:510:1
 walk-decl-same-length-2 : (t : ℕ) → walk-decl-lts.Need-same-length-2 (walk-decl-claims t) (walk-decl-at t) walk-decl.Post
 walk-decl-same-length-2 t c = search needs
 
--- src/lib.rt:510:1
 walk-decl-returns-2 : (t : ℕ) → walk-decl-lts.Need-returns-2 (walk-decl-claims t) (walk-decl-at t) walk-decl.Post
 walk-decl-returns-2 t c = appended-as (sym ((decl-model _ _ (c .before .before .before .before .before .before .before .before .before .before .before .before .pre .1 .is) (sym (c .before .before .before .before .before .before .match .keys2) ∙ c .before .before .before .before .before .before .before .before .field .ensures) (c .before .before .before .before .before .before .before .field2 .ensures) (c .before .before .before .before .wide2 .ensures ∙ c .before .before .before .before .before .field4 .ensures)) .same)) (c .before .before .walk-decls .ensures)
 
--- src/lib.rt:510:1
 walk-decl-returns-3 : (t : ℕ) → walk-decl-lts.Need-returns-3 (walk-decl-claims t) (walk-decl-at t) walk-decl.Post
 walk-decl-returns-3 t c = appended-no _ _ (decl-none _ _ (c .before .before .before .before .before .before .pre .1 .is) (λ e. c .match .rest .0 .1 (c .before .before .field .ensures ∙ sym e)) (λ e. c .match .rest .1 (c .before .before .field .ensures ∙ sym e)))
 
@@ -109,39 +96,30 @@ walk-decls-Inv-loop image table w rows₀ count node first len i₀ c₀ rows i 
 abbrev walk-decls-μ-loop : walk-decls-lts.MeasureT-loop
 walk-decls-μ-loop image table w rows₀ count node first len i₀ c₀ rows i c = len - i
 
--- src/lib.rt:502:5
 walk-decls-loop-holds : (t : ℕ) → walk-decls-lts.Need-loop-holds (walk-decls-claims t) (walk-decls-at t) walk-decls.Post walk-decls-Inv-loop walk-decls-μ-loop
 walk-decls-loop-holds t c = (omega arith, left-start _ _ (declared-start _ _ _ _ _) (c .before .before .before .pre .1 .room .fits))
 
--- src/lib.rt:503:51
 walk-decls-add-field : (t : ℕ) → walk-decls-lts.Need-add-field (walk-decls-claims t) (walk-decls-at t) walk-decls.Post walk-decls-Inv-loop walk-decls-μ-loop
 walk-decls-add-field t c = let s = c .before .before .before .before .before .pre .1 .run .short in omega arith
 
--- src/lib.rt:503:27
 walk-decls-field-requires : (t : ℕ) → walk-decls-lts.Need-field-requires (walk-decls-claims t) (walk-decls-at t) walk-decls.Post walk-decls-Inv-loop walk-decls-μ-loop
 walk-decls-field-requires t c κs = let s = c .before .before .before .before .before .pre .1 .run .short in omega arith
 
--- src/lib.rt:504:9
 walk-decls-walk-decl-requires : (t : ℕ) → walk-decls-lts.Need-walk-decl-requires (walk-decls-claims t) (walk-decls-at t) walk-decls.Post walk-decls-Inv-loop walk-decls-μ-loop
 walk-decls-walk-decl-requires t c κs = let o = decls-item _ _ (c .before .before .before .loop .i) (c .before .before .before .before .before .before .before .pre .1 .run) (omega arith) (c .before .field .ensures) in (let l = o .low in omega arith, record { is = o .is; room = room-left _ (c .before .before .before .before .before .before .before .pre .1 .room .rising) (c .before .before .before .loop .inv .1) (o .same) })
 
--- src/lib.rt:505:9
 walk-decls-add-i : (t : ℕ) → walk-decls-lts.Need-add-i (walk-decls-claims t) (walk-decls-at t) walk-decls.Post walk-decls-Inv-loop walk-decls-μ-loop
 walk-decls-add-i t c = search needs
 
--- src/lib.rt:502:5
 walk-decls-loop-less : (t : ℕ) → walk-decls-lts.Need-loop-less (walk-decls-claims t) (walk-decls-at t) walk-decls.Post walk-decls-Inv-loop walk-decls-μ-loop
 walk-decls-loop-less t c = search needs
 
--- src/lib.rt:502:5
 walk-decls-loop-again : (t : ℕ) → walk-decls-lts.Need-loop-again (walk-decls-claims t) (walk-decls-at t) walk-decls.Post walk-decls-Inv-loop walk-decls-μ-loop
 walk-decls-loop-again t c = (omega arith, left-next (c .before .before .before .before .before .before .loop .inv .1) ((decls-item _ _ (c .before .before .before .before .before .before .loop .i) (c .before .before .before .before .before .before .before .before .before .before .pre .1 .run) (omega arith) (c .before .before .before .before .field .ensures)) .same) (c .before .before .walk-decl .ensures) (c .before .before .walk-decl .kept .1 .1 .1 .0))
 
--- src/lib.rt:487:1
 walk-decls-same-length : (t : ℕ) → walk-decls-lts.Need-same-length (walk-decls-claims t) (walk-decls-at t) walk-decls.Post walk-decls-Inv-loop walk-decls-μ-loop
 walk-decls-same-length t c = c .before .loop .inv .1 .long
 
--- src/lib.rt:487:1
 walk-decls-returns : (t : ℕ) → walk-decls-lts.Need-returns (walk-decls-claims t) (walk-decls-at t) walk-decls.Post walk-decls-Inv-loop walk-decls-μ-loop
 walk-decls-returns t c = left-end (c .before .loop .inv .1) (declared-end _ _ _ _ _ (c .before .loop .i) (omega arith))
 

@@ -1,26 +1,17 @@
-use Rattle.bindings.proofs.Leaves.{looked-up}
+use Rattle.ordered.proofs.Agreed.{looked-up}
 use borrow.Author.Needs.{needs}
 use Rattle.bindings.proofs.at_entry.Statement.{statement}
 use Rattle.bindings.proofs.at_entry.Tie as tie
-use Rattle.bindings.proofs.at_entry.Reads as reads
-use Rattle.bindings.proofs.at_entry.Lts as lts
-use Rattle.ast.proofs.name_of.Reads as name-of-reads
-use Rattle.table.proofs.entry_of.Reads as entry-of-reads
-use Rattle.table.proofs.seek.Reads as seek-reads
 
--- src/lib.rt:38:9
 entry-of-requires : tie.Need-entry-of-requires
 entry-of-requires c κs = search needs
 
--- src/lib.rt:40:47
 name-of-requires : tie.Need-name-of-requires
 name-of-requires c κs = search needs
 
--- src/lib.rt:40:5
 seek-requires : tie.Need-seek-requires
 seek-requires c κs = search needs
 
--- src/lib.rt:34:1
 returns : tie.Need-returns
 returns c = looked-up _ _ _ _ _ _ _ (c .before .before .entry-of .ensures) (c .before .name-of .ensures) (c .seek .ensures)
 

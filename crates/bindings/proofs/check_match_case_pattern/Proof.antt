@@ -1,4 +1,4 @@
-use mathlib.Core.Path.{_≡_, refl, sym, ap, ap₂, subst, _∙_}
+use mathlib.Core.Path.{refl, sym, _∙_}
 use native.Mathlib.Omega.{arith}
 use Rattle.table.specs.Values.{tableOf}
 use Rattle.rows.proofs.Parts.{appended-as, appended-no}
@@ -7,53 +7,37 @@ use Rattle.bindings.proofs.Bodies.{no-pattern, applied, applied-yes, ap
 use borrow.Author.Needs.{needs}
 use Rattle.bindings.proofs.check_match_case_pattern.Statement.{statement}
 use Rattle.bindings.proofs.check_match_case_pattern.Tie as tie
-use Rattle.bindings.proofs.check_match_case_pattern.Reads as reads
-use Rattle.bindings.proofs.check_match_case_pattern.Lts as lts
-use Rattle.ast.proofs.field.Reads as field-reads
-use Rattle.bindings.proofs.check_pattern_args.Reads as check-pattern-args-reads
-use Rattle.bindings.proofs.is_ctor_head.Reads as is-ctor-head-reads
 
--- src/lib.rt:363:26
 field-requires : tie.Need-field-requires
 field-requires c κs = search needs
 
--- src/lib.rt:364:8
 field-requires-2 : tie.Need-field-requires-2
 field-requires-2 c κs = search needs
 
--- src/lib.rt:365:9
 returns : tie.Need-returns
 returns c = appended-no _ _ (no-pattern _ _ (c .before .before .before .before .before .before .pre .is) (c .before .before .field .ensures) (λ e. c .if1 .taken (c .before .field2 .ensures ∙ sym e)))
 
--- src/lib.rt:367:22
 field-requires-3 : tie.Need-field-requires-3
 field-requires-3 c κs = search needs
 
--- src/lib.rt:368:23
 field-requires-4 : tie.Need-field-requires-4
 field-requires-4 c κs = search needs
 
--- src/lib.rt:369:8
 is-ctor-head-requires : tie.Need-is-ctor-head-requires
 is-ctor-head-requires c κs = record { is = (applied _ (tableOf (c .before .before .before .before .before .before .before .before .args .w) (c .before .before .before .before .before .before .before .before .args .table .now)) (c .before .before .before .before .before .before .before .before .pre .is) (c .before .before .before .before .field .ensures) (sym (c .before .before .if1 .left) ∙ c .before .before .before .field2 .ensures) (c .before .field3 .ensures) (c .field4 .ensures) refl) .head; room = record { rising = c .before .before .before .before .before .before .before .before .pre .room .rising; fits = omega arith } }
 
--- src/lib.rt:370:27
 field-requires-5 : tie.Need-field-requires-5
 field-requires-5 c κs = search needs
 
--- src/lib.rt:371:9
 check-pattern-args-requires : tie.Need-check-pattern-args-requires
 check-pattern-args-requires c κs = let o = applied _ (tableOf (c .before .before .before .before .before .before .before .before .before .before .before .before .args .w) (c .before .before .before .before .before .before .before .before .before .before .before .before .args .table .now)) (c .before .before .before .before .before .before .before .before .before .before .before .before .pre .is) (c .before .before .before .before .before .before .before .before .field .ensures) (sym (c .before .before .before .before .before .before .if1 .left) ∙ c .before .before .before .before .before .before .before .field2 .ensures) (c .before .before .before .before .before .field3 .ensures) (c .before .before .before .before .field4 .ensures) (c .before .field5 .ensures) in record { is = o .args; room = room-as (applied-yes _ _ o (c .before .before .before .is-ctor-head .ensures) (c .before .before .if2 .taken)) (c .before .before .before .before .before .before .before .before .before .before .before .before .pre .room) }
 
--- src/lib.rt:371:9
 same-length : tie.Need-same-length
 same-length c = search needs
 
--- src/lib.rt:371:9
 returns-2 : tie.Need-returns-2
 returns-2 c = appended-as (sym (applied-yes _ _ (applied _ (tableOf (c .before .before .before .before .before .before .before .before .before .before .before .before .before .before .before .args .w) (c .before .before .before .before .before .before .before .before .before .before .before .before .before .before .before .args .table .now)) (c .before .before .before .before .before .before .before .before .before .before .before .before .before .before .before .pre .is) (c .before .before .before .before .before .before .before .before .before .before .before .field .ensures) (sym (c .before .before .before .before .before .before .before .before .before .if1 .left) ∙ c .before .before .before .before .before .before .before .before .before .before .field2 .ensures) (c .before .before .before .before .before .before .before .before .field3 .ensures) (c .before .before .before .before .before .before .before .field4 .ensures) (c .before .before .before .before .field5 .ensures)) (c .before .before .before .before .before .before .is-ctor-head .ensures) (c .before .before .before .before .before .if2 .taken))) (c .before .before .check-pattern-args .ensures)
 
--- src/lib.rt:352:1
 returns-3 : tie.Need-returns-3
 returns-3 c = appended-no _ _ (applied-no _ _ (applied _ (tableOf (c .before .before .before .before .before .before .before .before .before .before .args .w) (c .before .before .before .before .before .before .before .before .before .before .args .table .now)) (c .before .before .before .before .before .before .before .before .before .before .pre .is) (c .before .before .before .before .before .before .field .ensures) (sym (c .before .before .before .before .if1 .left) ∙ c .before .before .before .before .before .field2 .ensures) (c .before .before .before .field3 .ensures) (c .before .before .field4 .ensures) refl) (c .before .is-ctor-head .ensures) (c .if2 .left))
 

@@ -3,23 +3,16 @@ use Rattle.bindings.proofs.Calls.{mode-strict, mode-plain}
 use borrow.Author.Needs.{needs}
 use Rattle.bindings.proofs.check_mode.Statement.{statement}
 use Rattle.bindings.proofs.check_mode.Tie as tie
-use Rattle.bindings.proofs.check_mode.Reads as reads
-use Rattle.bindings.proofs.check_mode.Lts as lts
-use Rattle.bindings.proofs.check_strict.Reads as check-strict-reads
 
--- src/lib.rt:635:9
 check-strict-requires : tie.Need-check-strict-requires
 check-strict-requires c κs = search needs
 
--- src/lib.rt:635:9
 same-length : tie.Need-same-length
 same-length c = search needs
 
--- src/lib.rt:635:9
 returns : tie.Need-returns
 returns c = appended-as (mode-strict _ _ (c .before .before .before .before .if1 .taken)) (c .before .before .check-strict .ensures)
 
--- src/lib.rt:630:1
 returns-2 : tie.Need-returns-2
 returns-2 c = appended-no _ _ (mode-plain _ _ (c .if1 .left))
 

@@ -1,7 +1,6 @@
-use mathlib.Core.Path.{_≡_, refl, sym, ap, ap₂, subst, _∙_}
 use native.Mathlib.Omega.{arith}
 use borrow.Author.Needs.{needs}
-use Prim.Native.Nat.{_+_, _-_, _≤_}
+use Prim.Native.Nat.{_-_, _≤_}
 use Rattle.table.specs.Values.{tableOf}
 use Rattle.ast.specs.Image.{nodes}
 use Rattle.bindings.specs.Checks.{ofArgs}
@@ -10,11 +9,6 @@ use Rattle.rows.proofs.Parts.{Left, left-start, left-next, left-end}
 use Rattle.bindings.proofs.Bodies.{argsLeft, args-start, args-item, args-end}
 use Rattle.bindings.proofs.check_pattern_args.Statement.{statement}
 use Rattle.bindings.proofs.check_pattern_args.Tie as tie
-use Rattle.bindings.proofs.check_pattern_args.Reads as reads
-use Rattle.bindings.proofs.check_pattern_args.Lts as lts
-use Rattle.ast.proofs.field.Reads as field-reads
-use Rattle.ast.proofs.wide.Reads as wide-reads
-use Rattle.bindings.proofs.check_pattern_arg.Reads as check-pattern-arg-reads
 
 abbrev Inv-loop : tie.InvT-loop
 Inv-loop image table w rows₀ count list len i₀ c₀ rows i c = (i ≤ len) × Left (nodes image) (ofArgs image (tableOf w table) (list .0)) (argsLeft image (tableOf w table) (list .0) i) count rows₀ c rows
@@ -22,47 +16,36 @@ Inv-loop image table w rows₀ count list len i₀ c₀ rows i c = (i ≤ len) �
 abbrev μ-loop : tie.MeasureT-loop
 μ-loop image table w rows₀ count list len i₀ c₀ rows i c = len - i
 
--- src/lib.rt:339:25
 field-requires : tie.Need-field-requires Inv-loop μ-loop
 field-requires c κs = search needs
 
--- src/lib.rt:339:9
 wide-requires : tie.Need-wide-requires Inv-loop μ-loop
 wide-requires c κs = search needs
 
--- src/lib.rt:342:5
 loop-holds : tie.Need-loop-holds Inv-loop μ-loop
 loop-holds c = (omega arith, left-start _ _ (args-start _ _ (c .before .before .before .before .before .pre .is)) (c .before .before .before .before .before .pre .room .fits))
 
--- src/lib.rt:343:50
 add-field : tie.Need-add-field Inv-loop μ-loop
 add-field c = search needs
 
--- src/lib.rt:343:26
 field-requires-2 : tie.Need-field-requires-2 Inv-loop μ-loop
 field-requires-2 c κs = search needs
 
--- src/lib.rt:344:9
 check-pattern-arg-requires : tie.Need-check-pattern-arg-requires Inv-loop μ-loop
 check-pattern-arg-requires c κs = let o = args-item _ _ (c .before .before .before .loop .i) (c .before .before .before .before .before .before .before .before .before .pre .is) (omega arith) (c .before .field2 .ensures) in record { is = o .is; room = room-left _ (c .before .before .before .before .before .before .before .before .before .pre .room .rising) (c .before .before .before .loop .inv .1) (o .same) }
 
--- src/lib.rt:345:9
 add-i : tie.Need-add-i Inv-loop μ-loop
 add-i c = search needs
 
--- src/lib.rt:342:5
 loop-less : tie.Need-loop-less Inv-loop μ-loop
 loop-less c = search needs
 
--- src/lib.rt:342:5
 loop-again : tie.Need-loop-again Inv-loop μ-loop
 loop-again c = (omega arith, left-next (c .before .before .before .before .before .before .loop .inv .1) ((args-item _ _ (c .before .before .before .before .before .before .loop .i) (c .before .before .before .before .before .before .before .before .before .before .before .before .pre .is) (omega arith) (c .before .before .before .before .field2 .ensures)) .same) (c .before .before .check-pattern-arg .ensures) (c .before .before .check-pattern-arg .kept .1 .1 .1 .0))
 
--- src/lib.rt:328:1
 same-length : tie.Need-same-length Inv-loop μ-loop
 same-length c = c .before .loop .inv .1 .long
 
--- src/lib.rt:328:1
 returns : tie.Need-returns Inv-loop μ-loop
 returns c = left-end (c .before .loop .inv .1) (args-end _ _ _ (c .before .loop .i) (omega arith))
 

@@ -1,64 +1,45 @@
-use mathlib.Core.Path.{_≡_, refl, sym, ap, ap₂, subst, _∙_}
+use mathlib.Core.Path.{sym, _∙_}
 use native.Mathlib.Omega.{arith}
-use Rattle.table.specs.Values.{tableOf}
 use Rattle.rows.proofs.Parts.{appended-as}
 use Rattle.bindings.proofs.Epic.{room-as}
 use Rattle.bindings.proofs.Bodies.{atom-equal, atom-defined, atom-pred, atom-last}
 use borrow.Author.Needs.{needs}
 use Rattle.bindings.proofs.check_then_atom.Statement.{statement}
 use Rattle.bindings.proofs.check_then_atom.Tie as tie
-use Rattle.bindings.proofs.check_then_atom.Reads as reads
-use Rattle.bindings.proofs.check_then_atom.Lts as lts
-use Rattle.ast.proofs.field.Reads as field-reads
-use Rattle.bindings.proofs.check_epic_pair.Reads as check-epic-pair-reads
-use Rattle.bindings.proofs.check_epic_terms.Reads as check-epic-terms-reads
-use Rattle.bindings.proofs.check_then_defined.Reads as check-then-defined-reads
 
--- src/lib.rt:279:9
 field-requires : tie.Need-field-requires
 field-requires c κs = search needs
 
--- src/lib.rt:280:24
 field-requires-2 : tie.Need-field-requires-2
 field-requires-2 c κs = search needs
 
--- src/lib.rt:282:14
 check-epic-pair-requires : tie.Need-check-epic-pair-requires
 check-epic-pair-requires c κs = let o = atom-equal _ _ (c .before .before .before .before .before .before .before .pre .is) (sym (c .before .match .keys1) ∙ c .before .before .before .field .ensures) (c .before .before .field2 .ensures) in record { is = o .is; room = room-as (o .same) (c .before .before .before .before .before .before .before .pre .room) }
 
--- src/lib.rt:283:14
 check-then-defined-requires : tie.Need-check-then-defined-requires
 check-then-defined-requires c κs = let o = atom-defined _ _ (c .before .before .before .before .before .before .before .pre .is) (sym (c .before .match .keys2) ∙ c .before .before .before .field .ensures) (c .before .before .field2 .ensures) in record { is = o .0; room = room-as (o .1) (c .before .before .before .before .before .before .before .pre .room) }
 
--- src/lib.rt:286:31
 field-requires-3 : tie.Need-field-requires-3
 field-requires-3 c κs = search needs
 
--- src/lib.rt:287:13
 check-epic-terms-requires : tie.Need-check-epic-terms-requires
 check-epic-terms-requires c κs = let o = atom-pred _ _ (c .before .before .before .before .before .before .before .before .pre .is) (let l = atom-last _ (c .before .before .before .before .before .before .before .before .pre .is) in omega arith) (c .before .before .before .field2 .ensures) (c .before .field3 .ensures) in record { is = o .is; room = room-as (o .same) (c .before .before .before .before .before .before .before .before .pre .room) }
 
--- src/lib.rt:268:1
 same-length : tie.Need-same-length
 same-length c = search needs
 
--- src/lib.rt:268:1
 returns : tie.Need-returns
 returns c = appended-as (sym ((atom-equal _ _ (c .before .before .before .before .before .before .before .before .before .before .pre .is) (sym (c .before .before .before .before .match .keys1) ∙ c .before .before .before .before .before .before .field .ensures) (c .before .before .before .before .before .field2 .ensures)) .same)) (c .before .before .check-epic-pair .ensures)
 
--- src/lib.rt:268:1
 same-length-2 : tie.Need-same-length-2
 same-length-2 c = search needs
 
--- src/lib.rt:268:1
 returns-2 : tie.Need-returns-2
 returns-2 c = appended-as (sym ((atom-defined _ _ (c .before .before .before .before .before .before .before .before .before .before .pre .is) (sym (c .before .before .before .before .match .keys2) ∙ c .before .before .before .before .before .before .field .ensures) (c .before .before .before .before .before .field2 .ensures)) .1)) (c .before .before .check-then-defined .ensures)
 
--- src/lib.rt:268:1
 same-length-3 : tie.Need-same-length-3
 same-length-3 c = search needs
 
--- src/lib.rt:268:1
 returns-3 : tie.Need-returns-3
 returns-3 c = appended-as (sym ((atom-pred _ _ (c .before .before .before .before .before .before .before .before .before .before .before .pre .is) (let l = atom-last _ (c .before .before .before .before .before .before .before .before .before .before .before .pre .is) in omega arith) (c .before .before .before .before .before .before .field2 .ensures) (c .before .before .before .before .field3 .ensures)) .same)) (c .before .before .check-epic-terms .ensures)
 

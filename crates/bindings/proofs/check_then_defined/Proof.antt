@@ -1,4 +1,4 @@
-use mathlib.Core.Path.{_≡_, refl, sym, ap, ap₂, subst, _∙_}
+use mathlib.Core.Path.{sym, _∙_}
 use native.Mathlib.Omega.{arith}
 use Prim.Native.Nat.{_-_}
 use Rattle.rows.proofs.Appends.{appended-next}
@@ -8,49 +8,34 @@ use Rattle.bindings.proofs.Bodies.{then-none, then-some}
 use borrow.Author.Needs.{needs}
 use Rattle.bindings.proofs.check_then_defined.Statement.{statement}
 use Rattle.bindings.proofs.check_then_defined.Tie as tie
-use Rattle.bindings.proofs.check_then_defined.Reads as reads
-use Rattle.bindings.proofs.check_then_defined.Lts as lts
-use Rattle.ast.proofs.field.Reads as field-reads
-use Rattle.bindings.proofs.check_epic_term.Reads as check-epic-term-reads
-use Rattle.bindings.proofs.check_then_defined_var.Reads as check-then-defined-var-reads
 
--- src/lib.rt:259:9
 field-requires : tie.Need-field-requires
 field-requires c κs = search needs
 
--- src/lib.rt:260:23
 field-requires-2 : tie.Need-field-requires-2
 field-requires-2 c κs = search needs
 
--- src/lib.rt:262:9
 check-epic-term-requires : tie.Need-check-epic-term-requires
 check-epic-term-requires c κs = let o = then-none _ _ _ (c .before .before .before .before .before .before .before .pre .is) (sym (c .before .if1 .taken) ∙ c .before .before .before .field .ensures) (c .before .before .field2 .ensures) in record { is = o .is; room = room-as (o .same) (c .before .before .before .before .before .before .before .pre .room) }
 
--- src/lib.rt:262:9
 same-length : tie.Need-same-length
 same-length c = search needs
 
--- src/lib.rt:262:9
 returns : tie.Need-returns
 returns c = appended-as (sym ((then-none _ _ _ (c .before .before .before .before .before .before .before .before .before .before .pre .is) (sym (c .before .before .before .before .if1 .taken) ∙ c .before .before .before .before .before .before .field .ensures) (c .before .before .before .before .before .field2 .ensures)) .same)) (c .before .before .check-epic-term .ensures)
 
--- src/lib.rt:264:83
 sub-t11 : tie.Need-sub-t11
 sub-t11 c = search needs
 
--- src/lib.rt:264:9
 check-then-defined-var-requires : tie.Need-check-then-defined-var-requires
 check-then-defined-var-requires c κs = let o = then-some _ _ _ (c .before .before .before .field .result - 1) (c .before .before .before .before .before .before .before .pre .is) (omega arith) (c .before .before .field2 .ensures) in record { is = o .is; plain = o .plain; room = room-first _ (o .same) (c .before .before .before .before .before .before .before .pre .room) }
 
--- src/lib.rt:265:5
 check-epic-term-requires-2 : tie.Need-check-epic-term-requires-2
 check-epic-term-requires-2 c κs = let o = then-some _ _ _ (c .before .before .before .before .before .before .before .field .result - 1) (c .before .before .before .before .before .before .before .before .before .before .before .pre .is) (omega arith) (c .before .before .before .before .before .before .field2 .ensures) in record { is = o .is2; room = room-rest (o .same) (c .before .before .before .before .before .before .before .before .before .before .before .pre .room) (c .before .before .before .check-then-defined-var .ensures) }
 
--- src/lib.rt:247:1
 same-length-2 : tie.Need-same-length-2
 same-length-2 c = search needs
 
--- src/lib.rt:247:1
 returns-2 : tie.Need-returns-2
 returns-2 c = appended-as (sym ((then-some _ _ _ (c .before .before .before .before .before .before .before .before .before .before .field .result - 1) (c .before .before .before .before .before .before .before .before .before .before .before .before .before .before .pre .is) (omega arith) (c .before .before .before .before .before .before .before .before .before .field2 .ensures)) .same)) (appended-next (c .before .before .before .before .before .before .check-then-defined-var .ensures) (c .before .before .check-epic-term2 .ensures))
 

@@ -1,36 +1,25 @@
-use mathlib.Core.Path.{_≡_, refl, sym, ap, ap₂, subst, _∙_}
+use mathlib.Core.Path.{sym, ap, _∙_}
 use Rattle.table.specs.Table.{isKind}
 use Rattle.bindings.proofs.RowLaws.{ctor-none, ctor-ident}
 use borrow.Author.Needs.{needs}
 use Rattle.bindings.proofs.is_ctor_head.Statement.{statement}
 use Rattle.bindings.proofs.is_ctor_head.Tie as tie
-use Rattle.bindings.proofs.is_ctor_head.Reads as reads
-use Rattle.bindings.proofs.is_ctor_head.Lts as lts
-use Rattle.ast.proofs.field.Reads as field-reads
-use Rattle.bindings.proofs.at_exit.Reads as at-exit-reads
-use Rattle.bindings.proofs.is_kind.Reads as is-kind-reads
 
--- src/lib.rt:297:8
 field-requires : tie.Need-field-requires
 field-requires c κs = search needs
 
--- src/lib.rt:298:9
 returns : tie.Need-returns
 returns c = sym (ctor-none _ _ (c .before .before .before .before .pre .is) (λ e. c .if1 .taken (c .before .field .ensures ∙ sym e)))
 
--- src/lib.rt:300:21
 field-requires-2 : tie.Need-field-requires-2
 field-requires-2 c κs = search needs
 
--- src/lib.rt:301:9
 at-exit-requires : tie.Need-at-exit-requires
 at-exit-requires c κs = search needs
 
--- src/lib.rt:302:5
 is-kind-requires : tie.Need-is-kind-requires
 is-kind-requires c κs = search needs
 
--- src/lib.rt:293:1
 returns-2 : tie.Need-returns-2
 returns-2 c = c .is-kind .ensures ∙ ap (isKind _ 9) (c .before .at-exit .ensures) ∙ sym (ctor-ident _ _ (c .before .before .before .before .before .before .before .pre .is) (sym (c .before .before .before .if1 .left) ∙ c .before .before .before .before .field .ensures) (c .before .before .field2 .ensures))
 

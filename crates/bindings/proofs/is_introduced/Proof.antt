@@ -1,44 +1,31 @@
-use mathlib.Core.Path.{_≡_, refl, sym, ap, ap₂, subst, _∙_}
+use mathlib.Core.Path.{sym, ap, _∙_}
 use Rattle.bindings.proofs.Leaves.{introduces-none, introduces-other, introduces-var}
 use Rattle.table.specs.Values.{optionOf}
 use borrow.Author.Needs.{needs}
 use Rattle.bindings.proofs.is_introduced.Statement.{statement}
 use Rattle.bindings.proofs.is_introduced.Tie as tie
-use Rattle.bindings.proofs.is_introduced.Reads as reads
-use Rattle.bindings.proofs.is_introduced.Lts as lts
-use Rattle.ast.proofs.kind_at.Reads as kind-at-reads
-use Rattle.bindings.proofs.at_exit.Reads as at-exit-reads
-use Rattle.bindings.proofs.binding_visible_before.Reads as binding-visible-before-reads
 
--- src/lib.rt:74:11
 at-exit-requires : tie.Need-at-exit-requires
 at-exit-requires c κs = search needs
 
--- src/lib.rt:75:19
 enum-known-binding : tie.Need-enum-known-binding
 enum-known-binding c = search needs
 
--- src/lib.rt:76:16
 kind-at-requires : tie.Need-kind-at-requires
 kind-at-requires c κs = search needs
 
--- src/lib.rt:77:25
 binding-visible-before-requires : tie.Need-binding-visible-before-requires
 binding-visible-before-requires c κs = search needs
 
--- src/lib.rt:77:17
 returns : tie.Need-returns
 returns c = sym (introduces-var _ _ _ _ (c .before .before .before .before .before .before .at-exit .ensures) (ap optionOf (c .before .before .before .before .binding .given .1)) (sym (c .before .before .kind-at .ensures) ∙ c .before .if1 .taken) (c .binding-visible-before .ensures))
 
--- src/lib.rt:81:27
 enum-told : tie.Need-enum-told
 enum-told c = search needs
 
--- src/lib.rt:70:1
 returns-2 : tie.Need-returns-2
 returns-2 c = sym (introduces-other _ _ _ _ (c .before .before .before .before .before .at-exit .ensures) (ap optionOf (c .before .before .before .binding .given .1)) (λ e. c .if1 .left (c .before .kind-at .ensures ∙ e)))
 
--- src/lib.rt:70:1
 returns-3 : tie.Need-returns-3
 returns-3 c = sym (introduces-none _ _ _ _ (c .before .before .at-exit .ensures) (ap optionOf (c .enum-told .given .1)))
 

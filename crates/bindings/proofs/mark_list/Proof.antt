@@ -1,18 +1,12 @@
-use mathlib.Core.Path.{_≡_, refl, sym, ap, ap₂, subst, _∙_}
+use mathlib.Core.Path.{_≡_, sym, _∙_}
 use native.Mathlib.Omega.{arith}
 use borrow.Author.Needs.{needs}
-use Prim.Native.Nat.{_+_, _-_, _≤_}
+use Prim.Native.Nat.{_-_, _≤_}
 use Rattle.bindings.specs.Errors.{repeated, repeatedIn}
 use Rattle.bindings.specs.Checks.{marked}
 use Rattle.bindings.proofs.Marking.{argsFrom, no-list, list-is, list-start, list-next, none-marked, arg-low}
 use Rattle.bindings.proofs.mark_list.Statement.{statement}
 use Rattle.bindings.proofs.mark_list.Tie as tie
-use Rattle.bindings.proofs.mark_list.Reads as reads
-use Rattle.bindings.proofs.mark_list.Lts as lts
-use Rattle.ast.proofs.field.Reads as field-reads
-use Rattle.ast.proofs.kind_at.Reads as kind-at-reads
-use Rattle.ast.proofs.wide.Reads as wide-reads
-use Rattle.bindings.proofs.mark_argument.Reads as mark-argument-reads
 
 abbrev Inv-loop : tie.InvT-loop
 Inv-loop image marks₀ list len i₀ near₀ marks i near = (i ≤ len) × (marked (repeatedIn image (list .0)) marks₀ ≡ marked (repeated image near (argsFrom image (list .0) i)) marks)
@@ -20,51 +14,39 @@ Inv-loop image marks₀ list len i₀ near₀ marks i near = (i ≤ len) × (mar
 abbrev μ-loop : tie.MeasureT-loop
 μ-loop image marks₀ list len i₀ near₀ marks i near = len - i
 
--- src/lib.rt:574:8
 kind-at-requires : tie.Need-kind-at-requires Inv-loop μ-loop
 kind-at-requires c κs = search needs
 
--- src/lib.rt:575:9
 returns : tie.Need-returns Inv-loop μ-loop
 returns c = no-list _ _ _ (λ e. c .if1 .taken (c .before .kind-at .ensures ∙ e))
 
--- src/lib.rt:577:25
 field-requires : tie.Need-field-requires Inv-loop μ-loop
 field-requires c κs = search needs
 
--- src/lib.rt:577:9
 wide-requires : tie.Need-wide-requires Inv-loop μ-loop
 wide-requires c κs = search needs
 
--- src/lib.rt:580:5
 loop-holds : tie.Need-loop-holds Inv-loop μ-loop
 loop-holds c = (omega arith, list-start _ _ (sym (c .before .before .before .kind-at .ensures) ∙ c .before .before .if1 .left) _)
 
--- src/lib.rt:581:50
 add-field : tie.Need-add-field Inv-loop μ-loop
 add-field c = search needs
 
--- src/lib.rt:581:26
 field-requires-2 : tie.Need-field-requires-2 Inv-loop μ-loop
 field-requires-2 c κs = search needs
 
--- src/lib.rt:582:9
 mark-argument-requires : tie.Need-mark-argument-requires Inv-loop μ-loop
 mark-argument-requires c κs = arg-low _ _ (c .before .before .before .loop .i) (list-is _ _ (c .before .before .before .before .before .before .before .before .before .pre .0) (c .before .before .before .before .before .before .before .before .before .pre .1) (sym (c .before .before .before .before .before .before .before .kind-at .ensures) ∙ c .before .before .before .before .before .before .if1 .left)) (omega arith) (c .before .field2 .ensures)
 
--- src/lib.rt:583:9
 add-i : tie.Need-add-i Inv-loop μ-loop
 add-i c = search needs
 
--- src/lib.rt:580:5
 loop-less : tie.Need-loop-less Inv-loop μ-loop
 loop-less c = search needs
 
--- src/lib.rt:580:5
 loop-again : tie.Need-loop-again Inv-loop μ-loop
 loop-again c = (omega arith, list-next _ _ (c .before .before .before .before .loop .inv .1) (omega arith) (c .before .before .field2 .ensures) (c .mark-argument .ensures))
 
--- src/lib.rt:570:1
 returns-2 : tie.Need-returns-2 Inv-loop μ-loop
 returns-2 c = sym (c .before .loop .inv .1 ∙ none-marked _ _ _ (c .before .loop .i) _ (omega arith))
 

@@ -1,16 +1,12 @@
-use mathlib.Core.Path.{_≡_, refl, sym, ap, ap₂, subst, _∙_}
+use mathlib.Core.Path.{_≡_, ap, _∙_}
 use native.Mathlib.Omega.{arith}
 use borrow.Author.Needs.{needs}
-use Prim.Native.Nat.{_+_, _-_, _≤_}
+use Prim.Native.Nat.{_-_, _≤_}
 use Rattle.bindings.specs.Errors.{repeatedIn, repeatedTo}
 use Rattle.bindings.specs.Checks.{marked}
 use Rattle.bindings.proofs.Marking.{to-start, to-next, to-end}
 use Rattle.bindings.proofs.mark_lists.Statement.{statement}
 use Rattle.bindings.proofs.mark_lists.Tie as tie
-use Rattle.bindings.proofs.mark_lists.Reads as reads
-use Rattle.bindings.proofs.mark_lists.Lts as lts
-use Rattle.ast.proofs.node_count.Reads as node-count-reads
-use Rattle.bindings.proofs.mark_list.Reads as mark-list-reads
 
 abbrev Inv-loop : tie.InvT-loop
 Inv-loop image marks₀ n m₀ marks m = (m ≤ n) × (marks ≡ marked (repeatedTo image m) marks₀)
@@ -18,31 +14,24 @@ Inv-loop image marks₀ n m₀ marks m = (m ≤ n) × (marks ≡ marked (repeate
 abbrev μ-loop : tie.MeasureT-loop
 μ-loop image marks₀ n m₀ marks m = n - m
 
--- src/lib.rt:591:9
 node-count-requires : tie.Need-node-count-requires Inv-loop μ-loop
 node-count-requires c κs = search needs
 
--- src/lib.rt:593:5
 loop-holds : tie.Need-loop-holds Inv-loop μ-loop
 loop-holds c = (omega arith, to-start _ _)
 
--- src/lib.rt:594:9
 mark-list-requires : tie.Need-mark-list-requires Inv-loop μ-loop
 mark-list-requires c κs = (c .before .before .before .before .before .pre, omega arith)
 
--- src/lib.rt:595:9
 add-m : tie.Need-add-m Inv-loop μ-loop
 add-m c = search needs
 
--- src/lib.rt:593:5
 loop-less : tie.Need-loop-less Inv-loop μ-loop
 loop-less c = search needs
 
--- src/lib.rt:593:5
 loop-again : tie.Need-loop-again Inv-loop μ-loop
 loop-again c = (omega arith, c .mark-list .ensures ∙ ap (marked (repeatedIn _ _)) (c .before .before .before .loop .inv .1) ∙ to-next _ _ _)
 
--- src/lib.rt:587:1
 returns : tie.Need-returns Inv-loop μ-loop
 returns c = to-end _ _ (c .before .loop .m) (c .before .loop .inv .1) (omega arith)
 

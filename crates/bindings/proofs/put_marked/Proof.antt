@@ -1,7 +1,6 @@
-use mathlib.Core.Path.{_≡_, refl, sym, ap, ap₂, subst, _∙_}
 use native.Mathlib.Omega.{arith}
 use borrow.Author.Needs.{needs}
-use Prim.Native.Nat.{_+_, _-_, _≤_}
+use Prim.Native.Nat.{_-_, _≤_}
 use Rattle.ast.specs.Image.{nodes}
 use Rattle.ast.proofs.Accepted.{sized}
 use Rattle.bindings.specs.Errors.{strictRows}
@@ -9,12 +8,6 @@ use Rattle.rows.proofs.Parts.{Left, left-start, left-next, left-end}
 use Rattle.bindings.proofs.Marking.{strictLeft, strict-start, strict-item, strict-room, strict-end}
 use Rattle.bindings.proofs.put_marked.Statement.{statement}
 use Rattle.bindings.proofs.put_marked.Tie as tie
-use Rattle.bindings.proofs.put_marked.Reads as reads
-use Rattle.bindings.proofs.put_marked.Lts as lts
-use Rattle.ast.proofs.node_count.Reads as node-count-reads
-use Rattle.ast.proofs.wide.Reads as wide-reads
-use Rattle.bindings.proofs.put_if.Reads as put-if-reads
-use Rattle.error.proofs.repeated_argument.Reads as repeated-argument-reads
 
 abbrev Inv-loop : tie.InvT-loop
 Inv-loop image marks rows₀ count n m₀ c₀ rows m c = (m ≤ n) × Left (nodes image) (strictRows image) (strictLeft image m) count rows₀ c rows
@@ -22,47 +15,36 @@ Inv-loop image marks rows₀ count n m₀ c₀ rows m c = (m ≤ n) × Left (nod
 abbrev μ-loop : tie.MeasureT-loop
 μ-loop image marks rows₀ count n m₀ c₀ rows m c = n - m
 
--- src/lib.rt:604:9
 node-count-requires : tie.Need-node-count-requires Inv-loop μ-loop
 node-count-requires c κs = search needs
 
--- src/lib.rt:607:5
 loop-holds : tie.Need-loop-holds Inv-loop μ-loop
 loop-holds c = (omega arith, left-start _ _ (strict-start _) (c .before .before .before .pre .fits))
 
--- src/lib.rt:608:13
 wide-requires : tie.Need-wide-requires Inv-loop μ-loop
 wide-requires c κs = search needs
 
--- src/lib.rt:609:20
 element-copy-out-test : tie.Need-element-copy-out-test Inv-loop μ-loop
 element-copy-out-test c = let s = (sized _ (c .before .before .before .before .before .before .pre .accepted)) .fewNodes in omega arith
 
--- src/lib.rt:610:13
 repeated-argument-requires : tie.Need-repeated-argument-requires Inv-loop μ-loop
 repeated-argument-requires c κs = search needs
 
--- src/lib.rt:611:9
 put-if-requires : tie.Need-put-if-requires Inv-loop μ-loop
 put-if-requires c κs = strict-room _ (c .before .before .before .before .before .loop .m) (c .before .before .before .before .before .loop .inv .1) (c .before .before .before .before .before .before .before .before .before .pre) (omega arith) (c .before .before .before .wide .ensures) (c .before .repeated-argument .ensures)
 
--- src/lib.rt:612:9
 add-m : tie.Need-add-m Inv-loop μ-loop
 add-m c = search needs
 
--- src/lib.rt:607:5
 loop-less : tie.Need-loop-less Inv-loop μ-loop
 loop-less c = search needs
 
--- src/lib.rt:607:5
 loop-again : tie.Need-loop-again Inv-loop μ-loop
 loop-again c = (omega arith, left-next (c .before .before .before .before .before .before .before .before .loop .inv .1) (strict-item _ (c .before .before .before .before .before .before .before .before .loop .m) (c .before .before .before .before .before .before .before .before .before .before .before .before .pre) (omega arith) (c .before .before .before .before .before .before .wide .ensures) (c .before .before .before .before .repeated-argument .ensures)) (c .before .before .put-if .ensures) (c .before .before .put-if .kept .1 .0))
 
--- src/lib.rt:600:1
 same-length : tie.Need-same-length Inv-loop μ-loop
 same-length c = c .before .loop .inv .1 .long
 
--- src/lib.rt:600:1
 returns : tie.Need-returns Inv-loop μ-loop
 returns c = left-end (c .before .loop .inv .1) (strict-end _ (c .before .loop .m) (omega arith))
 

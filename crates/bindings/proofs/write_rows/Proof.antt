@@ -1,4 +1,4 @@
-use mathlib.Core.Path.{_≡_, refl, sym, ap, ap₂, subst, _∙_}
+use mathlib.Core.Path.{ap, _∙_}
 use native.Mathlib.Omega.{arith}
 use Prim.Native.Nat.{ℕ, _+_, _*_, _-_}
 use Rattle.ast.specs.Image.{last}
@@ -9,58 +9,39 @@ use Rattle.bindings.proofs.Calls.{root-ready, plain-of, mode-fits, wrot
 use borrow.Author.Needs.{needs}
 use Rattle.bindings.proofs.write_rows.Statement.{statement}
 use Rattle.bindings.proofs.write_rows.Tie as tie
-use Rattle.bindings.proofs.write_rows.Reads as reads
-use Rattle.bindings.proofs.write_rows.Lts as lts
-use Rattle.ast.proofs.node_count.Reads as node-count-reads
-use Rattle.ast.proofs.wide.Reads as wide-reads
-use Rattle.bindings.proofs.check_mode.Reads as check-mode-reads
-use Rattle.bindings.proofs.walk_module.Reads as walk-module-reads
-use Rattle.rows.proofs.clear.Reads as clear-reads
-use Rattle.table.proofs.put.Reads as put-reads
 
--- src/lib.rt:645:9
 node-count-requires : tie.Need-node-count-requires
 node-count-requires c κs = search needs
 
--- src/lib.rt:646:31
 wide-requires : tie.Need-wide-requires
 wide-requires c κs = search needs
 
--- src/lib.rt:646:27
 mul-clear : tie.Need-mul-clear
 mul-clear c = search needs
 
--- src/lib.rt:646:23
 add-clear : tie.Need-add-clear
 add-clear c = search needs
 
--- src/lib.rt:646:5
 clear-requires : tie.Need-clear-requires
 clear-requires c κs = let l = c .before .before .before .before .before .before .pre .long in omega arith
 
--- src/lib.rt:647:62
 sub-t17 : tie.Need-sub-t17
 sub-t17 c = let s = (sized _ (c .before .before .before .before .before .before .before .before .before .before .pre .accepted)) .some in omega arith
 
--- src/lib.rt:647:9
 walk-module-requires : tie.Need-walk-module-requires
 unfolding last
 walk-module-requires c κs = root-ready _ (c .before .before .before .before .before .before .before .before .before .before .pre .accepted) (c .before .before .before .before .before .before .before .before .before .before .pre .rising) (ap (λ k. k - 1) (c .before .before .before .before .before .before .node-count .ensures))
 
--- src/lib.rt:648:9
 check-mode-requires : tie.Need-check-mode-requires
 unfolding last
 check-mode-requires c κs = (c .before .before .before .before .before .before .before .before .before .before .before .before .before .before .pre .accepted, mode-fits _ _ (c .before .before .before .before .before .before .before .before .before .before .before .before .before .before .pre .accepted) (appended-as (plain-of _ _ (ap (λ k. k - 1) (c .before .before .before .before .before .before .before .before .before .before .node-count .ensures))) (c .before .before .before .walk-module .ensures)))
 
--- src/lib.rt:649:5
 put-requires : tie.Need-put-requires
 put-requires c κs = search needs
 
--- src/lib.rt:641:1
 same-length : tie.Need-same-length
 same-length c = search needs
 
--- src/lib.rt:641:1
 returns : tie.Need-returns
 unfolding last
 returns c = wrote _ _ _ (c .before .before .before .before .before .before .before .before .before .before .before .before .before .before .before .before .before .before .before .before .before .pre .accepted) (appended-next (appended-as (plain-of _ _ (ap (λ k. k - 1) (c .before .before .before .before .before .before .before .before .before .before .before .before .before .before .before .before .before .node-count .ensures))) (c .before .before .before .before .before .before .before .before .before .before .walk-module .ensures)) (c .before .before .before .before .before .before .check-mode .ensures)) (c .before .before .before .before .before .before .before .before .before .before .before .before .before .before .clear .ensures) (ap (λ (k : ℕ). 1 + 2 * k) (c .before .before .before .before .before .before .before .before .before .before .before .before .before .before .before .wide .ensures ∙ c .before .before .before .before .before .before .before .before .before .before .before .before .before .before .before .before .before .node-count .ensures)) (c .before .before .put .ensures)

@@ -1,4 +1,4 @@
-use mathlib.Core.Path.{_≡_, refl, sym, ap, _∙_}
+use mathlib.Core.Path.{sym, ap, _∙_}
 use Rattle.lines.specs.Bytes.{digits}
 use Rattle.lines.specs.Out.{outAt, write}
 use Rattle.lines.proofs.Puts.{write-more}

@@ -1,4 +1,4 @@
-use mathlib.Core.Path.{_≡_, refl, sym, ap, _∙_}
+use mathlib.Core.Path.{sym, ap, _∙_}
 use mathlib.Core.List.{[]}
 use Rattle.lines.specs.Out.{outAt, put}
 use Rattle.lines.proofs.Puts.{numbers-none, numbers-more}

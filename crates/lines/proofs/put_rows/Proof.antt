@@ -1,4 +1,4 @@
-use mathlib.Core.Path.{_≡_, refl, sym, ap, ap₂, _∙_}
+use mathlib.Core.Path.{_≡_, refl, sym, ap, _∙_}
 use mathlib.Core.List.{List, [], _∷_}
 use Prim.Native.Nat.{ℕ, _+_, _*_, _-_, _^_, _<_, _≤_}
 use native.Mathlib.Omega.{arith}
@@ -33,29 +33,11 @@ abbrev μ-loop : tie.MeasureT-loop
 loop-holds : tie.Need-loop-holds Inv-loop μ-loop
 loop-holds c = begins _ _ _ _ _
 
-wide-requires : tie.Need-wide-requires Inv-loop μ-loop
-wide-requires c κs = search needs
+left-at-requires : tie.Need-left-at-requires Inv-loop μ-loop
+left-at-requires c κs = search needs
 
-add-get : tie.Need-add-get Inv-loop μ-loop
-add-get c = search needs
-
-get-requires : tie.Need-get-requires Inv-loop μ-loop
-get-requires c κs = search needs
-
-wide-requires-2 : tie.Need-wide-requires-2 Inv-loop μ-loop
-wide-requires-2 c κs = search needs
-
-add-get-2 : tie.Need-add-get-2 Inv-loop μ-loop
-add-get-2 c = search needs
-
-wide-requires-3 : tie.Need-wide-requires-3 Inv-loop μ-loop
-wide-requires-3 c κs = search needs
-
-add-get-3 : tie.Need-add-get-3 Inv-loop μ-loop
-add-get-3 c = search needs
-
-get-requires-2 : tie.Need-get-requires-2 Inv-loop μ-loop
-get-requires-2 c κs = search needs
+right-at-requires : tie.Need-right-at-requires Inv-loop μ-loop
+right-at-requires c κs = search needs
 
 put-text-requires : tie.Need-put-text-requires Inv-loop μ-loop
 put-text-requires c κs = search needs
@@ -71,17 +53,15 @@ loop-less c = omega arith
 
 loop-again : tie.Need-loop-again Inv-loop μ-loop
 loop-again c =
-    let a = c .before .before .before .before .before .before .before .before .before .before .before .get .ensures ∙ ap (λ (j : ℕ). getD (c .before .before .before .before .before .before .before .before .before .before .before .before .before .before .before .before .before .before .args .rows .now) (1 + j) 0) (c .before .before .before .before .before .before .before .before .before .before .before .before .wide .ensures) in
-    let b = c .before .before .before .before .before .before .before .before .get2 .ensures ∙ ap₂ (λ (j k : ℕ). getD (c .before .before .before .before .before .before .before .before .before .before .before .before .before .before .before .before .before .before .args .rows .now) (1 + j + k) 0) (c .before .before .before .before .before .before .before .before .before .before .wide2 .ensures) (c .before .before .before .before .before .before .before .before .before .wide3 .ensures) in
     record {
       within = omega arith;
-      long = c .before .before .put-two .kept .0 ∙ c .before .before .before .before .before .before .put-text .kept .0 ∙ c .before .before .before .before .before .before .before .before .before .before .before .before .before .before .loop .inv .long;
-      left = c .before .before .before .before .before .before .before .before .before .before .before .before .before .before .loop .inv .left
-          ∙ rows-next (c .before .before .before .before .before .before .before .before .before .before .before .before .before .before .before .before .before .before .args .word .now) (c .before .before .before .before .before .before .before .before .before .before .before .before .before .before .before .before .before .before .args .rows .now) (c .before .before .before .before .before .before .before .before .before .before .before .before .before .before .before .before .before .before .args .n) (c .before .before .before .before .before .before .before .before .before .before .before .before .before .before .before .before .before .before .args .count) (c .before .before .before .before .before .before .before .before .before .before .before .before .before .before .loop .i) (c .before .before .before .before .before .before .before .before .before .before .before .get .result) (c .before .before .before .before .before .before .before .before .get2 .result) _ (c .before .before .before .before .before .before .before .before .before .before .before .before .before .loop-test .taken) a b
-          ∙ ap (write (rowsFrom (c .before .before .before .before .before .before .before .before .before .before .before .before .before .before .before .before .before .before .args .word .now) (c .before .before .before .before .before .before .before .before .before .before .before .before .before .before .before .before .before .before .args .rows .now) (c .before .before .before .before .before .before .before .before .before .before .before .before .before .before .before .before .before .before .args .n) (c .before .before .before .before .before .before .before .before .before .before .before .before .before .before .before .before .before .before .args .count - (c .before .before .before .before .before .before .before .before .before .before .before .before .before .before .loop .i + 1)) (c .before .before .before .before .before .before .before .before .before .before .before .before .before .before .loop .i + 1))) (sym (c .before .before .put-two .ensures ∙ ap (write (numbers (c .before .before .before .before .before .before .before .before .before .before .before .get .result ∷ c .before .before .before .before .before .before .before .before .get2 .result ∷ []))) (c .before .before .before .before .before .before .put-text .ensures)));
+      long = c .before .before .put-two .kept .0 ∙ c .before .before .before .before .before .before .put-text .kept .0 ∙ c .before .before .before .before .before .before .before .before .before .before .before .loop .inv .long;
+      left = c .before .before .before .before .before .before .before .before .before .before .before .loop .inv .left
+          ∙ rows-next (c .before .before .before .before .before .before .before .before .before .before .before .before .before .before .before .args .word .now) (c .before .before .before .before .before .before .before .before .before .before .before .before .before .before .before .args .rows .now) (c .before .before .before .before .before .before .before .before .before .before .before .before .before .before .before .args .n) (c .before .before .before .before .before .before .before .before .before .before .before .before .before .before .before .args .count) (c .before .before .before .before .before .before .before .before .before .before .before .loop .i) (c .before .before .before .before .before .before .before .before .before .left-at .result) (c .before .before .before .before .before .before .before .before .right-at .result) _ (c .before .before .before .before .before .before .before .before .before .before .loop-test .taken) (c .before .before .before .before .before .before .before .before .before .left-at .ensures) (c .before .before .before .before .before .before .before .before .right-at .ensures)
+          ∙ ap (write (rowsFrom (c .before .before .before .before .before .before .before .before .before .before .before .before .before .before .before .args .word .now) (c .before .before .before .before .before .before .before .before .before .before .before .before .before .before .before .args .rows .now) (c .before .before .before .before .before .before .before .before .before .before .before .before .before .before .before .args .n) (c .before .before .before .before .before .before .before .before .before .before .before .before .before .before .before .args .count - (c .before .before .before .before .before .before .before .before .before .before .before .loop .i + 1)) (c .before .before .before .before .before .before .before .before .before .before .before .loop .i + 1))) (sym (c .before .before .put-two .ensures ∙ ap (write (numbers (c .before .before .before .before .before .before .before .before .before .left-at .result ∷ c .before .before .before .before .before .before .before .before .right-at .result ∷ []))) (c .before .before .before .before .before .before .put-text .ensures)));
       short =
-          let s = c .before .before .before .before .before .before .before .before .before .before .before .before .before .before .loop .inv .short in
-          let t = rows-short (c .before .before .before .before .before .before .before .before .before .before .before .before .before .before .before .before .before .before .args .word .now) (c .before .before .before .before .before .before .before .before .before .before .before .before .before .before .before .before .before .before .args .rows .now) (c .before .before .before .before .before .before .before .before .before .before .before .before .before .before .before .before .before .before .args .n) (c .before .before .before .before .before .before .before .before .before .before .before .before .before .before .before .before .before .before .args .count) (c .before .before .before .before .before .before .before .before .before .before .before .before .before .before .loop .i) (c .before .before .before .before .before .before .before .before .before .before .before .get .result) (c .before .before .before .before .before .before .before .before .get2 .result) (c .before .before .before .before .before .before .before .before .before .before .before .before .before .loop-test .taken) a b (c .before .before .before .before .before .before .before .before .before .before .before .before .before .before .before .before .before .before .pre) (let h : c .before .before .before .before .before .before .before .before .before .before .before .get .result < 2 ^ 32 = omega arith in h) (let h : c .before .before .before .before .before .before .before .before .get2 .result < 2 ^ 32 = omega arith in h) in
+          let s = c .before .before .before .before .before .before .before .before .before .before .before .loop .inv .short in
+          let t = rows-short (c .before .before .before .before .before .before .before .before .before .before .before .before .before .before .before .args .word .now) (c .before .before .before .before .before .before .before .before .before .before .before .before .before .before .before .args .rows .now) (c .before .before .before .before .before .before .before .before .before .before .before .before .before .before .before .args .n) (c .before .before .before .before .before .before .before .before .before .before .before .before .before .before .before .args .count) (c .before .before .before .before .before .before .before .before .before .before .before .loop .i) (c .before .before .before .before .before .before .before .before .before .left-at .result) (c .before .before .before .before .before .before .before .before .right-at .result) (c .before .before .before .before .before .before .before .before .before .before .loop-test .taken) (c .before .before .before .before .before .before .before .before .before .left-at .ensures) (c .before .before .before .before .before .before .before .before .right-at .ensures) (c .before .before .before .before .before .before .before .before .before .before .before .before .before .before .before .pre) (let h : c .before .before .before .before .before .before .before .before .before .left-at .result < 2 ^ 32 = omega arith in h) (let h : c .before .before .before .before .before .before .before .before .right-at .result < 2 ^ 32 = omega arith in h) in
           omega arith;
     }
 
@@ -98,14 +78,8 @@ put-rows-spec =
     Inv-loop
     μ-loop
     loop-holds
-    wide-requires
-    add-get
-    get-requires
-    wide-requires-2
-    add-get-2
-    wide-requires-3
-    add-get-3
-    get-requires-2
+    left-at-requires
+    right-at-requires
     put-text-requires
     put-two-requires
     add-i

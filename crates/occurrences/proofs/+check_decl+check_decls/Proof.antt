@@ -49,55 +49,42 @@ check-decl-claims t = (field-reads.Asked, field-reads.Learnt, check-rule-reads.A
 abbrev check-decls-claims : ℕ → check-decls-lts.Claims
 check-decls-claims t = (field-reads.Asked, field-reads.Learnt, check-decl-below t, check-decl.Post)
 
--- src/lib.rt:548:9
 check-decl-field-requires : (t : ℕ) → check-decl-lts.Need-field-requires (check-decl-claims t) (check-decl-at t) check-decl.Post
 check-decl-field-requires t c κs = search needs
 
--- src/lib.rt:549:21
 check-decl-field-requires-2 : (t : ℕ) → check-decl-lts.Need-field-requires-2 (check-decl-claims t) (check-decl-at t) check-decl.Post
 check-decl-field-requires-2 t c κs = search needs
 
--- src/lib.rt:551:14
 check-decl-check-rule-requires : (t : ℕ) → check-decl-lts.Need-check-rule-requires (check-decl-claims t) (check-decl-at t) check-decl.Post
 check-decl-check-rule-requires t c κs = ((declared _ _ (c .before .before .before .before .before .before .before .before .before .pre .1 .0) 4 (sym (c .before .before .match .keys1) ∙ c .before .before .before .before .field .ensures) (c .before .before .before .field2 .ensures) refl) .listing, c .before .before .before .before .before .before .before .before .before .pre .1 .1)
 
--- src/lib.rt:553:34
 check-decl-field-requires-3 : (t : ℕ) → check-decl-lts.Need-field-requires-3 (check-decl-claims t) (check-decl-at t) check-decl.Post
 check-decl-field-requires-3 t c κs = search needs
 
--- src/lib.rt:553:17
 check-decl-wide-requires : (t : ℕ) → check-decl-lts.Need-wide-requires (check-decl-claims t) (check-decl-at t) check-decl.Post
 check-decl-wide-requires t c κs = search needs
 
--- src/lib.rt:554:13
 check-decl-check-decls-requires : (t : ℕ) → check-decl-lts.Need-check-decls-requires (check-decl-claims t) (check-decl-at t) check-decl.Post
 check-decl-check-decls-requires t c κs = let o = declared _ _ (c .before .before .before .before .before .before .before .before .before .before .before .pre .1 .0) 6 (sym (c .before .before .before .before .match .keys2) ∙ c .before .before .before .before .before .before .field .ensures) (c .before .before .before .before .before .field2 .ensures) refl in (let l = o .low in omega arith, ((modelRun _ _ ((declared _ _ (c .before .before .before .before .before .before .before .before .before .before .before .pre .1 .0) 6 (sym (c .before .before .before .before .match .keys2) ∙ c .before .before .before .before .before .before .field .ensures) (c .before .before .before .before .before .field2 .ensures) refl) .listing) (c .before .before .wide .ensures ∙ c .before .before .before .field3 .ensures)) .run, c .before .before .before .before .before .before .before .before .before .before .before .pre .1 .1))
 
--- src/lib.rt:537:1
 check-decl-same-length : (t : ℕ) → check-decl-lts.Need-same-length (check-decl-claims t) (check-decl-at t) check-decl.Post
 check-decl-same-length t c = search needs
 
--- src/lib.rt:537:1
 check-decl-same-length-2 : (t : ℕ) → check-decl-lts.Need-same-length-2 (check-decl-claims t) (check-decl-at t) check-decl.Post
 check-decl-same-length-2 t c = search needs
 
--- src/lib.rt:537:1
 check-decl-returns : (t : ℕ) → check-decl-lts.Need-returns (check-decl-claims t) (check-decl-at t) check-decl.Post
 check-decl-returns t c = searched-as ((declared _ _ (c .before .before .before .before .before .before .before .before .before .before .before .before .before .before .pre .1 .0) 4 (sym (c .before .before .before .before .before .before .before .match .keys1) ∙ c .before .before .before .before .before .before .before .before .before .field .ensures) (c .before .before .before .before .before .before .before .before .field2 .ensures) refl) .whole) (c .before .before .before .before .check-rule .ensures)
 
--- src/lib.rt:537:1
 check-decl-same-length-3 : (t : ℕ) → check-decl-lts.Need-same-length-3 (check-decl-claims t) (check-decl-at t) check-decl.Post
 check-decl-same-length-3 t c = search needs
 
--- src/lib.rt:537:1
 check-decl-same-length-4 : (t : ℕ) → check-decl-lts.Need-same-length-4 (check-decl-claims t) (check-decl-at t) check-decl.Post
 check-decl-same-length-4 t c = search needs
 
--- src/lib.rt:537:1
 check-decl-returns-2 : (t : ℕ) → check-decl-lts.Need-returns-2 (check-decl-claims t) (check-decl-at t) check-decl.Post
 check-decl-returns-2 t c = searched-as ((declared _ _ (c .before .before .before .before .before .before .before .before .before .before .before .before .before .before .before .before .pre .1 .0) 6 (sym (c .before .before .before .before .before .before .before .before .before .match .keys2) ∙ c .before .before .before .before .before .before .before .before .before .before .before .field .ensures) (c .before .before .before .before .before .before .before .before .before .before .field2 .ensures) refl) .whole ∙ (modelRun _ _ ((declared _ _ (c .before .before .before .before .before .before .before .before .before .before .before .before .before .before .before .before .pre .1 .0) 6 (sym (c .before .before .before .before .before .before .before .before .before .match .keys2) ∙ c .before .before .before .before .before .before .before .before .before .before .before .field .ensures) (c .before .before .before .before .before .before .before .before .before .before .field2 .ensures) refl) .listing) (c .before .before .before .before .before .before .before .wide .ensures ∙ c .before .before .before .before .before .before .before .before .field3 .ensures)) .whole) (c .before .before .before .before .check-decls .ensures)
 
--- src/lib.rt:537:1
 check-decl-returns-3 : (t : ℕ) → check-decl-lts.Need-returns-3 (check-decl-claims t) (check-decl-at t) check-decl.Post
 check-decl-returns-3 t c = searched-nothing (decl-none _ _ (c .before .before .before .before .before .before .before .pre .1 .0) (λ q. let e = c .before .before .field .ensures in omega arith) (λ q. let e = c .before .before .field .ensures in omega arith))
 
@@ -107,62 +94,48 @@ check-decls-Inv-loop image table symbols rows₀ counts₀ node first size i₀ 
 abbrev check-decls-μ-loop : check-decls-lts.MeasureT-loop
 check-decls-μ-loop image table symbols rows₀ counts₀ node first size i₀ rows counts i = size - i
 
--- src/lib.rt:574:5
 check-decls-loop-holds : (t : ℕ) → check-decls-lts.Need-loop-holds (check-decls-claims t) (check-decls-at t) check-decls.Post check-decls-Inv-loop check-decls-μ-loop
 check-decls-loop-holds t c = checks-start _ _ (c .before .before .before .before .pre .1 .0)
 
--- src/lib.rt:575:51
 check-decls-add-field : (t : ℕ) → check-decls-lts.Need-add-field (check-decls-claims t) (check-decls-at t) check-decls.Post check-decls-Inv-loop check-decls-μ-loop
 check-decls-add-field t c = let s = c .before .before .before .before .before .before .pre .1 .0 .short in omega arith
 
--- src/lib.rt:575:27
 check-decls-field-requires : (t : ℕ) → check-decls-lts.Need-field-requires (check-decls-claims t) (check-decls-at t) check-decls.Post check-decls-Inv-loop check-decls-μ-loop
 check-decls-field-requires t c κs = let s = c .before .before .before .before .before .before .pre .1 .0 .short in omega arith
 
--- src/lib.rt:576:15
 check-decls-check-decl-requires : (t : ℕ) → check-decls-lts.Need-check-decl-requires (check-decls-claims t) (check-decls-at t) check-decls.Post check-decls-Inv-loop check-decls-μ-loop
 check-decls-check-decl-requires t c κs = let o = checks-item _ _ (c .before .before .before .before .before .before .before .before .before .pre .1 .0) (c .before .before .before .before .loop .inv) (c .before .before .before .loop-test .taken) (c .before .before .field .ensures) in (let l = o .low in omega arith, (o .listing, checks-scratch _ _ (c .before .before .before .before .before .before .before .before .before .pre .1 .1) (c .before .before .before .before .loop .inv)))
 
 check-decls-enum-told : (t : ℕ) → check-decls-lts.Need-enum-told (check-decls-claims t) (check-decls-at t) check-decls.Post check-decls-Inv-loop check-decls-μ-loop
 check-decls-enum-told t c = search needs
 
--- src/lib.rt:578:27
 check-decls-enum-known-node : (t : ℕ) → check-decls-lts.Need-enum-known-node (check-decls-claims t) (check-decls-at t) check-decls.Post check-decls-Inv-loop check-decls-μ-loop
 check-decls-enum-known-node t c = search needs
 
--- src/lib.rt:579:17
 check-decls-same-length : (t : ℕ) → check-decls-lts.Need-same-length (check-decls-claims t) (check-decls-at t) check-decls.Post check-decls-Inv-loop check-decls-μ-loop
 check-decls-same-length t c = c .before .before .before .before .before .before .before .check-decl .kept .1 .1 .1 .0 ∙ c .before .before .before .before .before .before .before .before .before .before .before .before .loop .inv .long
 
--- src/lib.rt:579:17
 check-decls-same-length-2 : (t : ℕ) → check-decls-lts.Need-same-length-2 (check-decls-claims t) (check-decls-at t) check-decls.Post check-decls-Inv-loop check-decls-μ-loop
 check-decls-same-length-2 t c = c .before .before .before .before .before .before .before .check-decl .kept .1 .1 .1 .1 .0 ∙ ap length (c .before .before .before .before .before .before .before .before .before .before .before .before .loop .inv .clean)
 
--- src/lib.rt:579:17
 check-decls-returns : (t : ℕ) → check-decls-lts.Need-returns (check-decls-claims t) (check-decls-at t) check-decls.Post check-decls-Inv-loop check-decls-μ-loop
 check-decls-returns t c = checks-found _ _ (c .before .before .before .before .before .before .before .before .before .before .before .before .loop .inv) (checks-item _ _ (c .before .before .before .before .before .before .before .before .before .before .before .before .before .before .before .before .before .pre .1 .0) (c .before .before .before .before .before .before .before .before .before .before .before .before .loop .inv) (c .before .before .before .before .before .before .before .before .before .before .before .loop-test .taken) (c .before .before .before .before .before .before .before .before .before .before .field .ensures)) (c .before .before .before .before .before .before .before .check-decl .ensures) (c .before .node .given .1)
 
--- src/lib.rt:582:9
 check-decls-add-i : (t : ℕ) → check-decls-lts.Need-add-i (check-decls-claims t) (check-decls-at t) check-decls.Post check-decls-Inv-loop check-decls-μ-loop
 check-decls-add-i t c = search needs
 
--- src/lib.rt:574:5
 check-decls-loop-less : (t : ℕ) → check-decls-lts.Need-loop-less (check-decls-claims t) (check-decls-at t) check-decls.Post check-decls-Inv-loop check-decls-μ-loop
 check-decls-loop-less t c = search needs
 
--- src/lib.rt:574:5
 check-decls-loop-again : (t : ℕ) → check-decls-lts.Need-loop-again (check-decls-claims t) (check-decls-at t) check-decls.Post check-decls-Inv-loop check-decls-μ-loop
 check-decls-loop-again t c = checks-next _ _ (c .before .before .before .before .before .before .before .before .before .before .before .loop .inv) (c .before .before .before .before .before .before .before .before .before .before .loop-test .taken) (checks-item _ _ (c .before .before .before .before .before .before .before .before .before .before .before .before .before .before .before .before .pre .1 .0) (c .before .before .before .before .before .before .before .before .before .before .before .loop .inv) (c .before .before .before .before .before .before .before .before .before .before .loop-test .taken) (c .before .before .before .before .before .before .before .before .before .field .ensures)) (c .before .before .before .before .before .before .check-decl .ensures) (c .enum-told .given .1) (c .before .before .before .before .before .before .check-decl .kept .1 .1 .1 .0)
 
--- src/lib.rt:560:1
 check-decls-same-length-3 : (t : ℕ) → check-decls-lts.Need-same-length-3 (check-decls-claims t) (check-decls-at t) check-decls.Post check-decls-Inv-loop check-decls-μ-loop
 check-decls-same-length-3 t c = c .before .loop .inv .long
 
--- src/lib.rt:560:1
 check-decls-same-length-4 : (t : ℕ) → check-decls-lts.Need-same-length-4 (check-decls-claims t) (check-decls-at t) check-decls.Post check-decls-Inv-loop check-decls-μ-loop
 check-decls-same-length-4 t c = ap length (c .before .loop .inv .clean)
 
--- src/lib.rt:560:1
 check-decls-returns-2 : (t : ℕ) → check-decls-lts.Need-returns-2 (check-decls-claims t) (check-decls-at t) check-decls.Post check-decls-Inv-loop check-decls-μ-loop
 check-decls-returns-2 t c = checks-end _ _ (c .before .loop .inv) (c .loop-test .left)
 

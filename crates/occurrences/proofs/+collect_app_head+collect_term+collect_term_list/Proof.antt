@@ -5,9 +5,10 @@ use Rattle.ast.specs.Image.{nodes}
 use Rattle.ast.specs.Kinds.{kindOf}
 use Rattle.ast.proofs.Shapes.{term-last, head-last}
 use Rattle.rows.proofs.Appends.{appended-next}
+use Rattle.rows.proofs.Parts.{appended-no, Left, left-start, left-next, left-end}
 use Rattle.occurrences.specs.Collect.{sought, rowsIn, rowsAt}
 use Rattle.occurrences.proofs.CollectRows.{bare, items-none}
-use Rattle.occurrences.proofs.CollectSteps.{appended-as, appended-nothing, Left, left-start, left-next, left-end, term-ident, term-app, term-comp, term-inner, term-wild, head-ident, head-member, head-term, listRun, item}
+use Rattle.occurrences.proofs.CollectSteps.{appended-as, term-ident, term-app, term-comp, term-inner, term-wild, head-ident, head-member, head-term, listRun, item}
 use Prim.Native.Nat.{ℕ, _<_}
 use borrow.Fn.Kinds.{In}
 use borrow.Fn.PlainCycle.{Measures, is, falls, and}
@@ -89,148 +90,113 @@ collect-term-claims t = (field-reads.Asked, field-reads.Learnt, collect-ident-re
 abbrev collect-term-list-claims : ℕ → collect-term-list-lts.Claims
 collect-term-list-claims t = (field-reads.Asked, field-reads.Learnt, wide-reads.Asked, wide-reads.Learnt, collect-term-below t, collect-term.Post)
 
--- src/lib.rt:87:9
 collect-app-head-field-requires : (t : ℕ) → collect-app-head-lts.Need-field-requires (collect-app-head-claims t) (collect-app-head-at t) collect-app-head.Post
 collect-app-head-field-requires t c κs = search needs
 
--- src/lib.rt:88:21
 collect-app-head-field-requires-2 : (t : ℕ) → collect-app-head-lts.Need-field-requires-2 (collect-app-head-claims t) (collect-app-head-at t) collect-app-head.Post
 collect-app-head-field-requires-2 t c κs = search needs
 
--- src/lib.rt:90:14
 collect-app-head-collect-ident-requires :
     (t : ℕ) → collect-app-head-lts.Need-collect-ident-requires (collect-app-head-claims t) (collect-app-head-at t) collect-app-head.Post
 collect-app-head-collect-ident-requires t c κs = (head-ident _ _ (c .before .before .before .before .before .before .before .pre .1) (sym (c .before .match .keys1) ∙ c .before .before .before .field .ensures) (c .before .before .field2 .ensures)) .room
 
--- src/lib.rt:92:35
 collect-app-head-field-requires-3 : (t : ℕ) → collect-app-head-lts.Need-field-requires-3 (collect-app-head-claims t) (collect-app-head-at t) collect-app-head.Post
 collect-app-head-field-requires-3 t c κs = search needs
 
--- src/lib.rt:93:13
 collect-app-head-collect-term-requires : (t : ℕ) → collect-app-head-lts.Need-collect-term-requires (collect-app-head-claims t) (collect-app-head-at t) collect-app-head.Post
 collect-app-head-collect-term-requires t c κs = let o = head-member _ _ (c .before .before .before .before .before .before .before .before .pre .1) (sym (c .before .before .match .keys2) ∙ c .before .before .before .before .field .ensures) (c .before .before .before .field2 .ensures) (c .before .field3 .ensures) in (let l = o .low in omega arith, o .ready)
 
--- src/lib.rt:95:14
 collect-app-head-collect-term-requires-2 :
     (t : ℕ) → collect-app-head-lts.Need-collect-term-requires-2 (collect-app-head-claims t) (collect-app-head-at t) collect-app-head.Post
 collect-app-head-collect-term-requires-2 t c κs = let o = head-term _ _ (c .before .before .before .before .before .before .before .pre .1) (let l = head-last _ (c .before .before .before .before .before .before .before .pre .1 .is) in let e = c .before .before .before .field .ensures in omega arith) (c .before .before .field2 .ensures) in (let l = o .low in omega arith, o .ready)
 
--- src/lib.rt:76:1
 collect-app-head-same-length : (t : ℕ) → collect-app-head-lts.Need-same-length (collect-app-head-claims t) (collect-app-head-at t) collect-app-head.Post
 collect-app-head-same-length t c = search needs
 
--- src/lib.rt:76:1
 collect-app-head-returns : (t : ℕ) → collect-app-head-lts.Need-returns (collect-app-head-claims t) (collect-app-head-at t) collect-app-head.Post
 collect-app-head-returns t c = appended-as ((head-ident _ _ (c .before .before .before .before .before .before .before .before .before .before .pre .1) (sym (c .before .before .before .before .match .keys1) ∙ c .before .before .before .before .before .before .field .ensures) (c .before .before .before .before .before .field2 .ensures)) .whole) (c .before .before .collect-ident .ensures)
 
--- src/lib.rt:76:1
 collect-app-head-same-length-2 : (t : ℕ) → collect-app-head-lts.Need-same-length-2 (collect-app-head-claims t) (collect-app-head-at t) collect-app-head.Post
 collect-app-head-same-length-2 t c = search needs
 
--- src/lib.rt:76:1
 collect-app-head-returns-2 : (t : ℕ) → collect-app-head-lts.Need-returns-2 (collect-app-head-claims t) (collect-app-head-at t) collect-app-head.Post
 collect-app-head-returns-2 t c = appended-as ((head-member _ _ (c .before .before .before .before .before .before .before .before .before .before .before .pre .1) (sym (c .before .before .before .before .before .match .keys2) ∙ c .before .before .before .before .before .before .before .field .ensures) (c .before .before .before .before .before .before .field2 .ensures) (c .before .before .before .before .field3 .ensures)) .whole) (c .before .before .collect-term .ensures)
 
--- src/lib.rt:76:1
 collect-app-head-same-length-3 : (t : ℕ) → collect-app-head-lts.Need-same-length-3 (collect-app-head-claims t) (collect-app-head-at t) collect-app-head.Post
 collect-app-head-same-length-3 t c = search needs
 
--- src/lib.rt:76:1
 collect-app-head-returns-3 : (t : ℕ) → collect-app-head-lts.Need-returns-3 (collect-app-head-claims t) (collect-app-head-at t) collect-app-head.Post
 collect-app-head-returns-3 t c = appended-as ((head-term _ _ (c .before .before .before .before .before .before .before .before .before .before .pre .1) (let l = head-last _ (c .before .before .before .before .before .before .before .before .before .before .pre .1 .is) in let e = c .before .before .before .before .before .before .field .ensures in omega arith) (c .before .before .before .before .before .field2 .ensures)) .whole) (c .before .before .collect-term2 .ensures)
 
--- src/lib.rt:52:9
 collect-term-field-requires : (t : ℕ) → collect-term-lts.Need-field-requires (collect-term-claims t) (collect-term-at t) collect-term.Post
 collect-term-field-requires t c κs = search needs
 
--- src/lib.rt:53:21
 collect-term-field-requires-2 : (t : ℕ) → collect-term-lts.Need-field-requires-2 (collect-term-claims t) (collect-term-at t) collect-term.Post
 collect-term-field-requires-2 t c κs = search needs
 
--- src/lib.rt:55:14
 collect-term-collect-ident-requires : (t : ℕ) → collect-term-lts.Need-collect-ident-requires (collect-term-claims t) (collect-term-at t) collect-term.Post
 collect-term-collect-ident-requires t c κs = (term-ident _ _ (c .before .before .before .before .before .before .before .pre .1) (sym (c .before .match .keys1) ∙ c .before .before .before .field .ensures) (c .before .before .field2 .ensures)) .room
 
--- src/lib.rt:57:31
 collect-term-field-requires-3 : (t : ℕ) → collect-term-lts.Need-field-requires-3 (collect-term-claims t) (collect-term-at t) collect-term.Post
 collect-term-field-requires-3 t c κs = search needs
 
--- src/lib.rt:58:31
 collect-term-field-requires-4 : (t : ℕ) → collect-term-lts.Need-field-requires-4 (collect-term-claims t) (collect-term-at t) collect-term.Post
 collect-term-field-requires-4 t c κs = search needs
 
--- src/lib.rt:59:17
 collect-term-collect-app-head-requires : (t : ℕ) → collect-term-lts.Need-collect-app-head-requires (collect-term-claims t) (collect-term-at t) collect-term.Post
 collect-term-collect-app-head-requires t c κs = let o = term-app _ _ (c .before .before .before .before .before .before .before .before .before .pre .1) (sym (c .before .before .before .match .keys2) ∙ c .before .before .before .before .before .field .ensures) (c .before .before .before .before .field2 .ensures) (c .before .before .field3 .ensures) (c .before .field4 .ensures) in (let l = o .low in omega arith, o .first)
 
--- src/lib.rt:60:13
 collect-term-collect-term-list-requires :
     (t : ℕ) → collect-term-lts.Need-collect-term-list-requires (collect-term-claims t) (collect-term-at t) collect-term.Post
 collect-term-collect-term-list-requires t c κs = let o = term-app _ _ (c .before .before .before .before .before .before .before .before .before .before .before .before .before .pre .1) (sym (c .before .before .before .before .before .before .before .match .keys2) ∙ c .before .before .before .before .before .before .before .before .before .field .ensures) (c .before .before .before .before .before .before .before .before .field2 .ensures) (c .before .before .before .before .before .before .field3 .ensures) (c .before .before .before .before .before .field4 .ensures) in (let l = o .low2 in omega arith, o .second (c .before .before .before .collect-app-head .ensures .count))
 
--- src/lib.rt:67:32
 collect-term-field-requires-5 : (t : ℕ) → collect-term-lts.Need-field-requires-5 (collect-term-claims t) (collect-term-at t) collect-term.Post
 collect-term-field-requires-5 t c κs = search needs
 
--- src/lib.rt:68:33
 collect-term-field-requires-6 : (t : ℕ) → collect-term-lts.Need-field-requires-6 (collect-term-claims t) (collect-term-at t) collect-term.Post
 collect-term-field-requires-6 t c κs = search needs
 
--- src/lib.rt:69:17
 collect-term-collect-term-requires : (t : ℕ) → collect-term-lts.Need-collect-term-requires (collect-term-claims t) (collect-term-at t) collect-term.Post
 collect-term-collect-term-requires t c κs = let o = term-comp _ _ (c .before .before .before .before .before .before .before .before .before .pre .1) (sym (c .before .before .before .match .keys3) ∙ c .before .before .before .before .before .field .ensures) (c .before .before .before .before .field2 .ensures) (c .before .before .field5 .ensures) (c .before .field6 .ensures) in (let l = o .low in omega arith, o .first)
 
--- src/lib.rt:70:13
 collect-term-collect-term-requires-2 : (t : ℕ) → collect-term-lts.Need-collect-term-requires-2 (collect-term-claims t) (collect-term-at t) collect-term.Post
 collect-term-collect-term-requires-2 t c κs = let o = term-comp _ _ (c .before .before .before .before .before .before .before .before .before .before .before .before .before .pre .1) (sym (c .before .before .before .before .before .before .before .match .keys3) ∙ c .before .before .before .before .before .before .before .before .before .field .ensures) (c .before .before .before .before .before .before .before .before .field2 .ensures) (c .before .before .before .before .before .before .field5 .ensures) (c .before .before .before .before .before .field6 .ensures) in (let l = o .low2 in omega arith, o .second (c .before .before .before .collect-term .ensures .count))
 
--- src/lib.rt:63:32
 collect-term-field-requires-7 : (t : ℕ) → collect-term-lts.Need-field-requires-7 (collect-term-claims t) (collect-term-at t) collect-term.Post
 collect-term-field-requires-7 t c κs = search needs
 
--- src/lib.rt:64:13
 collect-term-collect-term-requires-3 : (t : ℕ) → collect-term-lts.Need-collect-term-requires-3 (collect-term-claims t) (collect-term-at t) collect-term.Post
 collect-term-collect-term-requires-3 t c κs = let o = term-inner _ _ {x = c .before .before .before .before .before .before .field .result} (c .before .before .before .before .before .before .before .before .before .before .pre .1) (omega arith) (omega arith) (c .before .before .before .before .before .before .field .ensures) (c .before .before .before .before .before .field2 .ensures) (c .before .field7 .ensures) in (let l = o .low in omega arith, o .ready)
 
--- src/lib.rt:41:1
 collect-term-same-length : (t : ℕ) → collect-term-lts.Need-same-length (collect-term-claims t) (collect-term-at t) collect-term.Post
 collect-term-same-length t c = search needs
 
--- src/lib.rt:41:1
 collect-term-returns : (t : ℕ) → collect-term-lts.Need-returns (collect-term-claims t) (collect-term-at t) collect-term.Post
 collect-term-returns t c = appended-as ((term-ident _ _ (c .before .before .before .before .before .before .before .before .before .before .pre .1) (sym (c .before .before .before .before .match .keys1) ∙ c .before .before .before .before .before .before .field .ensures) (c .before .before .before .before .before .field2 .ensures)) .whole) (c .before .before .collect-ident .ensures)
 
--- src/lib.rt:41:1
 collect-term-same-length-2 : (t : ℕ) → collect-term-lts.Need-same-length-2 (collect-term-claims t) (collect-term-at t) collect-term.Post
 collect-term-same-length-2 t c = search needs
 
--- src/lib.rt:41:1
 collect-term-returns-2 : (t : ℕ) → collect-term-lts.Need-returns-2 (collect-term-claims t) (collect-term-at t) collect-term.Post
 collect-term-returns-2 t c = appended-as ((term-app _ _ (c .before .before .before .before .before .before .before .before .before .before .before .before .before .before .before .before .pre .1) (sym (c .before .before .before .before .before .before .before .before .before .before .match .keys2) ∙ c .before .before .before .before .before .before .before .before .before .before .before .before .field .ensures) (c .before .before .before .before .before .before .before .before .before .before .before .field2 .ensures) (c .before .before .before .before .before .before .before .before .before .field3 .ensures) (c .before .before .before .before .before .before .before .before .field4 .ensures)) .whole) (appended-next (c .before .before .before .before .before .before .collect-app-head .ensures) (c .before .before .collect-term-list .ensures))
 
--- src/lib.rt:41:1
 collect-term-same-length-3 : (t : ℕ) → collect-term-lts.Need-same-length-3 (collect-term-claims t) (collect-term-at t) collect-term.Post
 collect-term-same-length-3 t c = search needs
 
--- src/lib.rt:41:1
 collect-term-returns-3 : (t : ℕ) → collect-term-lts.Need-returns-3 (collect-term-claims t) (collect-term-at t) collect-term.Post
 collect-term-returns-3 t c = appended-as ((term-comp _ _ (c .before .before .before .before .before .before .before .before .before .before .before .before .before .before .before .before .pre .1) (sym (c .before .before .before .before .before .before .before .before .before .before .match .keys3) ∙ c .before .before .before .before .before .before .before .before .before .before .before .before .field .ensures) (c .before .before .before .before .before .before .before .before .before .before .before .field2 .ensures) (c .before .before .before .before .before .before .before .before .before .field5 .ensures) (c .before .before .before .before .before .before .before .before .field6 .ensures)) .whole) (appended-next (c .before .before .before .before .before .before .collect-term .ensures) (c .before .before .collect-term2 .ensures))
 
--- src/lib.rt:41:1
 collect-term-same-length-4 : (t : ℕ) → collect-term-lts.Need-same-length-4 (collect-term-claims t) (collect-term-at t) collect-term.Post
 collect-term-same-length-4 t c = search needs
 
--- src/lib.rt:41:1
 collect-term-returns-4 : (t : ℕ) → collect-term-lts.Need-returns-4 (collect-term-claims t) (collect-term-at t) collect-term.Post
 collect-term-returns-4 t c = appended-as ((term-inner _ _ {x = c .before .before .before .before .before .before .before .before .before .field .result} (c .before .before .before .before .before .before .before .before .before .before .before .before .before .pre .1) (omega arith) (omega arith) (c .before .before .before .before .before .before .before .before .before .field .ensures) (c .before .before .before .before .before .before .before .before .field2 .ensures) (c .before .before .before .before .field7 .ensures)) .whole) (c .before .before .collect-term3 .ensures)
 
--- src/lib.rt:41:1
 collect-term-returns-5 : (t : ℕ) → collect-term-lts.Need-returns-5 (collect-term-claims t) (collect-term-at t) collect-term.Post
-collect-term-returns-5 t c = appended-nothing (term-wild _ _ (c .before .before .before .before .before .before .before .pre .1) (omega arith))
+collect-term-returns-5 t c = appended-no _ _ (term-wild _ _ (c .before .before .before .before .before .before .before .pre .1) (omega arith))
 
--- src/lib.rt:41:1
 collect-term-returns-6 : (t : ℕ) → collect-term-lts.Need-returns-6 (collect-term-claims t) (collect-term-at t) collect-term.Post
-collect-term-returns-6 t c = appended-nothing (term-wild _ _ (c .before .before .before .before .before .before .before .before .pre .1) (let l = term-last _ (c .before .before .before .before .before .before .before .before .pre .1 .is) in omega arith))
+collect-term-returns-6 t c = appended-no _ _ (term-wild _ _ (c .before .before .before .before .before .before .before .before .pre .1) (let l = term-last _ (c .before .before .before .before .before .before .before .before .pre .1 .is) in omega arith))
 
 abbrev collect-term-list-Inv-loop : collect-term-list-lts.InvT-loop
 collect-term-list-Inv-loop image table symbols rows₀ count list size i₀ after₀ rows i after = (i ≤ size) × Left (nodes image) (rowsIn image (sought table symbols) (list .0)) (rowsAt image (sought table symbols) (list .0) (size - i) (1 + i)) count rows₀ after rows
@@ -238,7 +204,6 @@ collect-term-list-Inv-loop image table symbols rows₀ count list size i₀ afte
 abbrev collect-term-list-μ-loop : collect-term-list-lts.MeasureT-loop
 collect-term-list-μ-loop image table symbols rows₀ count list size i₀ after₀ rows i after = size - i
 
--- src/lib.rt:110:26
 collect-term-list-field-requires : (t : ℕ) → collect-term-list-lts.Need-field-requires (collect-term-list-claims t)
     (collect-term-list-at t)
     collect-term-list.Post
@@ -246,7 +211,6 @@ collect-term-list-field-requires : (t : ℕ) → collect-term-list-lts.Need-fiel
     collect-term-list-μ-loop
 collect-term-list-field-requires t c κs = search needs
 
--- src/lib.rt:110:9
 collect-term-list-wide-requires : (t : ℕ) → collect-term-list-lts.Need-wide-requires (collect-term-list-claims t)
     (collect-term-list-at t)
     collect-term-list.Post
@@ -254,16 +218,14 @@ collect-term-list-wide-requires : (t : ℕ) → collect-term-list-lts.Need-wide-
     collect-term-list-μ-loop
 collect-term-list-wide-requires t c κs = search needs
 
--- src/lib.rt:113:5
 collect-term-list-loop-holds : (t : ℕ) → collect-term-list-lts.Need-loop-holds (collect-term-list-claims t)
     (collect-term-list-at t)
     collect-term-list.Post
     collect-term-list-Inv-loop
     collect-term-list-μ-loop
 unfolding kindOf
-collect-term-list-loop-holds t c = (omega arith, left-start ((listRun _ _ (c .before .before .before .before .before .pre .1) (c .wide .ensures ∙ c .before .field .ensures)) .whole) (c .before .before .before .before .before .pre .1 .room .fits))
+collect-term-list-loop-holds t c = (omega arith, left-start _ _ ((listRun _ _ (c .before .before .before .before .before .pre .1) (c .wide .ensures ∙ c .before .field .ensures)) .whole) (c .before .before .before .before .before .pre .1 .room .fits))
 
--- src/lib.rt:114:51
 collect-term-list-add-field : (t : ℕ) → collect-term-list-lts.Need-add-field (collect-term-list-claims t)
     (collect-term-list-at t)
     collect-term-list.Post
@@ -271,7 +233,6 @@ collect-term-list-add-field : (t : ℕ) → collect-term-list-lts.Need-add-field
     collect-term-list-μ-loop
 collect-term-list-add-field t c = search needs
 
--- src/lib.rt:114:27
 collect-term-list-field-requires-2 : (t : ℕ) → collect-term-list-lts.Need-field-requires-2 (collect-term-list-claims t)
     (collect-term-list-at t)
     collect-term-list.Post
@@ -279,7 +240,6 @@ collect-term-list-field-requires-2 : (t : ℕ) → collect-term-list-lts.Need-fi
     collect-term-list-μ-loop
 collect-term-list-field-requires-2 t c κs = search needs
 
--- src/lib.rt:115:9
 collect-term-list-collect-term-requires :
     (t : ℕ) → collect-term-list-lts.Need-collect-term-requires (collect-term-list-claims t)
     (collect-term-list-at t)
@@ -289,7 +249,6 @@ collect-term-list-collect-term-requires :
 unfolding kindOf bare
 collect-term-list-collect-term-requires t c κs = let o = item _ _ refl ((listRun _ _ (c .before .before .before .before .before .before .before .before .before .pre .1) (c .before .before .before .before .wide .ensures ∙ c .before .before .before .before .before .field .ensures)) .run) (omega arith) (c .before .field2 .ensures) (c .before .before .before .loop .inv .1) in (let l = o .low in omega arith, o .ready)
 
--- src/lib.rt:116:9
 collect-term-list-add-i : (t : ℕ) → collect-term-list-lts.Need-add-i (collect-term-list-claims t)
     (collect-term-list-at t)
     collect-term-list.Post
@@ -297,7 +256,6 @@ collect-term-list-add-i : (t : ℕ) → collect-term-list-lts.Need-add-i (collec
     collect-term-list-μ-loop
 collect-term-list-add-i t c = search needs
 
--- src/lib.rt:113:5
 collect-term-list-loop-less : (t : ℕ) → collect-term-list-lts.Need-loop-less (collect-term-list-claims t)
     (collect-term-list-at t)
     collect-term-list.Post
@@ -305,7 +263,6 @@ collect-term-list-loop-less : (t : ℕ) → collect-term-list-lts.Need-loop-less
     collect-term-list-μ-loop
 collect-term-list-loop-less t c = search needs
 
--- src/lib.rt:113:5
 collect-term-list-loop-again : (t : ℕ) → collect-term-list-lts.Need-loop-again (collect-term-list-claims t)
     (collect-term-list-at t)
     collect-term-list.Post
@@ -314,7 +271,6 @@ collect-term-list-loop-again : (t : ℕ) → collect-term-list-lts.Need-loop-aga
 unfolding kindOf bare
 collect-term-list-loop-again t c = (omega arith, left-next (c .before .before .before .before .before .before .loop .inv .1) ((item _ _ refl ((listRun _ _ (c .before .before .before .before .before .before .before .before .before .before .before .before .pre .1) (c .before .before .before .before .before .before .before .wide .ensures ∙ c .before .before .before .before .before .before .before .before .field .ensures)) .run) (omega arith) (c .before .before .before .before .field2 .ensures) (c .before .before .before .before .before .before .loop .inv .1)) .more) (c .before .before .collect-term .ensures) (c .before .before .collect-term .kept .1 .1 .1 .0))
 
--- src/lib.rt:99:1
 collect-term-list-same-length : (t : ℕ) → collect-term-list-lts.Need-same-length (collect-term-list-claims t)
     (collect-term-list-at t)
     collect-term-list.Post
@@ -322,7 +278,6 @@ collect-term-list-same-length : (t : ℕ) → collect-term-list-lts.Need-same-le
     collect-term-list-μ-loop
 collect-term-list-same-length t c = c .before .loop .inv .1 .long
 
--- src/lib.rt:99:1
 collect-term-list-returns : (t : ℕ) → collect-term-list-lts.Need-returns (collect-term-list-claims t)
     (collect-term-list-at t)
     collect-term-list.Post

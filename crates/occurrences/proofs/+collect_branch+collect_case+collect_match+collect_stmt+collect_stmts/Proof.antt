@@ -5,9 +5,10 @@ use Rattle.ast.specs.Image.{nodes}
 use Rattle.ast.specs.Kinds.{inner, plain, kindOf}
 use Rattle.ast.proofs.Shapes.{case-last}
 use Rattle.rows.proofs.Appends.{appended-next}
+use Rattle.rows.proofs.Parts.{Left, left-start, left-next, left-end}
 use Rattle.occurrences.specs.Collect.{sought, rowsIn, rowsAt}
 use Rattle.occurrences.proofs.CollectRows.{bare, items-none}
-use Rattle.occurrences.proofs.CollectSteps.{appended-as, Left, left-start, left-next, left-end, under, one, plain-sub, stmtKinds, item, run-start, matchCase, matchOf, BlocksLeft, blocks-start, blocks-place, blockOf, blocks-end}
+use Rattle.occurrences.proofs.CollectSteps.{appended-as, under, one, plain-sub, stmtKinds, item, run-start, matchCase, matchOf, BlocksLeft, blocks-start, blocks-place, blockOf, blocks-end}
 use Prim.Native.Nat.{ℕ, _<_}
 use borrow.Fn.Kinds.{In}
 use borrow.Fn.PlainCycle.{Measures, is, falls, and}
@@ -135,87 +136,66 @@ collect-stmt-claims t = (field-reads.Asked, field-reads.Learnt, collect-if-atom-
 abbrev collect-stmts-claims : ℕ → collect-stmts-lts.Claims
 collect-stmts-claims t = (field-reads.Asked, field-reads.Learnt, collect-stmt-below t, collect-stmt.Post)
 
--- src/lib.rt:341:28
 collect-branch-field-requires : (t : ℕ) → collect-branch-lts.Need-field-requires (collect-branch-claims t) (collect-branch-at t) collect-branch.Post collect-branch-Inv-loop collect-branch-μ-loop
 collect-branch-field-requires t c κs = search needs
 
--- src/lib.rt:341:9
 collect-branch-wide-requires : (t : ℕ) → collect-branch-lts.Need-wide-requires (collect-branch-claims t) (collect-branch-at t) collect-branch.Post collect-branch-Inv-loop collect-branch-μ-loop
 collect-branch-wide-requires t c κs = search needs
 
--- src/lib.rt:345:5
 collect-branch-loop-holds : (t : ℕ) → collect-branch-lts.Need-loop-holds (collect-branch-claims t) (collect-branch-at t) collect-branch.Post collect-branch-Inv-loop collect-branch-μ-loop
 collect-branch-loop-holds t c = blocks-start _ _ (c .before .before .before .before .before .pre .1) (c .wide .ensures ∙ c .before .field .ensures)
 
--- src/lib.rt:346:30
 collect-branch-field-requires-2 : (t : ℕ) → collect-branch-lts.Need-field-requires-2 (collect-branch-claims t) (collect-branch-at t) collect-branch.Post collect-branch-Inv-loop collect-branch-μ-loop
 collect-branch-field-requires-2 t c κs = let l = blocks-place _ _ (c .before .loop .inv) in omega arith
 
--- src/lib.rt:346:13
 collect-branch-wide-requires-2 : (t : ℕ) → collect-branch-lts.Need-wide-requires-2 (collect-branch-claims t) (collect-branch-at t) collect-branch.Post collect-branch-Inv-loop collect-branch-μ-loop
 collect-branch-wide-requires-2 t c κs = search needs
 
--- src/lib.rt:347:71
 collect-branch-add-collect-stmts : (t : ℕ) → collect-branch-lts.Need-add-collect-stmts (collect-branch-claims t) (collect-branch-at t) collect-branch.Post collect-branch-Inv-loop collect-branch-μ-loop
 collect-branch-add-collect-stmts t c = let l = blocks-place _ _ (c .before .before .before .before .loop .inv) in omega arith
 
--- src/lib.rt:347:9
 collect-branch-collect-stmts-requires : (t : ℕ) → collect-branch-lts.Need-collect-stmts-requires (collect-branch-claims t) (collect-branch-at t) collect-branch.Post collect-branch-Inv-loop collect-branch-μ-loop
 collect-branch-collect-stmts-requires t c κs = (omega arith, (blockOf _ _ (c .before .before .before .before .before .before .before .before .before .before .pre .1) (c .before .before .before .before .loop .inv) (omega arith) (c .before .wide2 .ensures ∙ c .before .before .field2 .ensures)) .run)
 
--- src/lib.rt:348:13
 collect-branch-add-j : (t : ℕ) → collect-branch-lts.Need-add-j (collect-branch-claims t) (collect-branch-at t) collect-branch.Post collect-branch-Inv-loop collect-branch-μ-loop
 collect-branch-add-j t c = let l = (blockOf _ _ (c .before .before .before .before .before .before .before .before .before .before .before .before .before .pre .1) (c .before .before .before .before .before .before .before .loop .inv) (omega arith) (c .before .before .before .before .wide2 .ensures ∙ c .before .before .before .before .before .field2 .ensures)) .fits in omega arith
 
--- src/lib.rt:348:13
 collect-branch-add-j-2 : (t : ℕ) → collect-branch-lts.Need-add-j-2 (collect-branch-claims t) (collect-branch-at t) collect-branch.Post collect-branch-Inv-loop collect-branch-μ-loop
 collect-branch-add-j-2 t c = let l = (blockOf _ _ (c .before .before .before .before .before .before .before .before .before .before .before .before .before .pre .1) (c .before .before .before .before .before .before .before .loop .inv) (omega arith) (c .before .before .before .before .wide2 .ensures ∙ c .before .before .before .before .before .field2 .ensures)) .fits in omega arith
 
--- src/lib.rt:349:9
 collect-branch-add-i : (t : ℕ) → collect-branch-lts.Need-add-i (collect-branch-claims t) (collect-branch-at t) collect-branch.Post collect-branch-Inv-loop collect-branch-μ-loop
 collect-branch-add-i t c = search needs
 
--- src/lib.rt:345:5
 collect-branch-loop-less : (t : ℕ) → collect-branch-lts.Need-loop-less (collect-branch-claims t) (collect-branch-at t) collect-branch.Post collect-branch-Inv-loop collect-branch-μ-loop
 collect-branch-loop-less t c = search needs
 
--- src/lib.rt:345:5
 collect-branch-loop-again : (t : ℕ) → collect-branch-lts.Need-loop-again (collect-branch-claims t) (collect-branch-at t) collect-branch.Post collect-branch-Inv-loop collect-branch-μ-loop
 collect-branch-loop-again t c = (blockOf _ _ (c .before .before .before .before .before .before .before .before .before .before .before .before .before .pre .1) (c .before .before .before .before .before .before .before .loop .inv) (omega arith) (c .before .before .before .before .wide2 .ensures ∙ c .before .before .before .before .before .field2 .ensures)) .more (c .before .before .collect-stmts .ensures) (c .before .before .collect-stmts .kept .1 .1 .1 .0)
 
--- src/lib.rt:330:1
 collect-branch-same-length : (t : ℕ) → collect-branch-lts.Need-same-length (collect-branch-claims t) (collect-branch-at t) collect-branch.Post collect-branch-Inv-loop collect-branch-μ-loop
 collect-branch-same-length t c = c .before .loop .inv .left .long
 
--- src/lib.rt:330:1
 collect-branch-returns : (t : ℕ) → collect-branch-lts.Need-returns (collect-branch-claims t) (collect-branch-at t) collect-branch.Post collect-branch-Inv-loop collect-branch-μ-loop
 collect-branch-returns t c = blocks-end _ _ (c .before .loop .inv) (omega arith)
 
--- src/lib.rt:390:26
 collect-case-field-requires : (t : ℕ) → collect-case-lts.Need-field-requires (collect-case-claims t) (collect-case-at t) collect-case.Post
 collect-case-field-requires t c κs = search needs
 
--- src/lib.rt:391:26
 collect-case-field-requires-2 : (t : ℕ) → collect-case-lts.Need-field-requires-2 (collect-case-claims t) (collect-case-at t) collect-case.Post
 collect-case-field-requires-2 t c κs = search needs
 
--- src/lib.rt:391:9
 collect-case-wide-requires : (t : ℕ) → collect-case-lts.Need-wide-requires (collect-case-claims t) (collect-case-at t) collect-case.Post
 collect-case-wide-requires t c κs = search needs
 
--- src/lib.rt:392:9
 collect-case-collect-term-requires : (t : ℕ) → collect-case-lts.Need-collect-term-requires (collect-case-claims t) (collect-case-at t) collect-case.Post
 collect-case-collect-term-requires t c κs = (matchCase _ _ (c .before .before .before .before .before .before .before .pre .1) (c .before .before .before .field .ensures) (c .before .wide .ensures ∙ c .before .before .field2 .ensures)) .first
 
--- src/lib.rt:393:5
 collect-case-collect-stmts-requires : (t : ℕ) → collect-case-lts.Need-collect-stmts-requires (collect-case-claims t) (collect-case-at t) collect-case.Post
 collect-case-collect-stmts-requires t c κs = (omega arith, (matchCase _ _ (c .before .before .before .before .before .before .before .before .before .before .before .pre .1) (c .before .before .before .before .before .before .before .field .ensures) (c .before .before .before .before .before .wide .ensures ∙ c .before .before .before .before .before .before .field2 .ensures)) .second (c .before .before .before .collect-term .ensures .count))
 
--- src/lib.rt:379:1
 collect-case-same-length : (t : ℕ) → collect-case-lts.Need-same-length (collect-case-claims t) (collect-case-at t) collect-case.Post
 collect-case-same-length t c = search needs
 
--- src/lib.rt:379:1
 collect-case-returns : (t : ℕ) → collect-case-lts.Need-returns (collect-case-claims t) (collect-case-at t) collect-case.Post
 collect-case-returns t c = appended-as ((matchCase _ _ (c .before .before .before .before .before .before .before .before .before .before .before .before .before .before .pre .1) (c .before .before .before .before .before .before .before .before .before .before .field .ensures) (c .before .before .before .before .before .before .before .before .wide .ensures ∙ c .before .before .before .before .before .before .before .before .before .field2 .ensures)) .whole) (appended-next (c .before .before .before .before .before .before .collect-term .ensures) (c .before .before .collect-stmts .ensures))
 
@@ -225,129 +205,100 @@ collect-match-Inv-loop image table symbols rows₀ count id size after₀ i₀ r
 abbrev collect-match-μ-loop : collect-match-lts.MeasureT-loop
 collect-match-μ-loop image table symbols rows₀ count id size after₀ i₀ rows after i = size - i
 
--- src/lib.rt:366:23
 collect-match-field-requires : (t : ℕ) → collect-match-lts.Need-field-requires (collect-match-claims t) (collect-match-at t) collect-match.Post collect-match-Inv-loop collect-match-μ-loop
 collect-match-field-requires t c κs = search needs
 
--- src/lib.rt:367:26
 collect-match-field-requires-2 : (t : ℕ) → collect-match-lts.Need-field-requires-2 (collect-match-claims t) (collect-match-at t) collect-match.Post collect-match-Inv-loop collect-match-μ-loop
 collect-match-field-requires-2 t c κs = search needs
 
--- src/lib.rt:367:9
 collect-match-wide-requires : (t : ℕ) → collect-match-lts.Need-wide-requires (collect-match-claims t) (collect-match-at t) collect-match.Post collect-match-Inv-loop collect-match-μ-loop
 collect-match-wide-requires t c κs = search needs
 
--- src/lib.rt:368:9
 collect-match-collect-term-requires : (t : ℕ) → collect-match-lts.Need-collect-term-requires (collect-match-claims t) (collect-match-at t) collect-match.Post collect-match-Inv-loop collect-match-μ-loop
 collect-match-collect-term-requires t c κs = (matchOf _ _ (c .before .before .before .before .before .before .before .pre .1) (c .before .before .before .field .ensures) (c .before .wide .ensures ∙ c .before .before .field2 .ensures)) .first
 
--- src/lib.rt:370:5
 collect-match-loop-holds : (t : ℕ) → collect-match-lts.Need-loop-holds (collect-match-claims t) (collect-match-at t) collect-match.Post collect-match-Inv-loop collect-match-μ-loop
-collect-match-loop-holds t c = (omega arith, left-start (run-start _ _ _ _ _) (((matchOf _ _ (c .before .before .before .before .before .before .before .before .before .before .pre .1) (c .before .before .before .before .before .before .field .ensures) (c .before .before .before .before .wide .ensures ∙ c .before .before .before .before .before .field2 .ensures)) .second (c .before .before .collect-term .ensures .count)) .room .fits))
+collect-match-loop-holds t c = (omega arith, left-start _ _ (run-start _ _ _ _ _) (((matchOf _ _ (c .before .before .before .before .before .before .before .before .before .before .pre .1) (c .before .before .before .before .before .before .field .ensures) (c .before .before .before .before .wide .ensures ∙ c .before .before .before .before .before .field2 .ensures)) .second (c .before .before .collect-term .ensures .count)) .room .fits))
 
--- src/lib.rt:371:49
 collect-match-add-field : (t : ℕ) → collect-match-lts.Need-add-field (collect-match-claims t) (collect-match-at t) collect-match.Post collect-match-Inv-loop collect-match-μ-loop
 collect-match-add-field t c = let s = ((matchOf _ _ (c .before .before .before .before .before .before .before .before .before .before .before .before .pre .1) (c .before .before .before .before .before .before .before .before .field .ensures) (c .before .before .before .before .before .before .wide .ensures ∙ c .before .before .before .before .before .before .before .field2 .ensures)) .second (c .before .before .before .before .collect-term .ensures .count)) .short in omega arith
 
--- src/lib.rt:371:27
 collect-match-field-requires-3 : (t : ℕ) → collect-match-lts.Need-field-requires-3 (collect-match-claims t) (collect-match-at t) collect-match.Post collect-match-Inv-loop collect-match-μ-loop
 collect-match-field-requires-3 t c κs = let s = ((matchOf _ _ (c .before .before .before .before .before .before .before .before .before .before .before .before .pre .1) (c .before .before .before .before .before .before .before .before .field .ensures) (c .before .before .before .before .before .before .wide .ensures ∙ c .before .before .before .before .before .before .before .field2 .ensures)) .second (c .before .before .before .before .collect-term .ensures .count)) .short in omega arith
 
--- src/lib.rt:372:9
 collect-match-collect-case-requires : (t : ℕ) → collect-match-lts.Need-collect-case-requires (collect-match-claims t) (collect-match-at t) collect-match.Post collect-match-Inv-loop collect-match-μ-loop
 unfolding kindOf bare
 collect-match-collect-case-requires t c κs = let o = item _ _ refl ((matchOf _ _ (c .before .before .before .before .before .before .before .before .before .before .before .before .before .before .pre .1) (c .before .before .before .before .before .before .before .before .before .before .field .ensures) (c .before .before .before .before .before .before .before .before .wide .ensures ∙ c .before .before .before .before .before .before .before .before .before .field2 .ensures)) .second (c .before .before .before .before .before .before .collect-term .ensures .count)) (omega arith) (c .before .field3 .ensures) (c .before .before .before .loop .inv .1) in (let l = o .low in omega arith, o .ready)
 
--- src/lib.rt:373:9
 collect-match-add-i : (t : ℕ) → collect-match-lts.Need-add-i (collect-match-claims t) (collect-match-at t) collect-match.Post collect-match-Inv-loop collect-match-μ-loop
 collect-match-add-i t c = search needs
 
--- src/lib.rt:370:5
 collect-match-loop-less : (t : ℕ) → collect-match-lts.Need-loop-less (collect-match-claims t) (collect-match-at t) collect-match.Post collect-match-Inv-loop collect-match-μ-loop
 collect-match-loop-less t c = search needs
 
--- src/lib.rt:370:5
 collect-match-loop-again : (t : ℕ) → collect-match-lts.Need-loop-again (collect-match-claims t) (collect-match-at t) collect-match.Post collect-match-Inv-loop collect-match-μ-loop
 unfolding kindOf bare
 collect-match-loop-again t c = (omega arith, left-next (c .before .before .before .before .before .before .loop .inv .1) ((item _ _ refl ((matchOf _ _ (c .before .before .before .before .before .before .before .before .before .before .before .before .before .before .before .before .before .pre .1) (c .before .before .before .before .before .before .before .before .before .before .before .before .before .field .ensures) (c .before .before .before .before .before .before .before .before .before .before .before .wide .ensures ∙ c .before .before .before .before .before .before .before .before .before .before .before .before .field2 .ensures)) .second (c .before .before .before .before .before .before .before .before .before .collect-term .ensures .count)) (omega arith) (c .before .before .before .before .field3 .ensures) (c .before .before .before .before .before .before .loop .inv .1)) .more) (c .before .before .collect-case .ensures) (c .before .before .collect-case .kept .1 .1 .1 .0))
 
--- src/lib.rt:355:1
 collect-match-same-length : (t : ℕ) → collect-match-lts.Need-same-length (collect-match-claims t) (collect-match-at t) collect-match.Post collect-match-Inv-loop collect-match-μ-loop
 collect-match-same-length t c = c .before .loop .inv .1 .long ∙ c .before .before .before .before .collect-term .kept .1 .1 .1 .0
 
--- src/lib.rt:355:1
 collect-match-returns : (t : ℕ) → collect-match-lts.Need-returns (collect-match-claims t) (collect-match-at t) collect-match.Post collect-match-Inv-loop collect-match-μ-loop
 collect-match-returns t c = appended-as ((matchOf _ _ (c .before .before .before .before .before .before .before .before .before .before .before .before .pre .1) (c .before .before .before .before .before .before .before .before .field .ensures) (c .before .before .before .before .before .before .wide .ensures ∙ c .before .before .before .before .before .before .before .field2 .ensures)) .whole) (appended-next (c .before .before .before .before .collect-term .ensures) (left-end (c .before .loop .inv .1) (items-none _ _ _ 2 _ (c .before .loop .i) (omega arith))))
 
--- src/lib.rt:313:9
 collect-stmt-field-requires : (t : ℕ) → collect-stmt-lts.Need-field-requires (collect-stmt-claims t) (collect-stmt-at t) collect-stmt.Post
 collect-stmt-field-requires t c κs = search needs
 
--- src/lib.rt:314:21
 collect-stmt-field-requires-2 : (t : ℕ) → collect-stmt-lts.Need-field-requires-2 (collect-stmt-claims t) (collect-stmt-at t) collect-stmt.Post
 collect-stmt-field-requires-2 t c κs = search needs
 
--- src/lib.rt:317:31
 collect-stmt-field-requires-3 : (t : ℕ) → collect-stmt-lts.Need-field-requires-3 (collect-stmt-claims t) (collect-stmt-at t) collect-stmt.Post
 collect-stmt-field-requires-3 t c κs = search needs
 
--- src/lib.rt:318:13
 collect-stmt-collect-if-atom-requires : (t : ℕ) → collect-stmt-lts.Need-collect-if-atom-requires (collect-stmt-claims t) (collect-stmt-at t) collect-stmt.Post
 unfolding kindOf bare
 collect-stmt-collect-if-atom-requires t c κs = (let s = plain-sub _ _ stmtKinds (c .before .before .before .before .before .before .before .before .pre .1) 0 (sym (c .before .before .match .keys1) ∙ c .before .before .before .before .field .ensures) (c .before .before .before .field2 .ensures) refl refl in under _ _ s (one _ _ refl (s .ready) (c .before .field3 .ensures))) .ready
 
--- src/lib.rt:321:31
 collect-stmt-field-requires-4 : (t : ℕ) → collect-stmt-lts.Need-field-requires-4 (collect-stmt-claims t) (collect-stmt-at t) collect-stmt.Post
 collect-stmt-field-requires-4 t c κs = search needs
 
--- src/lib.rt:322:13
 collect-stmt-collect-then-atom-requires :
     (t : ℕ) → collect-stmt-lts.Need-collect-then-atom-requires (collect-stmt-claims t) (collect-stmt-at t) collect-stmt.Post
 unfolding kindOf bare
 collect-stmt-collect-then-atom-requires t c κs = (let s = plain-sub _ _ stmtKinds (c .before .before .before .before .before .before .before .before .pre .1) 1 (sym (c .before .before .match .keys2) ∙ c .before .before .before .before .field .ensures) (c .before .before .before .field2 .ensures) refl refl in under _ _ s (one _ _ refl (s .ready) (c .before .field4 .ensures))) .ready
 
--- src/lib.rt:324:14
 collect-stmt-collect-branch-requires : (t : ℕ) → collect-stmt-lts.Need-collect-branch-requires (collect-stmt-claims t) (collect-stmt-at t) collect-stmt.Post
 unfolding kindOf bare
 collect-stmt-collect-branch-requires t c κs = let o = plain-sub _ _ stmtKinds (c .before .before .before .before .before .before .before .pre .1) 2 (sym (c .before .match .keys3) ∙ c .before .before .before .field .ensures) (c .before .before .field2 .ensures) refl refl in (let l = o .low in omega arith, o .ready)
 
--- src/lib.rt:325:14
 collect-stmt-collect-match-requires : (t : ℕ) → collect-stmt-lts.Need-collect-match-requires (collect-stmt-claims t) (collect-stmt-at t) collect-stmt.Post
 unfolding kindOf bare
 collect-stmt-collect-match-requires t c κs = let o = plain-sub _ _ stmtKinds (c .before .before .before .before .before .before .before .pre .1) 3 (let l = case-last _ (inner plain) stmtKinds (c .before .before .before .before .before .before .before .pre .1 .is) in let e = c .before .before .before .field .ensures in omega arith) (c .before .before .field2 .ensures) refl refl in (let l = o .low in omega arith, o .ready)
 
--- src/lib.rt:302:1
 collect-stmt-same-length : (t : ℕ) → collect-stmt-lts.Need-same-length (collect-stmt-claims t) (collect-stmt-at t) collect-stmt.Post
 collect-stmt-same-length t c = search needs
 
--- src/lib.rt:302:1
 collect-stmt-returns : (t : ℕ) → collect-stmt-lts.Need-returns (collect-stmt-claims t) (collect-stmt-at t) collect-stmt.Post
 unfolding kindOf bare
 collect-stmt-returns t c = appended-as ((let s = plain-sub _ _ stmtKinds (c .before .before .before .before .before .before .before .before .before .before .before .pre .1) 0 (sym (c .before .before .before .before .before .match .keys1) ∙ c .before .before .before .before .before .before .before .field .ensures) (c .before .before .before .before .before .before .field2 .ensures) refl refl in under _ _ s (one _ _ refl (s .ready) (c .before .before .before .before .field3 .ensures))) .whole) (c .before .before .collect-if-atom .ensures)
 
--- src/lib.rt:302:1
 collect-stmt-same-length-2 : (t : ℕ) → collect-stmt-lts.Need-same-length-2 (collect-stmt-claims t) (collect-stmt-at t) collect-stmt.Post
 collect-stmt-same-length-2 t c = search needs
 
--- src/lib.rt:302:1
 collect-stmt-returns-2 : (t : ℕ) → collect-stmt-lts.Need-returns-2 (collect-stmt-claims t) (collect-stmt-at t) collect-stmt.Post
 unfolding kindOf bare
 collect-stmt-returns-2 t c = appended-as ((let s = plain-sub _ _ stmtKinds (c .before .before .before .before .before .before .before .before .before .before .before .pre .1) 1 (sym (c .before .before .before .before .before .match .keys2) ∙ c .before .before .before .before .before .before .before .field .ensures) (c .before .before .before .before .before .before .field2 .ensures) refl refl in under _ _ s (one _ _ refl (s .ready) (c .before .before .before .before .field4 .ensures))) .whole) (c .before .before .collect-then-atom .ensures)
 
--- src/lib.rt:302:1
 collect-stmt-same-length-3 : (t : ℕ) → collect-stmt-lts.Need-same-length-3 (collect-stmt-claims t) (collect-stmt-at t) collect-stmt.Post
 collect-stmt-same-length-3 t c = search needs
 
--- src/lib.rt:302:1
 collect-stmt-returns-3 : (t : ℕ) → collect-stmt-lts.Need-returns-3 (collect-stmt-claims t) (collect-stmt-at t) collect-stmt.Post
 unfolding kindOf bare
 collect-stmt-returns-3 t c = appended-as ((plain-sub _ _ stmtKinds (c .before .before .before .before .before .before .before .before .before .before .pre .1) 2 (sym (c .before .before .before .before .match .keys3) ∙ c .before .before .before .before .before .before .field .ensures) (c .before .before .before .before .before .field2 .ensures) refl refl) .whole) (c .before .before .collect-branch .ensures)
 
--- src/lib.rt:302:1
 collect-stmt-same-length-4 : (t : ℕ) → collect-stmt-lts.Need-same-length-4 (collect-stmt-claims t) (collect-stmt-at t) collect-stmt.Post
 collect-stmt-same-length-4 t c = search needs
 
--- src/lib.rt:302:1
 collect-stmt-returns-4 : (t : ℕ) → collect-stmt-lts.Need-returns-4 (collect-stmt-claims t) (collect-stmt-at t) collect-stmt.Post
 unfolding kindOf bare
 collect-stmt-returns-4 t c = appended-as ((plain-sub _ _ stmtKinds (c .before .before .before .before .before .before .before .before .before .before .pre .1) 3 (let l = case-last _ (inner plain) stmtKinds (c .before .before .before .before .before .before .before .before .before .before .pre .1 .is) in let e = c .before .before .before .before .before .before .field .ensures in omega arith) (c .before .before .before .before .before .field2 .ensures) refl refl) .whole) (c .before .before .collect-match .ensures)
@@ -358,41 +309,32 @@ collect-stmts-Inv-loop image table symbols rows₀ count node first size i₀ af
 abbrev collect-stmts-μ-loop : collect-stmts-lts.MeasureT-loop
 collect-stmts-μ-loop image table symbols rows₀ count node first size i₀ after₀ rows i after = size - i
 
--- src/lib.rt:294:5
 collect-stmts-loop-holds : (t : ℕ) → collect-stmts-lts.Need-loop-holds (collect-stmts-claims t) (collect-stmts-at t) collect-stmts.Post collect-stmts-Inv-loop collect-stmts-μ-loop
-collect-stmts-loop-holds t c = (omega arith, left-start (run-start _ _ _ _ _) (c .before .before .before .pre .1 .room .fits))
+collect-stmts-loop-holds t c = (omega arith, left-start _ _ (run-start _ _ _ _ _) (c .before .before .before .pre .1 .room .fits))
 
--- src/lib.rt:295:51
 collect-stmts-add-field : (t : ℕ) → collect-stmts-lts.Need-add-field (collect-stmts-claims t) (collect-stmts-at t) collect-stmts.Post collect-stmts-Inv-loop collect-stmts-μ-loop
 collect-stmts-add-field t c = let s = c .before .before .before .before .before .pre .1 .short in omega arith
 
--- src/lib.rt:295:27
 collect-stmts-field-requires : (t : ℕ) → collect-stmts-lts.Need-field-requires (collect-stmts-claims t) (collect-stmts-at t) collect-stmts.Post collect-stmts-Inv-loop collect-stmts-μ-loop
 collect-stmts-field-requires t c κs = let s = c .before .before .before .before .before .pre .1 .short in omega arith
 
--- src/lib.rt:296:9
 collect-stmts-collect-stmt-requires : (t : ℕ) → collect-stmts-lts.Need-collect-stmt-requires (collect-stmts-claims t) (collect-stmts-at t) collect-stmts.Post collect-stmts-Inv-loop collect-stmts-μ-loop
 unfolding kindOf bare
 collect-stmts-collect-stmt-requires t c κs = let o = item _ _ refl (c .before .before .before .before .before .before .before .pre .1) (omega arith) (c .before .field .ensures) (c .before .before .before .loop .inv .1) in (let l = o .low in omega arith, o .ready)
 
--- src/lib.rt:297:9
 collect-stmts-add-i : (t : ℕ) → collect-stmts-lts.Need-add-i (collect-stmts-claims t) (collect-stmts-at t) collect-stmts.Post collect-stmts-Inv-loop collect-stmts-μ-loop
 collect-stmts-add-i t c = search needs
 
--- src/lib.rt:294:5
 collect-stmts-loop-less : (t : ℕ) → collect-stmts-lts.Need-loop-less (collect-stmts-claims t) (collect-stmts-at t) collect-stmts.Post collect-stmts-Inv-loop collect-stmts-μ-loop
 collect-stmts-loop-less t c = search needs
 
--- src/lib.rt:294:5
 collect-stmts-loop-again : (t : ℕ) → collect-stmts-lts.Need-loop-again (collect-stmts-claims t) (collect-stmts-at t) collect-stmts.Post collect-stmts-Inv-loop collect-stmts-μ-loop
 unfolding kindOf bare
 collect-stmts-loop-again t c = (omega arith, left-next (c .before .before .before .before .before .before .loop .inv .1) ((item _ _ refl (c .before .before .before .before .before .before .before .before .before .before .pre .1) (omega arith) (c .before .before .before .before .field .ensures) (c .before .before .before .before .before .before .loop .inv .1)) .more) (c .before .before .collect-stmt .ensures) (c .before .before .collect-stmt .kept .1 .1 .1 .0))
 
--- src/lib.rt:279:1
 collect-stmts-same-length : (t : ℕ) → collect-stmts-lts.Need-same-length (collect-stmts-claims t) (collect-stmts-at t) collect-stmts.Post collect-stmts-Inv-loop collect-stmts-μ-loop
 collect-stmts-same-length t c = c .before .loop .inv .1 .long
 
--- src/lib.rt:279:1
 collect-stmts-returns : (t : ℕ) → collect-stmts-lts.Need-returns (collect-stmts-claims t) (collect-stmts-at t) collect-stmts.Post collect-stmts-Inv-loop collect-stmts-μ-loop
 collect-stmts-returns t c = left-end (c .before .loop .inv .1) (items-none _ _ _ _ _ (c .before .loop .i) (omega arith))
 

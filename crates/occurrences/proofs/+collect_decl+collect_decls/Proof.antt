@@ -2,9 +2,10 @@ use mathlib.Core.Path.{_≡_, refl, sym, ap, subst, _∙_}
 use native.Mathlib.Omega.{arith}
 use Prim.Native.Nat.{ℕ, _+_, _*_, _-_, _≤_}
 use Rattle.ast.specs.Image.{nodes}
+use Rattle.rows.proofs.Parts.{Left, appended-no}
 use Rattle.occurrences.specs.Collect.{sought, joined, listsAt}
 use Rattle.occurrences.proofs.CollectRules.{declared, decl-none, modelRun, decls-start, decls-item, decls-next, decls-end}
-use Rattle.occurrences.proofs.CollectSteps.{Left, appended-as, appended-nothing}
+use Rattle.occurrences.proofs.CollectSteps.{appended-as}
 use Prim.Native.Nat.{_<_}
 use borrow.Fn.Kinds.{In}
 use borrow.Fn.PlainCycle.{Measures, is, falls, and}
@@ -57,50 +58,39 @@ collect-decl-claims t = (field-reads.Asked, field-reads.Learnt, collect-rule-rea
 abbrev collect-decls-claims : ℕ → collect-decls-lts.Claims
 collect-decls-claims t = (field-reads.Asked, field-reads.Learnt, collect-decl-below t, collect-decl.Post)
 
--- src/lib.rt:423:9
 collect-decl-field-requires : (t : ℕ) → collect-decl-lts.Need-field-requires (collect-decl-claims t) (collect-decl-at t) collect-decl.Post
 collect-decl-field-requires t c κs = search needs
 
--- src/lib.rt:424:21
 collect-decl-field-requires-2 : (t : ℕ) → collect-decl-lts.Need-field-requires-2 (collect-decl-claims t) (collect-decl-at t) collect-decl.Post
 collect-decl-field-requires-2 t c κs = search needs
 
--- src/lib.rt:426:14
 collect-decl-collect-rule-requires : (t : ℕ) → collect-decl-lts.Need-collect-rule-requires (collect-decl-claims t) (collect-decl-at t) collect-decl.Post
 collect-decl-collect-rule-requires t c κs = (declared _ _ (c .before .before .before .before .before .before .before .pre .1) 4 (sym (c .before .match .keys1) ∙ c .before .before .before .field .ensures) (c .before .before .field2 .ensures) refl) .listing
 
--- src/lib.rt:428:34
 collect-decl-field-requires-3 : (t : ℕ) → collect-decl-lts.Need-field-requires-3 (collect-decl-claims t) (collect-decl-at t) collect-decl.Post
 collect-decl-field-requires-3 t c κs = search needs
 
--- src/lib.rt:428:17
 collect-decl-wide-requires : (t : ℕ) → collect-decl-lts.Need-wide-requires (collect-decl-claims t) (collect-decl-at t) collect-decl.Post
 collect-decl-wide-requires t c κs = search needs
 
--- src/lib.rt:429:13
 collect-decl-collect-decls-requires : (t : ℕ) → collect-decl-lts.Need-collect-decls-requires (collect-decl-claims t) (collect-decl-at t) collect-decl.Post
 collect-decl-collect-decls-requires t c κs = let o = declared _ _ (c .before .before .before .before .before .before .before .before .before .pre .1) 6 (sym (c .before .before .before .match .keys2) ∙ c .before .before .before .before .before .field .ensures) (c .before .before .before .before .field2 .ensures) refl in (let l = o .low in omega arith, (modelRun _ _ ((declared _ _ (c .before .before .before .before .before .before .before .before .before .pre .1) 6 (sym (c .before .before .before .match .keys2) ∙ c .before .before .before .before .before .field .ensures) (c .before .before .before .before .field2 .ensures) refl) .listing) (c .before .wide .ensures ∙ c .before .before .field3 .ensures)) .run)
 
--- src/lib.rt:412:1
 collect-decl-same-length : (t : ℕ) → collect-decl-lts.Need-same-length (collect-decl-claims t) (collect-decl-at t) collect-decl.Post
 collect-decl-same-length t c = search needs
 
--- src/lib.rt:412:1
 collect-decl-returns : (t : ℕ) → collect-decl-lts.Need-returns (collect-decl-claims t) (collect-decl-at t) collect-decl.Post
 collect-decl-returns t c = appended-as (ap joined ((declared _ _ (c .before .before .before .before .before .before .before .before .before .before .pre .1) 4 (sym (c .before .before .before .before .match .keys1) ∙ c .before .before .before .before .before .before .field .ensures) (c .before .before .before .before .before .field2 .ensures) refl) .whole)) (c .before .before .collect-rule .ensures)
 
--- src/lib.rt:412:1
 collect-decl-same-length-2 : (t : ℕ) → collect-decl-lts.Need-same-length-2 (collect-decl-claims t) (collect-decl-at t) collect-decl.Post
 collect-decl-same-length-2 t c = search needs
 
--- src/lib.rt:412:1
 collect-decl-returns-2 : (t : ℕ) → collect-decl-lts.Need-returns-2 (collect-decl-claims t) (collect-decl-at t) collect-decl.Post
 collect-decl-returns-2 t c = appended-as (ap joined ((declared _ _ (c .before .before .before .before .before .before .before .before .before .before .before .before .pre .1) 6 (sym (c .before .before .before .before .before .before .match .keys2) ∙ c .before .before .before .before .before .before .before .before .field .ensures) (c .before .before .before .before .before .before .before .field2 .ensures) refl) .whole ∙ (modelRun _ _ ((declared _ _ (c .before .before .before .before .before .before .before .before .before .before .before .before .pre .1) 6 (sym (c .before .before .before .before .before .before .match .keys2) ∙ c .before .before .before .before .before .before .before .before .field .ensures) (c .before .before .before .before .before .before .before .field2 .ensures) refl) .listing) (c .before .before .before .before .wide .ensures ∙ c .before .before .before .before .before .field3 .ensures)) .whole)) (c .before .before .collect-decls .ensures)
 
--- src/lib.rt:412:1
 collect-decl-returns-3 : (t : ℕ) → collect-decl-lts.Need-returns-3 (collect-decl-claims t) (collect-decl-at t) collect-decl.Post
 unfolding joined
-collect-decl-returns-3 t c = appended-nothing (ap joined (decl-none _ _ (c .before .before .before .before .before .before .pre .1) (λ q. let e = c .before .before .field .ensures in omega arith) (λ q. let e = c .before .before .field .ensures in omega arith)))
+collect-decl-returns-3 t c = appended-no _ _ (ap joined (decl-none _ _ (c .before .before .before .before .before .before .pre .1) (λ q. let e = c .before .before .field .ensures in omega arith) (λ q. let e = c .before .before .field .ensures in omega arith)))
 
 abbrev collect-decls-Inv-loop : collect-decls-lts.InvT-loop
 collect-decls-Inv-loop image table symbols rows₀ count node first size i₀ after₀ rows i after = (i ≤ size) × Left (nodes image) (joined (listsAt image (sought table symbols) (node .0) size first)) (joined (listsAt image (sought table symbols) (node .0) (size - i) (first + i))) count rows₀ after rows
@@ -108,39 +98,30 @@ collect-decls-Inv-loop image table symbols rows₀ count node first size i₀ af
 abbrev collect-decls-μ-loop : collect-decls-lts.MeasureT-loop
 collect-decls-μ-loop image table symbols rows₀ count node first size i₀ after₀ rows i after = size - i
 
--- src/lib.rt:451:5
 collect-decls-loop-holds : (t : ℕ) → collect-decls-lts.Need-loop-holds (collect-decls-claims t) (collect-decls-at t) collect-decls.Post collect-decls-Inv-loop collect-decls-μ-loop
 collect-decls-loop-holds t c = (omega arith, decls-start _ _ (c .before .before .before .pre .1))
 
--- src/lib.rt:452:51
 collect-decls-add-field : (t : ℕ) → collect-decls-lts.Need-add-field (collect-decls-claims t) (collect-decls-at t) collect-decls.Post collect-decls-Inv-loop collect-decls-μ-loop
 collect-decls-add-field t c = let s = c .before .before .before .before .before .pre .1 .short in omega arith
 
--- src/lib.rt:452:27
 collect-decls-field-requires : (t : ℕ) → collect-decls-lts.Need-field-requires (collect-decls-claims t) (collect-decls-at t) collect-decls.Post collect-decls-Inv-loop collect-decls-μ-loop
 collect-decls-field-requires t c κs = let s = c .before .before .before .before .before .pre .1 .short in omega arith
 
--- src/lib.rt:453:9
 collect-decls-collect-decl-requires : (t : ℕ) → collect-decls-lts.Need-collect-decl-requires (collect-decls-claims t) (collect-decls-at t) collect-decls.Post collect-decls-Inv-loop collect-decls-μ-loop
 collect-decls-collect-decl-requires t c κs = let o = decls-item _ _ (c .before .before .before .before .before .before .before .pre .1) (omega arith) (c .before .field .ensures) (c .before .before .before .loop .inv .1) in (let l = o .low in omega arith, o .listing)
 
--- src/lib.rt:454:9
 collect-decls-add-i : (t : ℕ) → collect-decls-lts.Need-add-i (collect-decls-claims t) (collect-decls-at t) collect-decls.Post collect-decls-Inv-loop collect-decls-μ-loop
 collect-decls-add-i t c = search needs
 
--- src/lib.rt:451:5
 collect-decls-loop-less : (t : ℕ) → collect-decls-lts.Need-loop-less (collect-decls-claims t) (collect-decls-at t) collect-decls.Post collect-decls-Inv-loop collect-decls-μ-loop
 collect-decls-loop-less t c = search needs
 
--- src/lib.rt:451:5
 collect-decls-loop-again : (t : ℕ) → collect-decls-lts.Need-loop-again (collect-decls-claims t) (collect-decls-at t) collect-decls.Post collect-decls-Inv-loop collect-decls-μ-loop
 collect-decls-loop-again t c = (omega arith, decls-next _ _ (c .before .before .before .before .before .before .loop .inv .1) (decls-item _ _ (c .before .before .before .before .before .before .before .before .before .before .pre .1) (omega arith) (c .before .before .before .before .field .ensures) (c .before .before .before .before .before .before .loop .inv .1)) (c .before .before .collect-decl .ensures) (c .before .before .collect-decl .kept .1 .1 .1 .0))
 
--- src/lib.rt:436:1
 collect-decls-same-length : (t : ℕ) → collect-decls-lts.Need-same-length (collect-decls-claims t) (collect-decls-at t) collect-decls.Post collect-decls-Inv-loop collect-decls-μ-loop
 collect-decls-same-length t c = c .before .loop .inv .1 .long
 
--- src/lib.rt:436:1
 collect-decls-returns : (t : ℕ) → collect-decls-lts.Need-returns (collect-decls-claims t) (collect-decls-at t) collect-decls.Post collect-decls-Inv-loop collect-decls-μ-loop
 collect-decls-returns t c = decls-end _ _ _ _ (c .before .loop .inv .1) (omega arith)
 

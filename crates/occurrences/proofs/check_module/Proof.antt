@@ -1,6 +1,6 @@
-use mathlib.Core.Path.{_≡_, refl, sym, ap, subst, _∙_}
+use mathlib.Core.Path.{refl, sym, ap, _∙_}
 use native.Mathlib.Omega.{arith}
-use Prim.Native.Nat.{ℕ, _+_, _*_, _-_, _≤_}
+use Prim.Native.Nat.{ℕ, _-_}
 use lib.ListN.{length-replicate}
 use Rattle.ast.specs.Image.{last}
 use Rattle.ast.proofs.Accepted.{sized}
@@ -9,43 +9,29 @@ use Rattle.occurrences.proofs.CollectRules.{moduleRun}
 use borrow.Author.Needs.{needs}
 use Rattle.occurrences.proofs.check_module.Statement.{statement}
 use Rattle.occurrences.proofs.check_module.Tie as tie
-use Rattle.occurrences.proofs.check_module.Reads as reads
-use Rattle.occurrences.proofs.check_module.Lts as lts
-use Rattle.ast.proofs.field.Reads as field-reads
-use Rattle.ast.proofs.node_count.Reads as node-count-reads
-use Rattle.ast.proofs.wide.Reads as wide-reads
-use Rattle.occurrences.proofs.check_decls.Reads as check-decls-reads
 
--- src/lib.rt:603:23
 node-count-requires : tie.Need-node-count-requires
 node-count-requires c κs = search needs
 
--- src/lib.rt:603:23
 sub-t9 : tie.Need-sub-t9
 sub-t9 c = let s = (sized _ (c .before .before .before .pre .0 .accepted)) .some in let e = c .node-count .ensures in omega arith
 
--- src/lib.rt:604:26
 field-requires : tie.Need-field-requires
 field-requires c κs = search needs
 
--- src/lib.rt:604:9
 wide-requires : tie.Need-wide-requires
 wide-requires c κs = search needs
 
--- src/lib.rt:607:40
 slice-aggregate-check-decls : tie.Need-slice-aggregate-check-decls
 slice-aggregate-check-decls c = search needs
 
--- src/lib.rt:607:51
 slice-aggregate-check-decls-2 : tie.Need-slice-aggregate-check-decls-2
 slice-aggregate-check-decls-2 c = search needs
 
--- src/lib.rt:607:5
 check-decls-requires : tie.Need-check-decls-requires
 unfolding last
 check-decls-requires c κs = ((moduleRun _ _ (c .before .before .before .before .before .before .before .pre .0) (ap (λ (x : ℕ). x - 1) (c .before .before .before .before .node-count .ensures)) (c .before .before .wide .ensures ∙ c .before .before .before .field .ensures)) .run, record { symbols = c .before .before .before .before .before .before .before .pre .1; long = (let s = (sized _ (c .before .before .before .before .before .before .before .pre .0 .accepted)) .fewNodes in let e = length-replicate {A = ℕ} 4097 0 in omega arith); zeros = refl })
 
--- src/lib.rt:599:1
 returns : tie.Need-returns
 unfolding last
 returns c = c .before .before .check-decls .ensures .lone-is ∙ sym (ap lone ((moduleRun _ _ (c .before .before .before .before .before .before .before .before .before .before .pre .0) (ap (λ (x : ℕ). x - 1) (c .before .before .before .before .before .before .before .node-count .ensures)) (c .before .before .before .before .before .wide .ensures ∙ c .before .before .before .before .before .before .field .ensures)) .by-rule))

@@ -1,4 +1,4 @@
-use mathlib.Core.Path.{_≡_, refl, sym, ap, subst, _∙_}
+use mathlib.Core.Path.{sym, ap, _∙_}
 use Rattle.scopes.specs.Answers.{resolvedAnswer}
 use Rattle.occurrences.specs.Occurrences.{onceAnswer}
 use Rattle.occurrences.specs.Collect.{loneOf}
@@ -6,82 +6,59 @@ use Rattle.occurrences.proofs.CollectCalls.{given, clashed, no-refusal,
 use borrow.Author.Needs.{needs}
 use Rattle.occurrences.proofs.check_occurrences.Statement.{statement}
 use Rattle.occurrences.proofs.check_occurrences.Tie as tie
-use Rattle.occurrences.proofs.check_occurrences.Reads as reads
-use Rattle.occurrences.proofs.check_occurrences.Lts as lts
-use Rattle.occurrences.proofs.check_module.Reads as check-module-reads
-use Rattle.scopes.proofs.resolve_into.Reads as resolve-into-reads
-use Rattle.scopes.proofs.test_table.Reads as test-table-reads
 
--- src/lib.rt:675:9
 test-table-requires : tie.Need-test-table-requires
 test-table-requires c κs = search needs
 
--- src/lib.rt:677:9
 same-length : tie.Need-same-length
 same-length c = search needs
 
--- src/lib.rt:677:9
 returns : tie.Need-returns
 returns c = once-refused _ _ _ (c .before .test-table .ensures) (c .if1 .taken)
 
--- src/lib.rt:679:11
 resolve-into-requires : tie.Need-resolve-into-requires
 resolve-into-requires c κs = search needs
 
--- src/lib.rt:680:27
 enum-known-number : tie.Need-enum-known-number
 enum-known-number c = search needs
 
--- src/lib.rt:681:25
 enum-known-name : tie.Need-enum-known-name
 enum-known-name c = search needs
 
--- src/lib.rt:682:29
 enum-known-symbols : tie.Need-enum-known-symbols
 enum-known-symbols c = search needs
 
--- src/lib.rt:682:47
 check-module-requires : tie.Need-check-module-requires
 check-module-requires c κs = let g = given _ _ (sym (ap resolvedAnswer (c .before .before .symbols .given .1)) ∙ c .before .before .before .before .before .before .resolve-into .ensures .0) (c .before .before .before .before .before .before .resolve-into .ensures .1) in (g .whole, g .symbols)
 
--- src/lib.rt:683:28
 enum-told : tie.Need-enum-told
 enum-told c = search needs
 
--- src/lib.rt:684:27
 enum-known-node : tie.Need-enum-known-node
 enum-known-node c = search needs
 
--- src/lib.rt:672:1
 same-length-2 : tie.Need-same-length-2
 same-length-2 c = search needs
 
--- src/lib.rt:672:1
 returns-2 : tie.Need-returns-2
 returns-2 c = absurd (no-refusal _ _ (sym (c .before .before .before .before .before .before .before .before .test-table .ensures) ∙ c .before .before .before .before .before .before .before .if1 .left) (sym (ap resolvedAnswer (c .before .number .given .1)) ∙ c .before .before .before .before .before .resolve-into .ensures .0))
 
--- src/lib.rt:672:1
 same-length-3 : tie.Need-same-length-3
 same-length-3 c = search needs
 
--- src/lib.rt:672:1
 returns-3 : tie.Need-returns-3
 returns-3 c = once-twice _ _ (sym (c .before .before .before .before .before .before .before .before .test-table .ensures) ∙ c .before .before .before .before .before .before .before .if1 .left) (clashed _ _ (sym (ap resolvedAnswer (c .before .name .given .1)) ∙ c .before .before .before .before .before .resolve-into .ensures .0) (c .before .before .before .before .before .resolve-into .ensures .1))
 
--- src/lib.rt:672:1
 same-length-4 : tie.Need-same-length-4
 same-length-4 c = search needs
 
--- src/lib.rt:672:1
 returns-4 : tie.Need-returns-4
 unfolding onceAnswer
 returns-4 c = once-checked _ _ (sym (c .before .before .before .before .before .before .before .before .before .before .before .before .test-table .ensures) ∙ c .before .before .before .before .before .before .before .before .before .before .before .if1 .left) (given _ _ (sym (ap resolvedAnswer (c .before .before .before .before .before .symbols .given .1)) ∙ c .before .before .before .before .before .before .before .before .before .resolve-into .ensures .0) (c .before .before .before .before .before .before .before .before .before .resolve-into .ensures .1)) (sym (ap loneOf (c .enum-told .given .1)) ∙ c .before .before .check-module .ensures)
 
--- src/lib.rt:672:1
 same-length-5 : tie.Need-same-length-5
 same-length-5 c = search needs
 
--- src/lib.rt:672:1
 returns-5 : tie.Need-returns-5
 unfolding onceAnswer
 returns-5 c = once-checked _ _ (sym (c .before .before .before .before .before .before .before .before .before .before .before .before .before .test-table .ensures) ∙ c .before .before .before .before .before .before .before .before .before .before .before .before .if1 .left) (given _ _ (sym (ap resolvedAnswer (c .before .before .before .before .before .before .symbols .given .1)) ∙ c .before .before .before .before .before .before .before .before .before .before .resolve-into .ensures .0) (c .before .before .before .before .before .before .before .before .before .before .resolve-into .ensures .1)) (sym (ap loneOf (c .before .node .given .1)) ∙ c .before .before .before .check-module .ensures)

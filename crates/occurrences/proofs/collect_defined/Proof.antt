@@ -1,4 +1,4 @@
-use mathlib.Core.Path.{_≡_, refl, sym, ap, subst, _∙_}
+use mathlib.Core.Path.{sym, _∙_}
 use native.Mathlib.Omega.{arith}
 use Prim.Native.Nat.{_-_}
 use Rattle.rows.proofs.Appends.{appended-next}
@@ -6,48 +6,34 @@ use Rattle.occurrences.proofs.CollectSteps.{appended-as, undefined, def
 use borrow.Author.Needs.{needs}
 use Rattle.occurrences.proofs.collect_defined.Statement.{statement}
 use Rattle.occurrences.proofs.collect_defined.Tie as tie
-use Rattle.occurrences.proofs.collect_defined.Reads as reads
-use Rattle.occurrences.proofs.collect_defined.Lts as lts
-use Rattle.ast.proofs.field.Reads as field-reads
-use Rattle.occurrences.proofs.collect_term.Reads as collect-term-reads
 
--- src/lib.rt:223:9
 field-requires : tie.Need-field-requires
 field-requires c κs = search needs
 
--- src/lib.rt:224:23
 field-requires-2 : tie.Need-field-requires-2
 field-requires-2 c κs = search needs
 
--- src/lib.rt:226:9
 collect-term-requires : tie.Need-collect-term-requires
 collect-term-requires c κs = (undefined _ _ (c .before .before .before .before .before .before .before .pre) (sym (c .before .before .before .field .ensures) ∙ c .before .if1 .taken) (c .before .before .field2 .ensures)) .ready
 
--- src/lib.rt:226:9
 same-length : tie.Need-same-length
 same-length c = search needs
 
--- src/lib.rt:226:9
 returns : tie.Need-returns
 returns c = appended-as ((undefined _ _ (c .before .before .before .before .before .before .before .before .before .before .pre) (sym (c .before .before .before .before .before .before .field .ensures) ∙ c .before .before .before .before .if1 .taken) (c .before .before .before .before .before .field2 .ensures)) .whole) (c .before .before .collect-term .ensures)
 
--- src/lib.rt:228:27
 sub-t11 : tie.Need-sub-t11
 sub-t11 c = search needs
 
--- src/lib.rt:229:9
 collect-term-requires-2 : tie.Need-collect-term-requires-2
 collect-term-requires-2 c κs = (defined _ _ {m = c .before .before .before .field .result - 1} (c .before .before .before .before .before .before .before .pre) (let e = c .before .before .before .field .ensures in let h = c .before .if1 .left in omega arith) (c .before .before .field2 .ensures)) .first
 
--- src/lib.rt:230:5
 collect-term-requires-3 : tie.Need-collect-term-requires-3
 collect-term-requires-3 c κs = (defined _ _ {m = c .before .before .before .before .before .before .before .field .result - 1} (c .before .before .before .before .before .before .before .before .before .before .before .pre) (let e = c .before .before .before .before .before .before .before .field .ensures in let h = c .before .before .before .before .before .if1 .left in omega arith) (c .before .before .before .before .before .before .field2 .ensures)) .second (c .before .before .before .collect-term2 .ensures .count)
 
--- src/lib.rt:212:1
 same-length-2 : tie.Need-same-length-2
 same-length-2 c = search needs
 
--- src/lib.rt:212:1
 returns-2 : tie.Need-returns-2
 returns-2 c = appended-as ((defined _ _ {m = c .before .before .before .before .before .before .before .before .before .before .field .result - 1} (c .before .before .before .before .before .before .before .before .before .before .before .before .before .before .pre) (let e = c .before .before .before .before .before .before .before .before .before .before .field .ensures in let h = c .before .before .before .before .before .before .before .before .if1 .left in omega arith) (c .before .before .before .before .before .before .before .before .before .field2 .ensures)) .whole) (appended-next (c .before .before .before .before .before .before .collect-term2 .ensures) (c .before .before .collect-term3 .ensures))
 

@@ -1,4 +1,4 @@
-use mathlib.Core.Path.{_≡_, refl, sym, ap, subst, _∙_}
+use mathlib.Core.Path.{refl}
 use Rattle.rows.proofs.Appends.{appended-next}
 use Rattle.ast.specs.Kinds.{kindOf}
 use Rattle.occurrences.proofs.CollectRows.{bare}
@@ -6,34 +6,24 @@ use Rattle.occurrences.proofs.CollectSteps.{appended-as, two}
 use borrow.Author.Needs.{needs}
 use Rattle.occurrences.proofs.collect_equal.Statement.{statement}
 use Rattle.occurrences.proofs.collect_equal.Tie as tie
-use Rattle.occurrences.proofs.collect_equal.Reads as reads
-use Rattle.occurrences.proofs.collect_equal.Lts as lts
-use Rattle.ast.proofs.field.Reads as field-reads
-use Rattle.occurrences.proofs.collect_term.Reads as collect-term-reads
 
--- src/lib.rt:185:22
 field-requires : tie.Need-field-requires
 field-requires c κs = search needs
 
--- src/lib.rt:186:22
 field-requires-2 : tie.Need-field-requires-2
 field-requires-2 c κs = search needs
 
--- src/lib.rt:187:9
 collect-term-requires : tie.Need-collect-term-requires
 unfolding kindOf bare
 collect-term-requires c κs = (two _ _ refl refl (c .before .before .before .before .before .before .pre) (c .before .before .field .ensures) (c .before .field2 .ensures)) .first
 
--- src/lib.rt:188:5
 collect-term-requires-2 : tie.Need-collect-term-requires-2
 unfolding kindOf bare
 collect-term-requires-2 c κs = (two _ _ refl refl (c .before .before .before .before .before .before .before .before .before .before .pre) (c .before .before .before .before .before .before .field .ensures) (c .before .before .before .before .before .field2 .ensures)) .second (c .before .before .before .collect-term .ensures .count)
 
--- src/lib.rt:174:1
 same-length : tie.Need-same-length
 same-length c = search needs
 
--- src/lib.rt:174:1
 returns : tie.Need-returns
 unfolding kindOf bare
 returns c = appended-as ((two _ _ refl refl (c .before .before .before .before .before .before .before .before .before .before .before .before .before .pre) (c .before .before .before .before .before .before .before .before .before .field .ensures) (c .before .before .before .before .before .before .before .before .field2 .ensures)) .whole) (appended-next (c .before .before .before .before .before .before .collect-term .ensures) (c .before .before .collect-term2 .ensures))

@@ -1,6 +1,6 @@
-use mathlib.Core.Path.{_≡_, refl, sym, ap, subst, _∙_}
+use mathlib.Core.Path.{ap, _∙_}
 use native.Mathlib.Omega.{arith}
-use Prim.Native.Nat.{ℕ, _+_, _*_, _-_, _≤_}
+use Prim.Native.Nat.{ℕ, _-_}
 use Rattle.ast.specs.Image.{last}
 use Rattle.ast.proofs.Accepted.{sized}
 use Rattle.occurrences.proofs.CollectRules.{moduleRun}
@@ -8,39 +8,26 @@ use Rattle.occurrences.proofs.CollectSteps.{appended-as}
 use borrow.Author.Needs.{needs}
 use Rattle.occurrences.proofs.collect_module.Statement.{statement}
 use Rattle.occurrences.proofs.collect_module.Tie as tie
-use Rattle.occurrences.proofs.collect_module.Reads as reads
-use Rattle.occurrences.proofs.collect_module.Lts as lts
-use Rattle.ast.proofs.field.Reads as field-reads
-use Rattle.ast.proofs.node_count.Reads as node-count-reads
-use Rattle.ast.proofs.wide.Reads as wide-reads
-use Rattle.occurrences.proofs.collect_decls.Reads as collect-decls-reads
 
--- src/lib.rt:593:23
 node-count-requires : tie.Need-node-count-requires
 node-count-requires c κs = search needs
 
--- src/lib.rt:593:23
 sub-t8 : tie.Need-sub-t8
 sub-t8 c = let s = (sized _ (c .before .before .before .before .pre .accepted)) .some in let e = c .node-count .ensures in omega arith
 
--- src/lib.rt:594:26
 field-requires : tie.Need-field-requires
 field-requires c κs = search needs
 
--- src/lib.rt:594:9
 wide-requires : tie.Need-wide-requires
 wide-requires c κs = search needs
 
--- src/lib.rt:595:5
 collect-decls-requires : tie.Need-collect-decls-requires
 unfolding last
 collect-decls-requires c κs = (moduleRun _ _ (c .before .before .before .before .before .before .before .pre) (ap (λ (x : ℕ). x - 1) (c .before .before .before .node-count .ensures)) (c .before .wide .ensures ∙ c .before .before .field .ensures)) .run
 
--- src/lib.rt:589:1
 same-length : tie.Need-same-length
 same-length c = search needs
 
--- src/lib.rt:589:1
 returns : tie.Need-returns
 unfolding last
 returns c = appended-as ((moduleRun _ _ (c .before .before .before .before .before .before .before .before .before .before .pre) (ap (λ (x : ℕ). x - 1) (c .before .before .before .before .before .before .node-count .ensures)) (c .before .before .before .before .wide .ensures ∙ c .before .before .before .before .before .field .ensures)) .whole) (c .before .before .collect-decls .ensures)

@@ -1,32 +1,22 @@
-use mathlib.Core.Path.{_≡_, refl, sym, ap, subst, _∙_}
+use mathlib.Core.Path.{_∙_}
 use Rattle.occurrences.proofs.CollectRules.{ruleRun}
 use Rattle.occurrences.proofs.CollectSteps.{appended-as}
 use borrow.Author.Needs.{needs}
 use Rattle.occurrences.proofs.collect_rule.Statement.{statement}
 use Rattle.occurrences.proofs.collect_rule.Tie as tie
-use Rattle.occurrences.proofs.collect_rule.Reads as reads
-use Rattle.occurrences.proofs.collect_rule.Lts as lts
-use Rattle.ast.proofs.field.Reads as field-reads
-use Rattle.ast.proofs.wide.Reads as wide-reads
-use Rattle.occurrences.proofs.collect_stmts.Reads as collect-stmts-reads
 
--- src/lib.rt:408:26
 field-requires : tie.Need-field-requires
 field-requires c κs = search needs
 
--- src/lib.rt:408:9
 wide-requires : tie.Need-wide-requires
 wide-requires c κs = search needs
 
--- src/lib.rt:409:5
 collect-stmts-requires : tie.Need-collect-stmts-requires
 collect-stmts-requires c κs = (ruleRun _ _ (c .before .before .before .before .before .before .pre) (c .before .wide .ensures ∙ c .before .before .field .ensures)) .run
 
--- src/lib.rt:397:1
 same-length : tie.Need-same-length
 same-length c = search needs
 
--- src/lib.rt:397:1
 returns : tie.Need-returns
 returns c = appended-as ((ruleRun _ _ (c .before .before .before .before .before .before .before .before .before .pre) (c .before .before .before .before .wide .ensures ∙ c .before .before .before .before .before .field .ensures)) .whole) (c .before .before .collect-stmts .ensures)
 

@@ -1,84 +1,61 @@
-use mathlib.Core.Path.{_≡_, refl, sym, ap, subst, _∙_}
+use mathlib.Core.Path.{sym, ap, _∙_}
 use Rattle.scopes.specs.Answers.{resolvedAnswer}
 use Rattle.occurrences.proofs.CollectCalls.{given, clashed, no-refusal, table-passes, rows-long, listed-refused, listed-twice, listed-rows}
 use borrow.Author.Needs.{needs}
 use Rattle.occurrences.proofs.occurrences.Statement.{statement}
 use Rattle.occurrences.proofs.occurrences.Tie as tie
-use Rattle.occurrences.proofs.occurrences.Reads as reads
-use Rattle.occurrences.proofs.occurrences.Lts as lts
-use Rattle.occurrences.proofs.test_rows.Reads as test-rows-reads
-use Rattle.occurrences.proofs.write_rows.Reads as write-rows-reads
-use Rattle.scopes.proofs.resolve_into.Reads as resolve-into-reads
 
--- src/lib.rt:651:9
 test-rows-requires : tie.Need-test-rows-requires
 test-rows-requires c κs = search needs
 
--- src/lib.rt:653:9
 same-length : tie.Need-same-length
 same-length c = search needs
 
--- src/lib.rt:653:9
 same-length-2 : tie.Need-same-length-2
 same-length-2 c = search needs
 
--- src/lib.rt:653:9
 returns : tie.Need-returns
 returns c = listed-refused _ _ _ _ (c .before .test-rows .ensures) (c .if1 .taken)
 
--- src/lib.rt:655:11
 resolve-into-requires : tie.Need-resolve-into-requires
 resolve-into-requires c κs = table-passes _ _ _ (sym (c .before .before .test-rows .ensures) ∙ c .before .if1 .left)
 
--- src/lib.rt:656:27
 enum-known-number : tie.Need-enum-known-number
 enum-known-number c = search needs
 
--- src/lib.rt:657:25
 enum-known-name : tie.Need-enum-known-name
 enum-known-name c = search needs
 
--- src/lib.rt:658:29
 enum-known-symbols : tie.Need-enum-known-symbols
 enum-known-symbols c = search needs
 
--- src/lib.rt:658:54
 write-rows-requires : tie.Need-write-rows-requires
 write-rows-requires c κs = ((given _ _ (sym (ap resolvedAnswer (c .before .before .before .symbols .given .1)) ∙ c .before .before .before .before .before .before .before .resolve-into .ensures .0) (c .before .before .before .before .before .before .before .resolve-into .ensures .1)) .whole, rows-long _ _ _ (sym (c .before .before .before .before .before .before .before .before .before .before .test-rows .ensures) ∙ c .before .before .before .before .before .before .before .before .before .if1 .left))
 
--- src/lib.rt:648:1
 same-length-3 : tie.Need-same-length-3
 same-length-3 c = search needs
 
--- src/lib.rt:648:1
 same-length-4 : tie.Need-same-length-4
 same-length-4 c = search needs
 
--- src/lib.rt:648:1
 returns-2 : tie.Need-returns-2
 returns-2 c = absurd (no-refusal _ _ (table-passes _ _ _ (sym (c .before .before .before .before .before .before .before .before .test-rows .ensures) ∙ c .before .before .before .before .before .before .before .if1 .left)) (sym (ap resolvedAnswer (c .before .number .given .1)) ∙ c .before .before .before .before .before .resolve-into .ensures .0))
 
--- src/lib.rt:648:1
 same-length-5 : tie.Need-same-length-5
 same-length-5 c = search needs
 
--- src/lib.rt:648:1
 same-length-6 : tie.Need-same-length-6
 same-length-6 c = search needs
 
--- src/lib.rt:648:1
 returns-3 : tie.Need-returns-3
 returns-3 c = listed-twice _ _ _ (sym (c .before .before .before .before .before .before .before .before .test-rows .ensures) ∙ c .before .before .before .before .before .before .before .if1 .left) (clashed _ _ (sym (ap resolvedAnswer (c .before .name .given .1)) ∙ c .before .before .before .before .before .resolve-into .ensures .0) (c .before .before .before .before .before .resolve-into .ensures .1))
 
--- src/lib.rt:648:1
 same-length-7 : tie.Need-same-length-7
 same-length-7 c = search needs
 
--- src/lib.rt:648:1
 same-length-8 : tie.Need-same-length-8
 same-length-8 c = search needs
 
--- src/lib.rt:648:1
 returns-4 : tie.Need-returns-4
 returns-4 c = listed-rows _ _ _ (sym (c .before .before .before .before .before .before .before .before .before .before .before .before .before .test-rows .ensures) ∙ c .before .before .before .before .before .before .before .before .before .before .before .before .if1 .left) (given _ _ (sym (ap resolvedAnswer (c .before .before .before .before .before .before .symbols .given .1)) ∙ c .before .before .before .before .before .before .before .before .before .before .resolve-into .ensures .0) (c .before .before .before .before .before .before .before .before .before .before .resolve-into .ensures .1)) (c .before .before .write-rows .ensures .0) (c .before .before .write-rows .ensures .1)
 

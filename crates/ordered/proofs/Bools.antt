@@ -22,8 +22,11 @@ pub is-false : (a : Bool) → T (not a) → a ≡ false
 is-false true t = absurd t
 is-false false t = refl
 
+pub true-not-false : {b : Bool} → b ≡ true → b ≡ false → ⊥
+true-not-false p q = let z : _≡_ {A = ℕ} 0 1 = cc in omega arith
+
 pub false-true : false ≡ true → ⊥
-false-true e = let z : _≡_ {A = ℕ} 0 1 = cc in omega arith
+false-true e = true-not-false e refl
 
 pub not-equal : {k : ℕ} (x : ℕ) → T (not (eqb k x)) → k ≡ x → ⊥
 not-equal {k} x t e = subst (λ (b : Bool). T (not b)) (eq-eqb k x e) t
