@@ -1,70 +1,48 @@
-use native.Mathlib.Omega.{arith}
 use mathlib.Core.Path.{sym}
-use lib.ListN.{length}
 use lib.Seq.{length-take-le}
-use Prim.Native.Nat.{_-_}
 use borrow.Author.Needs.{needs}
 use Rattle.replay.proofs.errors_on_rows.Statement.{statement}
 use Rattle.replay.proofs.errors_on_rows.Tie as tie
-use Rattle.replay.proofs.errors_on_rows.Reads as reads
-use Rattle.replay.proofs.errors_on_rows.Lts as lts
-use Rattle.ast.proofs.wide.Reads as wide-reads
-use Rattle.replay.proofs.errors.Reads as errors-reads
-use Rattle.replay.proofs.head_word.Reads as head-word-reads
 
--- src/main.rt:98:23
 head-word-requires : tie.Need-head-word-requires
 head-word-requires c κs = search needs
 
--- src/main.rt:98:9
 wide-requires : tie.Need-wide-requires
 wide-requires c κs = search needs
 
--- src/main.rt:99:23
 head-word-requires-2 : tie.Need-head-word-requires-2
 head-word-requires-2 c κs = search needs
 
--- src/main.rt:99:9
 wide-requires-2 : tie.Need-wide-requires-2
 wide-requires-2 c κs = search needs
 
--- src/main.rt:101:9
 returns : tie.Need-returns
 returns c = search needs
 
--- src/main.rt:104:9
 returns-2 : tie.Need-returns-2
 returns-2 c = search needs
 
--- src/main.rt:106:25
 slice-relend-prefix-errors : tie.Need-slice-relend-prefix-errors
 slice-relend-prefix-errors c = search needs
 
--- src/main.rt:106:25
 slice-aggregate-errors : tie.Need-slice-aggregate-errors
 slice-aggregate-errors c = sym (length-take-le _ _ (search needs))
 
--- src/main.rt:106:42
 slice-relend-prefix-errors-2 : tie.Need-slice-relend-prefix-errors-2
 slice-relend-prefix-errors-2 c = search needs
 
--- src/main.rt:106:42
 slice-aggregate-errors-2 : tie.Need-slice-aggregate-errors-2
 slice-aggregate-errors-2 c = sym (length-take-le _ _ (search needs))
 
--- src/main.rt:106:5
 errors-requires : tie.Need-errors-requires
 errors-requires c κs = search needs
 
--- src/main.rt:91:1
 same-length : tie.Need-same-length
 same-length c = search needs
 
--- src/main.rt:91:1
 same-length-2 : tie.Need-same-length-2
 same-length-2 c = search needs
 
--- src/main.rt:91:1
 returns-3 : tie.Need-returns-3
 returns-3 c = search needs
 

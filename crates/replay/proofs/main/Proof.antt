@@ -1,15 +1,8 @@
 use native.Mathlib.Omega.{arith}
-use mathlib.Core.Path.{sym}
-use lib.ListN.{length}
-use lib.Seq.{length-take-le}
 use Prim.Native.Nat.{_-_}
 use borrow.Author.Needs.{needs}
 use Rattle.replay.proofs.main.Statement.{statement}
 use Rattle.replay.proofs.main.Tie as tie
-use Rattle.replay.proofs.main.Reads as reads
-use Rattle.replay.proofs.main.Lts as lts
-use Rattle.replay.proofs.next_record.Reads as next-record-reads
-use Rattle.replay.proofs.say.Reads as say-reads
 
 abbrev Inv-loop : tie.InvT-loop
 Inv-loop done₀ t2 done = Unit {0}
@@ -17,35 +10,27 @@ Inv-loop done₀ t2 done = Unit {0}
 abbrev μ-loop : tie.MeasureT-loop
 μ-loop done₀ t2 done = 1000000 - done
 
--- src/main.rt:218:5
 loop-holds : tie.Need-loop-holds Inv-loop μ-loop
 loop-holds c = tt
 
--- src/main.rt:218:29
 next-record-requires : tie.Need-next-record-requires Inv-loop μ-loop
 next-record-requires c κs = search needs
 
--- src/main.rt:219:9
 add-done : tie.Need-add-done Inv-loop μ-loop
 add-done c = omega arith
 
--- src/main.rt:218:5
 loop-less : tie.Need-loop-less Inv-loop μ-loop
 loop-less c = omega arith
 
--- src/main.rt:218:5
 loop-again : tie.Need-loop-again Inv-loop μ-loop
 loop-again c = tt
 
--- src/main.rt:221:15
 slice-aggregate-say : tie.Need-slice-aggregate-say Inv-loop μ-loop
 slice-aggregate-say c = search needs
 
--- src/main.rt:221:5
 say-requires : tie.Need-say-requires Inv-loop μ-loop
 say-requires c κs = search needs
 
--- src/main.rt:216:1
 returns : tie.Need-returns Inv-loop μ-loop
 returns c = tt
 

@@ -1,36 +1,24 @@
-use native.Mathlib.Omega.{arith}
 use mathlib.Core.Path.{sym}
-use lib.ListN.{length}
 use lib.Seq.{length-take-le}
-use Prim.Native.Nat.{_-_}
 use borrow.Author.Needs.{needs}
 use Rattle.replay.proofs.read_part.Statement.{statement}
 use Rattle.replay.proofs.read_part.Tie as tie
-use Rattle.replay.proofs.read_part.Reads as reads
-use Rattle.replay.proofs.read_part.Lts as lts
-use Rattle.io.proofs.read_full.Reads as read-full-reads
 
--- src/main.rt:85:9
 returns : tie.Need-returns
 returns c = search needs
 
--- src/main.rt:87:33
 slice-relend-prefix-read-full : tie.Need-slice-relend-prefix-read-full
 slice-relend-prefix-read-full c = search needs
 
--- src/main.rt:87:33
 slice-aggregate-read-full : tie.Need-slice-aggregate-read-full
 slice-aggregate-read-full c = sym (length-take-le _ _ (search needs))
 
--- src/main.rt:87:5
 read-full-requires : tie.Need-read-full-requires
 read-full-requires c κs = search needs
 
--- src/main.rt:83:1
 same-length : tie.Need-same-length
 same-length c = search needs
 
--- src/main.rt:83:1
 returns-2 : tie.Need-returns-2
 returns-2 c = search needs
 

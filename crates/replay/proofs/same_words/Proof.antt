@@ -1,14 +1,9 @@
 use native.Mathlib.Omega.{arith}
-use mathlib.Core.Path.{sym}
 use lib.ListN.{length}
-use lib.Seq.{length-take-le}
 use Prim.Native.Nat.{_-_}
 use borrow.Author.Needs.{needs}
 use Rattle.replay.proofs.same_words.Statement.{statement}
 use Rattle.replay.proofs.same_words.Tie as tie
-use Rattle.replay.proofs.same_words.Reads as reads
-use Rattle.replay.proofs.same_words.Lts as lts
-use Rattle.ast.proofs.word.Reads as word-reads
 
 abbrev Inv-loop : tie.InvT-loop
 Inv-loop words bytes i₀ i = Unit {0}
@@ -16,47 +11,36 @@ Inv-loop words bytes i₀ i = Unit {0}
 abbrev μ-loop : tie.MeasureT-loop
 μ-loop words bytes i₀ i = length words - i
 
--- src/main.rt:27:5
 loop-holds : tie.Need-loop-holds Inv-loop μ-loop
 loop-holds c = tt
 
--- src/main.rt:29:13
 returns : tie.Need-returns Inv-loop μ-loop
 returns c = tt
 
--- src/main.rt:31:12
 mul-if2 : tie.Need-mul-if2 Inv-loop μ-loop
 mul-if2 c = omega arith
 
--- src/main.rt:31:12
 shared-slice-read-if2 : tie.Need-shared-slice-read-if2 Inv-loop μ-loop
 shared-slice-read-if2 c = omega arith
 
--- src/main.rt:31:41
 mul-word : tie.Need-mul-word Inv-loop μ-loop
 mul-word c = omega arith
 
--- src/main.rt:31:24
 word-requires : tie.Need-word-requires Inv-loop μ-loop
 word-requires c κs = search needs
 
--- src/main.rt:32:13
 returns-2 : tie.Need-returns-2 Inv-loop μ-loop
 returns-2 c = tt
 
--- src/main.rt:34:9
 add-i : tie.Need-add-i Inv-loop μ-loop
 add-i c = omega arith
 
--- src/main.rt:27:5
 loop-less : tie.Need-loop-less Inv-loop μ-loop
 loop-less c = omega arith
 
--- src/main.rt:27:5
 loop-again : tie.Need-loop-again Inv-loop μ-loop
 loop-again c = tt
 
--- src/main.rt:25:1
 returns-3 : tie.Need-returns-3 Inv-loop μ-loop
 returns-3 c = tt
 
