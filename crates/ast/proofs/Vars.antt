@@ -62,7 +62,7 @@ abbrev pub checkAll : (ℕ → Kind → Bool) → List Kind → Bool
 checkAll g [] = true
 checkAll g (kd ∷ kds) = g 0 kd && checkAll (λ i. g (suc i)) kds
 
-and-both : (a b : Bool) → T (a && b) → T a × T b
+pub and-both : (a b : Bool) → T (a && b) → T a × T b
 and-both true b t = (tt, t)
 and-both false b t = absurd t
 

@@ -16,10 +16,10 @@ use Rattle.ast.specs.Tree.{Tree, node, Trees, none, _◂_, swap, swaps, ordered
 use Rattle.ast.specs.Items.{items, blocks}
 use Rattle.ast.proofs.Row.{append, Child, Items, FormedBlocks, FormedField, FormedFields, next, shapes, kidsOf, allKids, nodeOf, tree-is, row-formed}
 use Rattle.ast.proofs.Accepted.{formed}
-use Rattle.ast.proofs.Vars.{every-kind, Each}
+use Rattle.ast.proofs.Vars.{every-kind, Each, and-both}
 use Rattle.table.specs.Table.{Table}
 use Rattle.rows.specs.Rows.{Row}
-use Rattle.ordered.proofs.Bools.{and-both, not-or, is-false}
+use Rattle.ordered.proofs.Bools.{not-or, is-false}
 use Rattle.bindings.specs.Errors.{asked, introducedRow, rowsOf, rowsSeq, rowsFirst}
 
 -- the kinds from Term to IfAtom, the atoms but DefinedThenAtom, and IfStmt

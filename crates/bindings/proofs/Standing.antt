@@ -21,12 +21,12 @@ use Rattle.ast.proofs.Row.{append-none, Child, FormedFields, next, nodeOf, allK
 use Rattle.ast.proofs.Shapes.{row as fields-of, tree-of, child-is, case-child, case-kids, case-one, case-last, term-last, head-last, termKinds, headKinds}
 use Rattle.ast.proofs.Accepted.{formed, last-below}
 use Rattle.ast.proofs.Unfold.{All, nil, cons, All-split, treeAt-is}
-use Rattle.ast.proofs.Vars.{every-kind, Each}
+use Rattle.ast.proofs.Vars.{every-kind, Each, and-both}
 use Rattle.ast.proofs.Count.{is-same, times-append, parents}
 use Rattle.ast.proofs.Kids.{childKind, kid-admitted, every-pair}
 use Rattle.table.specs.Table.{Table, isVar, isKind}
 use Rattle.rows.specs.Rows.{Row}
-use Rattle.ordered.proofs.Bools.{and-both, not-or, is-true, false-true, not-equal, and-true, true-is}
+use Rattle.ordered.proofs.Bools.{not-or, is-true, false-true, not-equal, and-true, true-is}
 use Rattle.bindings.specs.Errors.{asked, atEntry, atExit, introduces, introducedRow, isCtor, argRow, argRows, definedRow, rowsOf, rowsSeq, declRows, plainRows}
 use Rattle.bindings.specs.Checks.{inside, listed, declared, ofPattern, ofArgs}
 use Rattle.bindings.specs.Places.{Node, Stands, InThen, atom, down}

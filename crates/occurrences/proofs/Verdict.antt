@@ -18,8 +18,8 @@ use Rattle.ast.proofs.Accepted.{formed, last-below}
 use Rattle.ast.proofs.Formed.{Child, Items, Formed, FormedBlocks, FormedField, FormedFields}
 use Rattle.ast.proofs.Unfold.{All, nil, cons, All-append, All-split, All-map, numbers-append, numbers-ones, kids-below, treeAt-is}
 use Rattle.ast.proofs.Shapes.{termKinds, headKinds}
-use Rattle.ast.proofs.Vars.{PlainVar, named, wildcard, Each, AfterFirst, PlainAt, every-kind, vars-at}
-use Rattle.ordered.proofs.Bools.{and-both, is-false}
+use Rattle.ast.proofs.Vars.{PlainVar, named, wildcard, Each, AfterFirst, PlainAt, every-kind, vars-at, and-both}
+use Rattle.ordered.proofs.Bools.{is-false}
 use Rattle.occurrences.proofs.Steps.{IdentOnly, VarTerm, VarTerms, Idents, Body, Bodies, Members, Defines}
 use Rattle.occurrences.proofs.Lists.{NoVar, Decl, Decls}
 

@@ -5,12 +5,11 @@ use mathlib.Core.List.{List}
 use mathlib.Core.Option.{Option, none, some}
 use Prim.Native.Nat.{ℕ, zero, suc, _+_, _<_}
 use native.Mathlib.Omega.{arith}
-use lib.Dec.{eqb, ltb}
+use lib.Dec.{ltb}
 use borrow.Author.Tests.{ltb-true}
 use Rattle.ast.specs.Image.{nodes, nameOf}
-use Rattle.table.specs.Rows.{scopeOf, nodeAt, parentAt}
-use Rattle.table.specs.Table.{Table, findFrom, find, climb, lookup}
-use Rattle.table.proofs.Frames.{SameRows}
+use Rattle.table.specs.Rows.{parentAt}
+use Rattle.table.specs.Table.{Table, find, climb, lookup}
 
 -- lookup from a scope, by what a search gives
 pub looked-up : (img : List ℕ) (t : Table) (s : ℕ) (x : ℕ) (i : ℕ) (o : Option ℕ) (z : ℕ) → s ≡ z → x ≡ nameOf img i
@@ -34,18 +33,6 @@ above-cong none p s u v h = go (ltb p s) (λ t. h (ltb-true p s t))
     go false f = refl
 
 module _ (img : List ℕ) where
-  -- a row of the scope sc with the node n, looked at for the name x in the scope s, before what the other rows give
-  abbrev row : ℕ → ℕ → ℕ → ℕ → Option ℕ → Option ℕ
-  row sc n s x rest = elim (elim (eqb sc s) as (λ _. Bool) [ true ↦ eqb (nameOf img n) x | false ↦ false ]) [ true ↦ some n | false ↦ rest ]
-
-  pub find-cong : (c : ℕ) (ws vs : List ℕ) (j s x : ℕ) → SameRows (nodes img) (j + c) ws vs → findFrom img c ws j s x ≡ findFrom img c vs j s x
-  unfolding findFrom
-  find-cong zero ws vs j s x h = refl
-  find-cong (suc c) ws vs j s x h =
-      ap₂ (λ a n. row a n s x (findFrom img c ws (j + 1) s x)) (h .scopes j (omega arith)) (h .nodes j (omega arith))
-      ∙ ap (λ u. row (scopeOf (nodes img) vs j) (nodeAt (nodes img) vs j) s x u)
-      (find-cong c ws vs (j + 1) s x (record { scopes = λ i l. h .scopes i (omega arith); nodes = λ i l. h .nodes i (omega arith) }))
-
   -- what two tables say of the scopes below k
   abbrev pub Agree : ℕ → Table → Table → Type 0
   Agree k t u = (s : ℕ) → s < k → ((x : ℕ) → find img t s x ≡ find img u s x) × (parentAt (nodes img) (t .words) s ≡ parentAt (nodes img) (u .words) s)

@@ -6,10 +6,6 @@ use native.Mathlib.Omega.{arith}
 use lib.Dec.{T, eqb}
 use borrow.Author.Tests.{eq-eqb}
 
-pub and-both : (a b : Bool) → T (a && b) → T a × T b
-and-both true b t = (tt, t)
-and-both false b t = absurd t
-
 -- where a implies b
 pub not-or : (a b : Bool) → T a → T (not a || b) → T b
 not-or true b s t = t

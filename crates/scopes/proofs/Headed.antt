@@ -7,7 +7,8 @@ use Rattle.ast.specs.Image.{nodes}
 use Rattle.table.specs.Layout.{entryPlace, exitPlace, parentPlace, scopePlace, nodePlace}
 use Rattle.table.specs.Rows.{Sorted}
 use Rattle.table.specs.Table.{Table, find, lookup, entryAt, exitAt}
-use Rattle.ordered.proofs.Agreed.{find-cong, lookup-agree}
+use Rattle.table.proofs.Frames.{from-same}
+use Rattle.ordered.proofs.Agreed.{lookup-agree}
 use Rattle.scopes.specs.Resolve.{headed}
 use Rattle.scopes.proofs.Resolving.{headed-word, headed-length}
 
@@ -21,7 +22,7 @@ module _ (img : List ℕ) (t : Table) where
   headed-lookup s x =
       lookup-agree img (suc s) t left s x (omega arith)
       (λ r h. (
-        (λ y. find-cong img (t .symbols) (t .words) (headed img t) 0 r y
+        (λ y. from-same img (t .symbols) (t .words) (headed img t) 0 r y
             (record { scopes = λ i l. sym (headed-word img t (scopePlace (nodes img) i) (omega arith)); nodes = λ i l. sym (headed-word img t (nodePlace (nodes img) i) (omega arith)) })),
         sym (headed-word img t (parentPlace (nodes img) r) (omega arith)),
       ))

@@ -34,7 +34,7 @@ module _ (img : List ℕ) where
   pick : Bool → ℕ → Option ℕ → Option ℕ
   pick b n o = elim b [ true ↦ some n | false ↦ o ]
 
-  from-same : (c : ℕ) (ws vs : List ℕ) (j s x : ℕ) → SameRows (nodes img) (j + c) ws vs → findFrom img c ws j s x ≡ findFrom img c vs j s x
+  pub from-same : (c : ℕ) (ws vs : List ℕ) (j s x : ℕ) → SameRows (nodes img) (j + c) ws vs → findFrom img c ws j s x ≡ findFrom img c vs j s x
   unfolding findFrom isRow pick
   from-same zero ws vs j s x h = refl
   from-same (suc c) ws vs j s x h =
