@@ -9,7 +9,13 @@ use lib.ListN.{length, getD, drop, length-take, length-drop}
 use lib.Seq.{getD-take, getD-drop}
 use borrow.Author.Tests.{lt-ltb, le-ltb, ne-eqb}
 use Rattle.ast.specs.Kinds.{Field, name, optName, child, optChild, list, lists, cases, Kind, kinds, kindOf}
-use Rattle.ast.specs.Parts.{Cased, caseKinds, caseList, partCases, partOf, partsOf, rowParts}
+use Rattle.ast.specs.Parts.{Cased, caseKinds, caseList, partCases, partOf, rowParts}
+
+-- the fields of the parts of a row, of which there are at most c
+unfoldable pub partsOf : ℕ → ℕ → List Field
+unfolding partOf
+partsOf zero w = []
+partsOf (suc c) w = elim (eqb w 0) [ true ↦ [] | false ↦ partOf (w % 1024) ∷ partsOf c (w / 1024) ]
 
 unfoldable fieldsOf : List Kind → List (List Field)
 fieldsOf [] = []

@@ -10,13 +10,13 @@ use lib.ListN.{length, getD}
 use borrow.Author.Tests.{lt-ltb, le-ltb, le-leb, lt-leb, eq-eqb, ne-eqb}
 use Rattle.ast.specs.Image.{nodes, kindAt, startAt, operands, names, bytes, last}
 use Rattle.ast.specs.Kinds.{kindOf}
-use Rattle.ast.specs.Parts.{Cased, partOf, partsOf, rowParts}
+use Rattle.ast.specs.Parts.{Cased, partOf, rowParts}
 use Rattle.ast.specs.Rows.{numbers, kids, kidsTo, fieldsAt, rowEnd}
 use Rattle.ast.specs.Scan.{code, Head, Within, Step, FieldsTested, FieldTested, NodeTested, claimAll}
 use Rattle.ast.specs.Tests.{_▸_, need, run, inRow, testFields, times, first, isVar, testVar, testSizes, testNames, testNode, testParents, testTree, endBefore, verdict}
 use Rattle.ast.proofs.Accepted.{skip, stop, stop-at, sizes-ok}
 use Rattle.ast.proofs.Fields.{in-row, out-row, fields-none, fields-halt, fields-follow}
-use Rattle.ast.proofs.Parts.{fits, fit-cased, fit-more, parts-end, parts-row, parts-fit}
+use Rattle.ast.proofs.Parts.{partsOf, fits, fit-cased, fit-more, parts-end, parts-row, parts-fit}
 use Rattle.ast.proofs.Runs.{RunLeft, run-begin, run-next, run-stop, run-end}
 use Rattle.ast.proofs.Scans.{need-in, need-out, claim-append, skips, stops, refused}
 use Rattle.ast.specs.declared.Sizes.{Sizes}

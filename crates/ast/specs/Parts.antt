@@ -2,7 +2,7 @@
 use mathlib.Core.Path.{_≡_}
 use mathlib.Core.Bool.{true, false}
 use mathlib.Core.List.{List, [], _∷_}
-use Prim.Native.Nat.{ℕ, zero, suc, _+_, _-_, _/_, _%_, _<_}
+use Prim.Native.Nat.{ℕ, _+_, _-_, _/_, _%_, _<_}
 use lib.Dec.{ltb, eqb}
 use lib.ListN.{take, drop}
 use Rattle.ast.specs.Kinds.{Field, name, optName, child, optChild, list, lists, cases}
@@ -56,9 +56,3 @@ Cased x = x < 512 → x / 8 + x % 8 < 34
 -- the two tables, as the test lends them to its parts
 abbrev pub Tables : List ℕ → List ℕ → Type 0
 Tables rows kinds = (rows ≡ rowParts) × (kinds ≡ caseKinds)
-
--- the fields of the parts of a row, of which there are at most c
-unfoldable pub partsOf : ℕ → ℕ → List Field
-unfolding partOf
-partsOf zero w = []
-partsOf (suc c) w = elim (eqb w 0) [ true ↦ [] | false ↦ partOf (w % 1024) ∷ partsOf c (w / 1024) ]

@@ -36,7 +36,7 @@ module _ (img : List ℕ) where
     atom : {n : ℕ} → Node 29 n → InThen n
     down : {p c : ℕ} → InThen p → Stands p c → Determines p c → InThen c
 
-  -- an argument without a name
+  -- arguments without a name
   abbrev pub Unnamed : List ℕ → Type 0
   Unnamed ns = (n : ℕ) → List·Memᴰ n ns → field img n 0 ≡ 0
 

@@ -46,37 +46,44 @@ fn resolve(head: &[u8; 80], image: &[u8], name: &[u8], table: &mut [u32], after:
     same_words(table, after)
 }
 
-fn errors(
-    head: &[u8; 80],
-    image: &[u8],
-    table: &mut [u32],
-    rows: &mut [u32],
-    after: &[u8],
-) -> bool {
-    if exports::eqlog_errors(image, table, rows, head_word(head, 3)) != answer(head, 1) {
-        return false;
-    }
-    same_words(rows, after)
-}
-
-fn occurrences(
-    head: &[u8; 80],
-    image: &[u8],
-    table: &mut [u32],
-    rows: &mut [u32],
-    after: &[u8],
-) -> bool {
-    if exports::eqlog_occurrences(image, table, rows) != answer(head, 3) {
-        return false;
-    }
-    same_words(rows, after)
-}
-
 fn once(head: &[u8; 80], image: &[u8], table: &mut [u32], after: &[u8]) -> bool {
     if exports::eqlog_once(image, table) != answer(head, 2) {
         return false;
     }
     same_words(table, after)
+}
+
+// Errors, or the occurrence list.
+fn write_rows(
+    head: &[u8; 80],
+    image: &[u8],
+    table: &mut [u32],
+    rows: &mut [u32],
+    is_list: bool,
+) -> u64 {
+    if is_list {
+        return exports::eqlog_occurrences(image, table, rows);
+    }
+    exports::eqlog_errors(image, table, rows, head_word(head, 3))
+}
+
+fn errors_or_list(
+    head: &[u8; 80],
+    image: &[u8],
+    table: &mut [u32],
+    rows: &mut [u32],
+    is_list: bool,
+    after: &[u8],
+) -> bool {
+    let wanted = if is_list {
+        answer(head, 3)
+    } else {
+        answer(head, 1)
+    };
+    if write_rows(head, image, table, rows, is_list) != wanted {
+        return false;
+    }
+    same_words(rows, after)
 }
 
 fn called_name(head: &[u8; 80], image: &[u8]) -> bool {
@@ -100,11 +107,12 @@ fn once_on_table(head: &[u8; 80], image: &[u8], table: &mut [u32], after: &[u8])
     once(head, image, &mut table[..n], after)
 }
 
-fn errors_on_rows(
+fn on_rows(
     head: &[u8; 80],
     image: &[u8],
     table: &mut [u32],
     rows: &mut [u32],
+    is_list: bool,
     after: &[u8],
 ) -> bool {
     let n = ast::wide(head_word(head, 1));
@@ -115,25 +123,13 @@ fn errors_on_rows(
     if rows.len() < m {
         return false;
     }
-    errors(head, image, &mut table[..n], &mut rows[..m], after)
+    errors_or_list(head, image, &mut table[..n], &mut rows[..m], is_list, after)
 }
 
-fn list_on_rows(
-    head: &[u8; 80],
-    image: &[u8],
-    table: &mut [u32],
-    rows: &mut [u32],
-    after: &[u8],
-) -> bool {
-    let n = ast::wide(head_word(head, 1));
-    let m = ast::wide(head_word(head, 2));
-    if table.len() < n {
-        return false;
-    }
-    if rows.len() < m {
-        return false;
-    }
-    occurrences(head, image, &mut table[..n], &mut rows[..m], after)
+fn rows_of(head: &[u8; 80], image: &[u8], is_list: bool, after: &[u8]) -> bool {
+    let mut table = [7u32; 10246];
+    let mut rows = [7u32; 4100];
+    on_rows(head, image, &mut table, &mut rows, is_list, after)
 }
 
 fn calls(
@@ -152,14 +148,10 @@ fn calls(
     if !once_on_table(head, image, &mut b, after) {
         return false;
     }
-    let mut c = [7u32; 10246];
-    let mut d = [7u32; 4100];
-    if !errors_on_rows(head, image, &mut c, &mut d, rows) {
+    if !rows_of(head, image, false, rows) {
         return false;
     }
-    let mut e = [7u32; 10246];
-    let mut f = [7u32; 4100];
-    if !list_on_rows(head, image, &mut e, &mut f, list) {
+    if !rows_of(head, image, true, list) {
         return false;
     }
     called_name(head, image)

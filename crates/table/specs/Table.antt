@@ -90,10 +90,6 @@ module _ (img : List ℕ) where
   abbrev pub isVar : Option ℕ → Bool
   isVar o = isKind 13 o
 
-  -- a Const
-  abbrev pub isConst : Option ℕ → Bool
-  isConst o = isKind 5 o
-
   -- a Var or a Const
   unfoldable pub isValue : Option ℕ → Bool
   unfolding isKind
