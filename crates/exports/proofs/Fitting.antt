@@ -1,6 +1,5 @@
 -- Every number of an answer fits 16 bits, for each call and all inputs.
 use mathlib.Core.Path.{_≡_, refl, sym, subst}
-use mathlib.Core.Logic.{inl, inr}
 use mathlib.Core.Bool.{Bool, true, false, _&&_}
 use mathlib.Core.List.{List, [], _∷_}
 use mathlib.Core.Option.{Option, none as nothing, some}
@@ -13,8 +12,7 @@ use Rattle.ast.specs.Answer.{Answer, refused, result}
 use Rattle.ast.specs.Image.{nodes, kindAt}
 use Rattle.ast.specs.Tests.{need, verdict}
 use Rattle.ast.proofs.Accepted.{both, needed, ran, sized}
-use Rattle.ast.proofs.Unfold.{All, cons}
-use Rattle.rows.specs.Rows.{Row, lefts, rights}
+use Rattle.rows.specs.Rows.{Row}
 use Rattle.table.specs.Rows.{nodeAt}
 use Rattle.table.specs.Sound.{symbolsIn, scopesIn, parentBelow, rowSound, testSound}
 use Rattle.table.specs.State.{Exit}
@@ -29,15 +27,10 @@ use Rattle.scopes.proofs.Namings.{symbol-below}
 use Rattle.scopes.proofs.Resolving.{Ways, refuses, stops, fills, ways, refuses-outcome, stops-outcome, fills-outcome, walked-ended, table-accepted}
 use Rattle.bindings.specs.Errors.{errorRows, testErrors, errorsOf, errors}
 use Rattle.bindings.proofs.Few as errors-few
-use Rattle.occurrences.specs.Occurrences.{ruleRows, allRows, occurrenceRows, lone, rowsByRule, onceAnswer, occurrencesOf, occurrences, onceOf, once}
-use Rattle.occurrences.specs.Sight.{In, Rule, moduleRules, ruleSpots}
-use Rattle.occurrences.proofs.CollectLone.{climb-low, rights-low}
-use Rattle.occurrences.proofs.Counting.{in-times, rule-nodes-small}
-use Rattle.occurrences.proofs.Leaving.{few-rows}
-use Rattle.occurrences.proofs.LoneTerm.{lone-row, lone-list, by-rule}
-use Rattle.occurrences.proofs.Members.{in-left, in-right}
-use Rattle.occurrences.proofs.Resolving.{resolved}
-use Rattle.occurrences.proofs.RowLaws.{in-lefts, all-once}
+use Rattle.occurrences.specs.Occurrences.{occurrenceRows, lone, rowsByRule, onceAnswer, occurrencesOf, occurrences, onceOf, once}
+use Rattle.occurrences.specs.Rules.{moduleRules}
+use Rattle.occurrences.proofs.CollectLone.{climb-low}
+use Rattle.occurrences.proofs.Few as occurrences-few
 use Rattle.exports.specs.Packed.{Fits}
 use Rattle.exports.proofs.Refusals.{Low, first-low, need-low, run-low, verdict-low}
 use Rattle.exports.proofs.Clashing.{twice-fits}
@@ -166,38 +159,16 @@ occurrences-fit img tab rows = go (testRows img tab rows) refl (walked img tab) 
         → Fits ((elim r as (λ _. Outcome) [ zero ↦ occurrencesOf img tab rows w | suc i ↦ record { answer = refused (suc i); table = tab; rows = rows } ]) .answer)
     go zero q (done e) h =
         let a = table-accepted img tab (both _ _ q .0) in
-        count-fits img (length (occurrenceRows img (e .table))) a (few-rows img tab e a h)
+        count-fits img (length (occurrenceRows img (e .table))) a (occurrences-few.rows-few img (e .table) a)
     go zero q (twice x a b) h = twice-fits img tab x a b (both _ _ q .0) h
     go (suc r) q w h = refused-fits (suc r) (let l = rows-low img tab rows in omega arith)
 
 -- Once -------------------------------------------------------------------------------------------------------------------
-in-rights : {P : ℕ → Type 0} (w : Row) (l : List Row) → In w l → All P (rights l) → P (w .right)
-unfolding rights
-in-rights w [] i a = absurd i
-in-rights {P} w (v ∷ l) (inl e) (cons h a) = subst (λ (x : Row). P (x .right)) (sym e) h
-in-rights w (v ∷ l) (inr i) (cons h a) = in-rights w l i a
-
-in-rules : (img : List ℕ) (t : Table) (w : Row) (r : Rule) (rs : List Rule) → In r rs → In w (ruleRows img t r) → In w (allRows img t rs)
-unfolding allRows
-in-rules img t w r [] i j = absurd i
-in-rules img t w r (q ∷ rs) (inl e) j = in-left w (ruleRows img t q) (allRows img t rs) (subst (λ (x : Rule). In w (ruleRows img t x)) e j)
-in-rules img t w r (q ∷ rs) (inr i) j = in-right w (ruleRows img t q) (allRows img t rs) (in-rules img t w r rs i j)
-
 -- a lone occurrence and its binding are below N
 lone-below : (img tab : List ℕ) (e : Exit) → testTable img tab ≡ 0 → walked img tab ≡ done e → (w : Row)
     → lone (rowsByRule img (e .table) (moduleRules img)) ≡ some w → (w .left < nodes img) × (w .right < nodes img)
-unfolding ruleRows
 lone-below img tab e passes ended w q =
-    let accepted = table-accepted img tab passes in
-    let t = e .table in
-    let rs = moduleRules img in
-    let a = lone-list (rowsByRule img t rs) w q in
-    let b = by-rule img t rs (a .0) (a .1) in
-    let i = subst (λ (l : List Row). In w l) (b .2) ((lone-row (a .0) (a .0) w (a .2)) .0) in
-    let c = in-times (w .left) (lefts (allRows img t rs)) (in-lefts w (allRows img t rs) (in-rules img t w (b .0) rs (b .1) i)) in
-    let d = all-once img t (w .left) rs ((resolved img tab e accepted ended) .walks) in
-    let low = rights-low img t (λ j l. symbol-below img _ (walked-ended img tab passes e ended .good .symbols j l)) (ruleSpots (b .0 .statements)) in
-    (rule-nodes-small img accepted (w .left) (omega arith), in-rights w (ruleRows img t (b .0)) i low)
+    occurrences-few.lone-below img (e .table) (λ j l. symbol-below img _ (walked-ended img tab passes e ended .good .symbols j l)) (table-accepted img tab passes) w q
 
 lone-fits : (img tab : List ℕ) (e : Exit) → testTable img tab ≡ 0 → walked img tab ≡ done e → (o : Option Row)
     → lone (rowsByRule img (e .table) (moduleRules img)) ≡ o → Fits (onceAnswer o)

@@ -23,11 +23,11 @@ use Rattle.scopes.specs.Rows.{testRows, Outcome}
 use Rattle.scopes.proofs.Resolving.{Ways, refuses, stops, fills, ways, refuses-outcome, stops-outcome, fills-outcome, filled, walked-ended, table-accepted, headed-word}
 use Rattle.scopes.proofs.Namings.{symbol-below}
 use Rattle.scopes.proofs.Headed.{headed-lookup, headed-exit, headed-sorted}
-use Rattle.occurrences.specs.Sight.{Spot, moduleRules}
+use Rattle.occurrences.specs.Spots.{Spot}
+use Rattle.occurrences.specs.Rules.{moduleRules}
 use Rattle.occurrences.specs.Occurrences.{found, occurrenceRows, lone, rowsByRule, onceAnswer, occurrencesOf, occurrences, onceOf, once}
 use Rattle.occurrences.specs.Collect.{sought, Whole, Nodes}
-use Rattle.occurrences.proofs.Resolving.{resolved}
-use Rattle.occurrences.proofs.RowLaws.{rows-few}
+use Rattle.occurrences.proofs.Few.{rows-few}
 use Rattle.occurrences.proofs.CollectRules.{same-lists, same-all}
 
 module _ (img tab : List ℕ) where
@@ -62,7 +62,7 @@ module _ (img tab : List ℕ) where
           whole = record {
             accepted = accepted;
             sorted = headed-sorted img (e .table) (d .kept .rising);
-            few = subst (λ (l : List Row). length l ≤ nodes img) (same-all img (e .table) _ same-found) (rows-few img (e .table) accepted ((resolved img tab e accepted is) .walks));
+            few = subst (λ (l : List Row). length l ≤ nodes img) (same-all img (e .table) _ same-found) (rows-few img (e .table) accepted);
           };
           symbols = λ j l. let a = headed-word img (e .table) (nodePlace (nodes img) j) (omega arith) in let b = symbol-below img _ (d .good .symbols j l) in omega arith;
         }

@@ -24,7 +24,7 @@ use Rattle.ast.proofs.Unfold.{All, nil, cons, All-map}
 use Rattle.table.specs.Table.{Table, rowIs, findFrom, climb, lookup, exitAt}
 use Rattle.table.specs.Rows.{nodeAt}
 use Rattle.rows.specs.Rows.{Row, row, rights, rowsLength, putRows, Appended}
-use Rattle.occurrences.specs.Sight.{Spot, spotsSeq}
+use Rattle.occurrences.specs.Spots.{Spot, spotsSeq}
 use Rattle.occurrences.specs.Occurrences.{found, listed, rowsFor, timesBound, loneIn, lone}
 use Rattle.occurrences.specs.Collect.{rowsAt, joined, listsIn, listsAt, Listing, ListingRun, readRows, under, uncounted, recount, recounted, loneOf, Scratch, Searched}
 use Rattle.occurrences.specs.declared.Checked.{Checked}

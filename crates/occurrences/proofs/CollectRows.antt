@@ -16,7 +16,7 @@ use Rattle.ast.proofs.Row.{append, append-none, allKids, shapes, nodeOf}
 use Rattle.ast.proofs.Shapes.{tree-of, items-more, caseKids, case-kids, case-one}
 use Rattle.table.specs.Table.{Table}
 use Rattle.rows.specs.Rows.{Row, row}
-use Rattle.occurrences.specs.Sight.{Spot, spots, spotsSeq, spotsBack, spotsFirst}
+use Rattle.occurrences.specs.Spots.{Spot, spots, spotsSeq, spotsBack, spotsFirst}
 use Rattle.occurrences.specs.Occurrences.{listed, found, rowsFor}
 use Rattle.occurrences.specs.Collect.{spot, identRows, rowsIn, rowsAt}
 

@@ -19,7 +19,7 @@ use Rattle.table.specs.Table.{Table}
 use Rattle.rows.specs.Rows.{Row, row as rowOf, putRows, Appended}
 use Rattle.rows.proofs.Parts.{appended-as as appended-to, Left, left-start, left-next, left-end}
 use Rattle.ordered.proofs.Blocks.{BlocksFrom, blocks-from, blocks-place as place-of-blocks, NextBlock, next-block}
-use Rattle.occurrences.specs.Sight.{spots}
+use Rattle.occurrences.specs.Spots.{spots}
 use Rattle.occurrences.specs.Occurrences.{found, rowsFor}
 use Rattle.occurrences.specs.Collect.{spot, identRows, rowsIn, rowsAt, Room, Ready, Run}
 use Rattle.occurrences.proofs.CollectRows.{bare, threads, ident-var, ident-rows, owner, one-rows, two-rows, leaf-rows, first-rows, ifVar-rows, undefined-rows, defined-rows, case-rows, case-none, list-rows, items-rows, child-list-rows, blockRows, branch-rows, block-more, block-none}

@@ -1,4 +1,5 @@
-pub mod Sight
+pub mod Spots
+pub mod Rules
 pub mod Occurrences
 pub mod Collect
 pub mod Answers

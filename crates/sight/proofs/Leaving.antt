@@ -18,15 +18,16 @@ use Rattle.table.specs.State.{Exit}
 use Rattle.table.specs.Table.{lookup, isKind, exitAt}
 use Rattle.ast.proofs.Accepted.{both}
 use Rattle.scopes.proofs.Headed.{headed-exit}
 use Rattle.occurrences.specs.Occurrences.{occurrenceRows, occurrencesOf, occurrences}
-use Rattle.occurrences.specs.Sight.{Sort, ordinary, declared, applied, defined, Place, In, Rule, moduleRules, outerConst, Same}
-use Rattle.occurrences.proofs.Listing.{placesOf, Occurs, AllRows}
-use Rattle.occurrences.proofs.Members.{Distinct}
-use Rattle.occurrences.proofs.Resolving.{tableOf, resolved, left-lookup}
-use Rattle.occurrences.proofs.RowLaws.{bindingOf, RowAt, all-only, all-all, one-row, rows-list, rows-distinct, rows-few}
-use Rattle.occurrences.proofs.Spots.{ownerKind, ordered}
-use Rattle.occurrences.proofs.WholeModule.{WalkOf, var-is-occurrence, equal-is-same}
-use Rattle.occurrences.proofs.Written.{rowsIn, rows-read}
+use Rattle.sight.specs.Sight.{Sort, ordinary, declared, applied, defined, Place, In, outerConst, Same}
+use Rattle.occurrences.specs.Rules.{Rule, moduleRules}
+use Rattle.sight.proofs.Listing.{placesOf, Occurs, AllRows}
+use Rattle.sight.proofs.Members.{Distinct}
+use Rattle.sight.proofs.Resolving.{tableOf, resolved, left-lookup}
+use Rattle.sight.proofs.RowLaws.{bindingOf, RowAt, all-only, all-all, one-row, rows-list, rows-distinct, rows-few}
+use Rattle.sight.proofs.Spots.{ownerKind, ordered}
+use Rattle.sight.proofs.WholeModule.{WalkOf, var-is-occurrence, equal-is-same}
+use Rattle.sight.proofs.Written.{rowsIn, rows-read}
 
 -- no more rows than nodes: no row is dropped
 pub few-rows : (img tab : List ℕ) (e : Exit) → verdict img ≡ 0 → walked img tab ≡ done e → length (occurrenceRows img (e .table)) ≤ nodes img

@@ -3,13 +3,14 @@
 use mathlib.Core.Path.{_≡_}
 use mathlib.Core.Logic.{_⊎_}
 use mathlib.Core.Bool.{Bool, true, false}
-use mathlib.Core.List.{List, [], _∷_, _++_}
+use mathlib.Core.List.{List, [], _∷_}
 use mathlib.Core.Option.{Option, none as nothing, some}
-use Prim.Native.Nat.{ℕ, zero, suc, _+_, _≤_, _<_}
+use Prim.Native.Nat.{ℕ, zero, suc, _≤_, _<_}
 use lib.Dec.{eqb}
-use Rattle.ast.specs.Image.{last, nameOf, kindAt}
-use Rattle.ast.specs.Kinds.{Class, outer, inner, Outer, root, decl, signature, rule, enum, model, Inner, plain, term, ident, head, headMember, member, branch, match, case, ifVar, definedThen, arg}
-use Rattle.ast.specs.Tree.{Tree, node, block, Trees, none, _◂_, treeAt}
+use Rattle.ast.specs.Image.{kindAt}
+use Rattle.ast.specs.Kinds.{outer, inner, plain, term, ident, head, headMember, member, branch, match, case, ifVar, definedThen, arg}
+use Rattle.ast.specs.Tree.{Tree, node, block, Trees, none, _◂_}
+use Rattle.occurrences.specs.Rules.{Rule}
 
 -- what an IdentTerm is at its place: an ordinary ident term, an if-var ident, an app head's ident, or a defined-then
 -- variable, with the number that was next where its atom starts
@@ -85,113 +86,6 @@ unfoldable mutual
 unfoldable pub rulePlaces : Trees → List Place
 unfolding placeSeq
 rulePlaces ts = (placeSeq ordinary 0 [] ts (record { next = 0; places = [] })) .places
-
--- a Term or AppHead, and the IdentTerm directly below it
-pub record Spot : Type 0 where
-  pub node : ℕ
-  pub ident : ℕ
-
--- the walk's order, but a defined-then's variable before its term
-unfoldable mutual
-  pub spots : ℕ → Tree → List Spot
-  spots o (block ts) = spotsSeq o ts
-  spots o (node n k (outer c) sh ts) = []
-  spots o (node n k (inner plain) sh ts) = spotsSeq n ts
-  spots o (node n k (inner term) sh ts) = spotsSeq n ts
-  spots o (node n k (inner ident) sh ts) = record { node = o; ident = n } ∷ []
-  spots o (node n k (inner head) sh ts) = spotsSeq n ts
-  spots o (node n k (inner headMember) sh ts) = spotsFirst n ts
-  spots o (node n k (inner member) sh ts) = spotsFirst n ts
-  spots o (node n k (inner branch) sh ts) = spotsSeq n ts
-  spots o (node n k (inner match) sh ts) = spotsSeq n ts
-  spots o (node n k (inner case) sh ts) = spotsSeq n ts
-  spots o (node n k (inner ifVar) sh ts) = spotsSeq n ts
-  spots o (node n k (inner definedThen) sh ts) = spotsBack n ts
-  spots o (node n k (inner arg) sh ts) = []
-
-  pub spotsSeq : ℕ → Trees → List Spot
-  spotsSeq o none = []
-  spotsSeq o (u ◂ us) = spots o u ++ spotsSeq o us
-
-  -- the first after the others
-  pub spotsBack : ℕ → Trees → List Spot
-  spotsBack o none = []
-  spotsBack o (u ◂ us) = spotsSeq o us ++ spots o u
-
-  pub spotsFirst : ℕ → Trees → List Spot
-  spotsFirst o none = []
-  spotsFirst o (u ◂ us) = spots o u
-
-unfoldable pub ruleSpots : Trees → List Spot
-unfolding spotsSeq
-ruleSpots ts = spotsSeq 0 ts
-
-abbrev pub orElse : Option ℕ → Option ℕ → Option ℕ
-orElse nothing v = v
-orElse (some n) v = some n
-
--- a rule: its statements, and the outer meaning of names there
-pub record Rule : Type 0 where
-  pub statements : Trees
-  pub meaning : ℕ → Option ℕ
-
-module _ (img : List ℕ) where
-  -- the node n for its own name
-  unfoldable pub own : ℕ → ℕ → Option ℕ
-  own n x = elim (eqb (nameOf img n) x) [ true ↦ some n | false ↦ nothing ]
-
-  unfoldable pub ruleOwn : List ℕ → ℕ → ℕ → Option ℕ
-  unfolding own
-  ruleOwn [] n x = nothing
-  ruleOwn (zero ∷ sh) n x = nothing
-  ruleOwn (suc c ∷ sh) n x = own n x
-
-  -- what a declaration list says a name is, the node that declares it: its own names first, constructors after their enum,
-  -- unnamed rules not at all
-  unfoldable mutual
-    unfolding own ruleOwn
-
-    pub says : Tree → ℕ → Option ℕ
-    says (block ts) x = nothing
-    says (node n k (inner i) sh ts) x = nothing
-    says (node n k (outer root) sh ts) x = nothing
-    says (node n k (outer decl) sh ts) x = saysAll ts x
-    says (node n k (outer signature) sh ts) x = own n x
-    says (node n k (outer rule) sh ts) x = ruleOwn sh n x
-    says (node n k (outer enum) sh ts) x = orElse (own n x) (saysAll ts x)
-    says (node n k (outer model) sh ts) x = own n x
-
-    pub saysAll : Trees → ℕ → Option ℕ
-    saysAll none x = nothing
-    saysAll (u ◂ us) x = orElse (says u x) (saysAll us x)
-
-  -- the rules of a list: what the innermost list around a rule that declares a name says is the name's outer meaning
-  unfoldable mutual
-    unfolding saysAll
-
-    pub rules : (ℕ → Option ℕ) → Tree → List Rule
-    rules m (block ts) = []
-    rules m (node n k (inner i) sh ts) = []
-    rules m (node n k (outer root) sh ts) = []
-    rules m (node n k (outer decl) sh ts) = rulesAll m ts
-    rules m (node n k (outer signature) sh ts) = []
-    rules m (node n k (outer rule) sh ts) = record { statements = ts; meaning = m } ∷ []
-    rules m (node n k (outer enum) sh ts) = rulesAll m ts
-    rules m (node n k (outer model) sh ts) = rulesAll (λ x. orElse (saysAll ts x) (m x)) ts
-
-    pub rulesAll : (ℕ → Option ℕ) → Trees → List Rule
-    rulesAll m none = []
-    rulesAll m (u ◂ us) = rules m u ++ rulesAll m us
-
-  unfoldable pub rulesOf : Tree → List Rule
-  unfolding rulesAll
-  rulesOf (block ts) = []
-  rulesOf (node n k c sh ts) = rulesAll (saysAll ts) ts
-
-  -- the rules of the module, in the list's order
-  unfoldable pub moduleRules : List Rule
-  unfolding rulesOf
-  moduleRules = rulesOf (treeAt img (last img))
 
 abbrev pub In : {A : Type 0} → A → List A → Type 0
 In a [] = ⊥

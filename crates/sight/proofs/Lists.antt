@@ -20,10 +20,11 @@ use Rattle.ordered.specs.Kept.{Kept}
 use Rattle.ordered.proofs.Kept.{mark-kept, symbol-kept}
 use Rattle.ordered.proofs.Moves.{numbersSeq}
 use Rattle.scopes.proofs.Adds.{named, done-same, twice-done, and-inv}
-use Rattle.occurrences.specs.Sight.{In, orElse, own, ruleOwn, Rule, says, saysAll, rules, rulesAll}
-use Rattle.occurrences.proofs.Members.{in-left, in-right}
-use Rattle.occurrences.proofs.Frame.{orElse-none, name-find-other, name-find, name-parent, name-exit, mark-parent, mark-exit}
-use Rattle.occurrences.proofs.Steps.{Bodies}
+use Rattle.sight.specs.Sight.{In}
+use Rattle.occurrences.specs.Rules.{orElse, own, ruleOwn, Rule, says, saysAll, rules, rulesAll}
+use Rattle.sight.proofs.Members.{in-left, in-right}
+use Rattle.sight.proofs.Frame.{orElse-none, name-find-other, name-find, name-parent, name-exit, mark-parent, mark-exit}
+use Rattle.sight.proofs.Steps.{Bodies}
 
 -- the nodes that entering marks
 unfoldable mutual

@@ -6,7 +6,7 @@ use Prim.Native.Nat.{ℕ, zero, suc, _≤_, _<_}
 use native.Mathlib.Omega.{arith}
 use native.Mathlib.Decide.{ℕ-discrete}
 use lib.ListN.{length}
-use Rattle.occurrences.specs.Sight.{In}
+use Rattle.sight.specs.Sight.{In}
 
 module _ {A : Type 0} where
   pub in-left : (a : A) (xs ys : List A) → In a xs → In a (xs ++ ys)

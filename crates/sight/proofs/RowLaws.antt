@@ -16,13 +16,16 @@ use Rattle.table.specs.Table.{Table, isKind}
 use Rattle.ast.proofs.Count.{times-append}
 use Rattle.ordered.proofs.Moves.{numbersSeq}
 use Rattle.ordered.proofs.Bools.{true-not-false}
 use Rattle.occurrences.specs.Occurrences.{found, listed, rowsFor, ruleRows, allRows, occurrenceRows}
-use Rattle.occurrences.specs.Sight.{Place, In, Rule, moduleRules, Spot, ruleSpots}
-use Rattle.occurrences.proofs.Counting.{in-times, distinct-times, ruleNumbers, rule-nodes-once, rule-nodes-small}
-use Rattle.occurrences.proofs.Listing.{spotOf, spotsOf, placesOf, Occurs, RowsOf, end, put, pass, RuleRows, AllRows, noRule, rule}
-use Rattle.occurrences.proofs.Members.{in-left, in-right, in-split, Distinct, pigeonhole}
-use Rattle.occurrences.proofs.Spots.{owners, ordered, owners-once}
-use Rattle.occurrences.proofs.WholeModule.{WalkOf, var-is-occurrence}
+use Rattle.sight.specs.Sight.{Place, In}
+use Rattle.occurrences.specs.Rules.{Rule, moduleRules}
+use Rattle.occurrences.specs.Spots.{Spot, ruleSpots}
+use Rattle.sight.proofs.Counting.{in-times, distinct-times, ruleNumbers, rule-nodes-once, rule-nodes-small}
+use Rattle.sight.proofs.Listing.{spotOf, spotsOf, placesOf, Occurs, RowsOf, end, put, pass, RuleRows, AllRows, noRule, rule}
+use Rattle.sight.proofs.Members.{in-left, in-right, in-split, Distinct, pigeonhole}
+use Rattle.occurrences.proofs.Few.{owners}
+use Rattle.sight.proofs.Spots.{ordered, owners-once}
+use Rattle.sight.proofs.WholeModule.{WalkOf, var-is-occurrence}
 
 lefts-append : (ws vs : List Row) → lefts (ws ++ vs) ≡ lefts ws ++ lefts vs
 unfolding lefts

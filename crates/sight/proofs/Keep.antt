@@ -11,10 +11,10 @@ use Rattle.table.specs.State.{Exit, introduce}
 use Rattle.table.specs.Table.{lookup, isKind, isValue, mark}
 use Rattle.ordered.specs.Walk.{Role, defines, walkIdent}
 use Rattle.ordered.proofs.Bools.{true-not-false}
-use Rattle.occurrences.specs.Sight.{Sort, defined, Place, add, opened, In, Within}
-use Rattle.occurrences.proofs.Members.{in-left, in-right}
-use Rattle.occurrences.proofs.Flat.{limit, Adds, Visible, Hit, bind, bind-hit, bind-miss, bind-cong}
-use Rattle.occurrences.proofs.Steps.{State, Simple, occur, declare, apply, role, sort, placing, Steps, stay, next, marks, places, fixes, drops}
+use Rattle.sight.specs.Sight.{Sort, defined, Place, add, opened, In, Within}
+use Rattle.sight.proofs.Members.{in-left, in-right}
+use Rattle.sight.proofs.Flat.{limit, Adds, Visible, Hit, bind, bind-hit, bind-miss, bind-cong}
+use Rattle.sight.proofs.Steps.{State, Simple, occur, declare, apply, role, sort, placing, Steps, stay, next, marks, places, fixes, drops}
 
 module _ (img : List ℕ) (outer : ℕ → Option ℕ) where
   -- the binding of x as seen from below the blocks and cases b, among the places numbered below lim

@@ -25,13 +25,14 @@ use Rattle.ordered.proofs.Kept.{mark-kept, scope-kept}
 use Rattle.ordered.proofs.Moves.{numbersSeq, rises}
 use Rattle.scopes.proofs.Adds.{and-inv}
 use Rattle.scopes.proofs.Resolving.{none-kept}
-use Rattle.occurrences.specs.Sight.{Place, In, rulePlaces, Rule, saysAll, rulesAll, orElse, Naming, Occurrence, Same, outerConst}
-use Rattle.occurrences.proofs.Members.{in-left, in-right, in-split, Distinct, distinct-left, distinct-right, distinct-apart}
-use Rattle.occurrences.proofs.Frame.{Bounds, Later, later-next, lookup-child, lookup-root, mark-parent, mark-exit, child-parent, child-parent-other, child-empty, child-exit}
-use Rattle.occurrences.proofs.Steps.{Bodies}
-use Rattle.occurrences.proofs.Moves.{walks-seq, framed}
-use Rattle.occurrences.proofs.Lists.{enteredAll, visitedAll, moduleNumbers, Decls, stays, Entered, entering, entersAll, Visits, idle, after, walks, ruled, nested, visitsAll, kind-orElse}
-use Rattle.occurrences.proofs.OneRule.{Walked, place-node, occurrences, bindings, introducing}
+use Rattle.sight.specs.Sight.{Place, In, rulePlaces, Naming, Occurrence, Same, outerConst}
+use Rattle.occurrences.specs.Rules.{Rule, saysAll, rulesAll, orElse}
+use Rattle.sight.proofs.Members.{in-left, in-right, in-split, Distinct, distinct-left, distinct-right, distinct-apart}
+use Rattle.sight.proofs.Frame.{Bounds, Later, later-next, lookup-child, lookup-root, mark-parent, mark-exit, child-parent, child-parent-other, child-empty, child-exit}
+use Rattle.sight.proofs.Steps.{Bodies}
+use Rattle.sight.proofs.Moves.{walks-seq, framed}
+use Rattle.sight.proofs.Lists.{enteredAll, visitedAll, moduleNumbers, Decls, stays, Entered, entering, entersAll, Visits, idle, after, walks, ruled, nested, visitsAll, kind-orElse}
+use Rattle.sight.proofs.OneRule.{Walked, place-node, occurrences, bindings, introducing}
 
 module _ (img : List ℕ) where
   -- visiting makes scopes and symbols, and comes back to its scope

@@ -13,9 +13,9 @@ use Rattle.ordered.specs.Kept.{Kept}
 use Rattle.ordered.specs.Walk.{occurs, walkSeq}
 use Rattle.ordered.proofs.Kept.{mark-kept}
 use Rattle.ordered.proofs.Moves.{numbersSeq, Moves, stay, next, marks, adds, drops, rises, seq-moves}
-use Rattle.occurrences.specs.Sight.{In}
-use Rattle.occurrences.proofs.Members.{in-left, in-right}
-use Rattle.occurrences.proofs.Frame.{Bounds, Later, later-next, mark-lookup, mark-exit, new-lookup-old, new-exit, new-kept}
+use Rattle.sight.specs.Sight.{In}
+use Rattle.sight.proofs.Members.{in-left, in-right}
+use Rattle.sight.proofs.Frame.{Bounds, Later, later-next, mark-lookup, mark-exit, new-lookup-old, new-exit, new-kept}
 
 abbrev Any : {A : Type 0} → A → Type 0
 Any a = Unit {0}

@@ -20,8 +20,8 @@ use Rattle.ast.proofs.Unfold.{All, nil, cons, All-append, All-split, All-map, n
 use Rattle.ast.proofs.Shapes.{termKinds, headKinds}
 use Rattle.ast.proofs.Vars.{PlainVar, named, wildcard, Each, AfterFirst, PlainAt, every-kind, vars-at, and-both}
 use Rattle.ordered.proofs.Bools.{is-false}
-use Rattle.occurrences.proofs.Steps.{IdentOnly, VarTerm, VarTerms, Idents, Body, Bodies, Members, Defines}
-use Rattle.occurrences.proofs.Lists.{NoVar, Decl, Decls}
+use Rattle.sight.proofs.Steps.{IdentOnly, VarTerm, VarTerms, Idents, Body, Bodies, Members, Defines}
+use Rattle.sight.proofs.Lists.{NoVar, Decl, Decls}
 
 -- what stands in a rule body: no declaration, no argument list, and an IdentTerm only where its parent looks for it
 bodyClass : Class → Bool

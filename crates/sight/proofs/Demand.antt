@@ -23,14 +23,15 @@ use Rattle.ast.proofs.Accepted.{both}
 use Rattle.scopes.proofs.Declaring.{twice-exactly}
 use Rattle.table.specs.State.{Exit}
 use Rattle.table.specs.Table.{lookup, exitAt}
 use Rattle.occurrences.specs.Occurrences.{occurrences}
-use Rattle.occurrences.specs.Sight.{Place, In, Rule, moduleRules, outerConst, Same}
-use Rattle.occurrences.proofs.Leaving.{answered, list-few, lists-all, lists-once, row-of, row-kinds, same-bindings}
-use Rattle.occurrences.proofs.Listing.{placesOf, Occurs, AllRows}
-use Rattle.occurrences.proofs.Members.{Distinct}
-use Rattle.occurrences.proofs.Resolving.{tableOf}
-use Rattle.occurrences.proofs.Written.{rowsIn}
-use Rattle.occurrences.proofs.Single.{single-done}
+use Rattle.sight.specs.Sight.{Place, In, outerConst, Same}
+use Rattle.occurrences.specs.Rules.{Rule, moduleRules}
+use Rattle.sight.proofs.Leaving.{answered, list-few, lists-all, lists-once, row-of, row-kinds, same-bindings}
+use Rattle.sight.proofs.Listing.{placesOf, Occurs, AllRows}
+use Rattle.sight.proofs.Members.{Distinct}
+use Rattle.sight.proofs.Resolving.{tableOf}
+use Rattle.sight.proofs.Written.{rowsIn}
+use Rattle.sight.proofs.Single.{single-done}
 
 module _ (img tab rows : List ℕ) where
   -- what the call leaves: its answer, the table's words and the rows' words

@@ -16,12 +16,13 @@ use Rattle.table.specs.State.{Exit, introduce}
 use Rattle.table.specs.Table.{Table, lookup, isKind, mark, exitAt}
 use Rattle.ordered.specs.Kept.{Kept as KeptTable}
 use Rattle.ordered.proofs.Kept.{mark-kept}
-use Rattle.occurrences.specs.Sight.{Sort, defined, Place, add, opened, In, Within, orElse, own}
-use Rattle.occurrences.proofs.Flat.{limitOf, Sorted, Chain}
-use Rattle.occurrences.proofs.Frame.{Bounds, Later, later-next, mark-lookup, mark-exit, mark-exit-same, new-lookup, new-lookup-old, new-exit, new-kept}
-use Rattle.occurrences.proofs.Keep.{bound, adds, hits, bound-hit, bound-miss, bound-cong, Choice, choice, choice-defined, New, Kept, kept, keptPlace}
-use Rattle.occurrences.proofs.Members.{in-left, in-right, Distinct, distinct-left, distinct-right, distinct-apart}
-use Rattle.occurrences.proofs.Steps.{State, Simple, occur, declare, apply, role, sort, marking, placing, opening, closing, Steps, stay, next, marks, places, fixes, drops}
+use Rattle.sight.specs.Sight.{Sort, defined, Place, add, opened, In, Within}
+use Rattle.occurrences.specs.Rules.{orElse, own}
+use Rattle.sight.proofs.Flat.{limitOf, Sorted, Chain}
+use Rattle.sight.proofs.Frame.{Bounds, Later, later-next, mark-lookup, mark-exit, mark-exit-same, new-lookup, new-lookup-old, new-exit, new-kept}
+use Rattle.sight.proofs.Keep.{bound, adds, hits, bound-hit, bound-miss, bound-cong, Choice, choice, choice-defined, New, Kept, kept, keptPlace}
+use Rattle.sight.proofs.Members.{in-left, in-right, Distinct, distinct-left, distinct-right, distinct-apart}
+use Rattle.sight.proofs.Steps.{State, Simple, occur, declare, apply, role, sort, marking, placing, opening, closing, Steps, stay, next, marks, places, fixes, drops}
 
 abbrev at-eq : {p q : Place} → p ≡ q → p .at ≡ q .at
 at-eq e = ap (λ (z : Place). z .at) e

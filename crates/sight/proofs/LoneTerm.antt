@@ -11,12 +11,13 @@ use borrow.Author.Tests.{eq-eqb, leb-false}
 use Rattle.ast.specs.Image.{kindAt, nameOf}
 use Rattle.rows.specs.Rows.{Row, row}
 use Rattle.table.specs.Table.{Table, isKind}
 use Rattle.occurrences.specs.Occurrences.{ruleRows, timesBound, loneIn, lone, rowsByRule}
-use Rattle.occurrences.specs.Sight.{Sort, ordinary, declared, applied, defined, Place, In, Rule, outerConst, Names, Naming}
-use Rattle.occurrences.proofs.Listing.{placesOf, Occurs}
-use Rattle.occurrences.proofs.RowLaws.{bindingOf, rows-only, rows-all, rule-rows}
-use Rattle.occurrences.proofs.Spots.{ownerKind, ordered}
-use Rattle.occurrences.proofs.WholeModule.{WalkOf, var-is-occurrence, from-naming}
+use Rattle.sight.specs.Sight.{Sort, ordinary, declared, applied, defined, Place, In, outerConst, Names, Naming}
+use Rattle.occurrences.specs.Rules.{Rule}
+use Rattle.sight.proofs.Listing.{placesOf, Occurs}
+use Rattle.sight.proofs.RowLaws.{bindingOf, rows-only, rows-all, rule-rows}
+use Rattle.sight.proofs.Spots.{ownerKind, ordered}
+use Rattle.sight.proofs.WholeModule.{WalkOf, var-is-occurrence, from-naming}
 
 bound-in : (b : ℕ) (w : Row) (ws : List Row) → In w ws → w .right ≡ b → 1 ≤ timesBound b ws
 unfolding timesBound

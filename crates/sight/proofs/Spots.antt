@@ -10,20 +10,13 @@ use Rattle.ast.specs.Tests.{is, times}
 use Rattle.ast.specs.Tree.{Tree, node, block, Trees, none, _◂_}
 use Rattle.ast.proofs.Count.{times-append}
 use Rattle.ordered.proofs.Moves.{numbers, numbersSeq}
-use Rattle.occurrences.specs.Sight.{Sort, ordinary, declared, applied, defined, Place, Met, add, opened, place, placeSeq, placeThen, placeFirst, rulePlaces, Spot, spots, spotsSeq, spotsBack, spotsFirst, ruleSpots, In}
-use Rattle.occurrences.proofs.Members.{in-left, in-right, in-split}
-use Rattle.occurrences.proofs.Flat.{limitOf}
-use Rattle.occurrences.proofs.Steps.{Simple, occur, declare, apply, sort, IdentOnly, VarTerm, VarTerms, Body, Bodies, Members, Defines}
-use Rattle.occurrences.proofs.Listing.{InTermSort, Ahead, InOrder, spotOf, spotsOf}
-
--- the nodes of spots
-abbrev pub owners : List Spot → List ℕ
-owners [] = []
-owners (s ∷ l) = s .node ∷ owners l
-
-pub owners-join : (l k : List Spot) → owners (l ++ k) ≡ owners l ++ owners k
-owners-join [] k = refl
-owners-join (s ∷ l) k = ap (λ (ns : List ℕ). s .node ∷ ns) (owners-join l k)
+use Rattle.sight.specs.Sight.{Sort, ordinary, declared, applied, defined, Place, Met, add, opened, place, placeSeq, placeThen, placeFirst, rulePlaces, In}
+use Rattle.occurrences.specs.Spots.{Spot, spots, spotsSeq, spotsBack, spotsFirst, ruleSpots}
+use Rattle.occurrences.proofs.Few.{owners, owners-join}
+use Rattle.sight.proofs.Members.{in-left, in-right, in-split}
+use Rattle.sight.proofs.Flat.{limitOf}
+use Rattle.sight.proofs.Steps.{Simple, occur, declare, apply, sort, IdentOnly, VarTerm, VarTerms, Body, Bodies, Members, Defines}
+use Rattle.sight.proofs.Listing.{InTermSort, Ahead, InOrder, spotOf, spotsOf}
 
 spotsOf-join : (ps qs : List Place) → spotsOf (ps ++ qs) ≡ spotsOf ps ++ spotsOf qs
 spotsOf-join [] qs = refl

@@ -11,7 +11,7 @@ use Rattle.table.specs.State.{Exit, back}
 use Rattle.table.specs.Table.{mark}
 use Rattle.ordered.specs.Walk.{Role, occurs, declares, names, defines, walkIdent, walk, walkSeq, walkFirst}
 use Rattle.ordered.proofs.Moves.{numbers, numbersSeq}
-use Rattle.occurrences.specs.Sight.{Sort, ordinary, declared, applied, defined, Met, add, opened, place, placeSeq, placeThen, placeFirst}
+use Rattle.sight.specs.Sight.{Sort, ordinary, declared, applied, defined, Met, add, opened, place, placeSeq, placeThen, placeFirst}
 
 -- where the walk stands, and the places met so far
 pub record State : Type 0 where

@@ -14,10 +14,10 @@ use Rattle.scopes.specs.Resolve.{zeroed, walked, headed}
 use Rattle.scopes.specs.Walk.{done, resolveTree}
 use Rattle.scopes.proofs.Headed.{headed-lookup}
 use Rattle.scopes.proofs.Resolving.{Ended, walk-ended, zeroed-long, headed-symbols}
-use Rattle.occurrences.specs.Sight.{Rule, moduleRules}
-use Rattle.occurrences.proofs.Verdict.{root-of}
-use Rattle.occurrences.proofs.WholeModule.{Resolved, resolves}
-use Rattle.occurrences.proofs.Counting.{module-small, module-distinct, rules-are}
+use Rattle.occurrences.specs.Rules.{Rule, moduleRules}
+use Rattle.sight.proofs.Verdict.{root-of}
+use Rattle.sight.proofs.WholeModule.{Resolved, resolves}
+use Rattle.sight.proofs.Counting.{module-small, module-distinct, rules-are}
 
 -- the words that a call leaves, as Lookup reads them
 abbrev pub tableOf : List ℕ → List ℕ → Table

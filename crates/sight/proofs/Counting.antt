@@ -12,10 +12,11 @@ use Rattle.ast.specs.Tests.{is, times, verdict}
 use Rattle.ast.specs.Tree.{Tree, node, block, Trees, none, _◂_, treeAt}
 use Rattle.ast.proofs.Count.{nodesOf, nodesAll, is-same, times-append, once, nothing-else}
 use Rattle.ordered.proofs.Moves.{numbers, numbersSeq}
-use Rattle.occurrences.specs.Sight.{In, Rule, orElse, saysAll, rules, rulesAll, rulesOf, moduleRules}
-use Rattle.occurrences.proofs.Members.{Distinct}
-use Rattle.occurrences.proofs.Lists.{entered, enteredAll, visited, visitedAll, moduleNumbers}
-use Rattle.occurrences.proofs.Verdict.{root-of}
+use Rattle.sight.specs.Sight.{In}
+use Rattle.occurrences.specs.Rules.{Rule, orElse, saysAll, rules, rulesAll, rulesOf, moduleRules}
+use Rattle.sight.proofs.Members.{Distinct}
+use Rattle.sight.proofs.Lists.{entered, enteredAll, visited, visitedAll, moduleNumbers}
+use Rattle.sight.proofs.Verdict.{root-of}
 
 -- members and distinct numbers, by how often a number stands in a list
 pub in-times : (v : ℕ) (xs : List ℕ) → In v xs → 1 ≤ times v xs

@@ -1,0 +1,1 @@
+// The third demand: occurrences and bindings by sight, in specs/ and proofs/. No code stands on it.
