@@ -15,7 +15,4 @@ pub mod Parts
 pub mod Runs
 pub mod Whole
 pub mod Names
-pub mod NameParts
-pub mod ImageAnswers
-pub mod TestCases
 pub mod Kids

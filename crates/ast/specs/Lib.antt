@@ -3,12 +3,10 @@ pub mod Kinds
 pub mod Rows
 pub mod Tree
 pub mod Items
-pub mod RowShapes
+pub mod Location
 pub mod Is
 pub mod Tests
 pub mod Scan
 pub mod Parts
 pub mod Names
-pub mod Name
 pub mod Answer
-pub mod ImageAnswer

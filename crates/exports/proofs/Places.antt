@@ -5,11 +5,11 @@ use Prim.Native.Nat.{ℕ, _<_}
 use native.Mathlib.Decide.{decLt}
 use native.Mathlib.Omega.{arith}
 use Rattle.ast.specs.Image.{names}
-use Rattle.ast.specs.Name.{namePlace}
+use Rattle.names.specs.Name.{namePlace}
 use Rattle.ast.specs.Tests.{verdict}
-use Rattle.ast.specs.declared.NamePlace.{NamePlace}
+use Rattle.names.specs.declared.NamePlace.{NamePlace}
 use Rattle.ast.proofs.Accepted.{named, name-in, sized}
-use Rattle.ast.proofs.NameParts.{place-refused, place-beyond, place-is}
+use Rattle.names.proofs.NameParts.{place-refused, place-beyond, place-is}
 
 abbrev pub SmallPlace : NamePlace → Type 0
 SmallPlace p = (p .start < 65536) × (p .len < 65536)

@@ -3,7 +3,7 @@ use mathlib.Core.Path.{_≡_}
 use mathlib.Core.List.{List}
 use Prim.Native.Nat.{ℕ, _+_, _*_, _<_}
 use Rattle.ast.specs.Answer.{Answer, refused, twice, result, other}
-use Rattle.ast.specs.declared.NamePlace.{NamePlace}
+use Rattle.names.specs.declared.NamePlace.{NamePlace}
 use Rattle.scopes.specs.Resolve as resolving
 use Rattle.scopes.specs.Rows.{Outcome}
 

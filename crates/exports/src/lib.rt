@@ -1,7 +1,7 @@
 // The C interface: the public calls, each with its answer packed in one number.
 ghost use mathlib.Core.Path.{_≡_};
 ghost use Prim.Native.Nat.{_≤_};
-ghost use Rattle.ast.specs.Name.{namePlace};
+ghost use Rattle.names.specs.Name.{namePlace};
 ghost use Rattle.scopes.specs.Answers.{resolvedAnswer, lookedAnswer};
 ghost use Rattle.scopes.specs.Resolve.{resolve};
 ghost use Rattle.scopes.specs.Lookup.{lookupCall};
@@ -126,6 +126,6 @@ pub extern "C" fn eqlog_occurrences(image: &[u8], table: &mut [u32], rows: &mut 
 pub extern "C" fn eqlog_name(image: &[u8], name: u32) -> u64
     ensures { λ r. ⌜ r ≡ placed (namePlace (now (image .entry)) name) ⌝ }
 {
-    let p = ast::name_place(image, name);
+    let p = names::name_place(image, name);
     (p.start as u64) * 4294967296 + (p.len as u64)
 }

@@ -415,7 +415,7 @@ pub fn resolve_into(image: &[u8], table: &mut [u32]) -> Resolved
 pub fn test_table(image: &[u8], table: &[u32]) -> u32
     ensures { λ r. ⌜ r ≡ testTable (now (image .entry)) (now (table .entry)) ⌝ }
 {
-    let code = ast::verdict(image);
+    let code = tests::verdict(image);
     if code != 0 {
         return code;
     }

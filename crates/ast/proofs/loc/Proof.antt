@@ -2,7 +2,7 @@ use mathlib.Core.Path.{ap, ap₂, _∙_}
 use Prim.Native.Nat.{ℕ}
 use native.Mathlib.Omega.{arith}
 use Rattle.ast.specs.Image.{opAt}
-use Rattle.ast.specs.RowShapes.{locationOf}
+use Rattle.ast.specs.Location.{locationOf}
 use Rattle.ast.specs.declared.Location.{Location}
 use Rattle.ast.proofs.loc.Statement.{statement}
 use Rattle.ast.proofs.loc.Tie as tie

@@ -1,0 +1,1 @@
+// The image tests and Name, computed: a damaged image for each refusal, in proofs/.
