@@ -10,3 +10,4 @@ pub mod Scan
 pub mod Parts
 pub mod Names
 pub mod Answer
+pub mod Rules

@@ -28,7 +28,7 @@ use Rattle.scopes.proofs.Resolving.{Ways, refuses, stops, fills, ways, refuses-
 use Rattle.bindings.specs.Errors.{errorRows, testErrors, errorsOf, errors}
 use Rattle.bindings.proofs.Few as errors-few
 use Rattle.occurrences.specs.Occurrences.{occurrenceRows, lone, rowsByRule, onceAnswer, occurrencesOf, occurrences, onceOf, once}
-use Rattle.occurrences.specs.Rules.{moduleRules}
+use Rattle.ast.specs.Rules.{moduleRules}
 use Rattle.occurrences.proofs.CollectLone.{climb-low}
 use Rattle.occurrences.proofs.Few as occurrences-few
 use Rattle.exports.specs.Packed.{Fits}

@@ -24,7 +24,7 @@ use Rattle.scopes.proofs.Resolving.{Ways, refuses, stops, fills, ways, refuses-
 use Rattle.scopes.proofs.Namings.{symbol-below}
 use Rattle.scopes.proofs.Headed.{headed-lookup, headed-exit, headed-sorted}
 use Rattle.occurrences.specs.Spots.{Spot}
-use Rattle.occurrences.specs.Rules.{moduleRules}
+use Rattle.ast.specs.Rules.{moduleRules}
 use Rattle.occurrences.specs.Occurrences.{found, occurrenceRows, lone, rowsByRule, onceAnswer, occurrencesOf, occurrences, onceOf, once}
 use Rattle.occurrences.specs.Collect.{sought, Whole, Nodes}
 use Rattle.occurrences.proofs.Few.{rows-few}

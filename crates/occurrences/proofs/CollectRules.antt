@@ -23,7 +23,7 @@ use Rattle.rows.specs.Rows.{Row, Appended}
 use Rattle.scopes.proofs.Rooting.{root-is}
 use Rattle.rows.proofs.Parts.{Left, left-start, left-next, left-end}
 use Rattle.occurrences.specs.Spots.{Spot, spots, spotsSeq, ruleSpots}
-use Rattle.occurrences.specs.Rules.{Rule, rules, rulesAll, rulesOf, moduleRules}
+use Rattle.ast.specs.Rules.{Rule, rules, rulesAll, rulesOf, moduleRules}
 use Rattle.occurrences.specs.Occurrences.{found, listed, rowsFor, ruleRows, allRows, occurrenceRows, rowsByRule}
 use Rattle.occurrences.specs.Collect.{rowsAt, joined, listsIn, listsAt, Run, Listing, ListingRun, Whole}
 use Rattle.occurrences.proofs.CollectRows.{bare, rows-append, owner}

@@ -18,7 +18,7 @@ use Rattle.ast.proofs.Unfold.{All, nil, cons, All-append, All-split}
 use Rattle.table.specs.Table.{Table, lookup, exitAt}
 use Rattle.rows.specs.Rows.{Row, row}
 use Rattle.occurrences.specs.Spots.{Spot, spots, spotsSeq, spotsBack, spotsFirst, ruleSpots}
-use Rattle.occurrences.specs.Rules.{Rule, orElse, saysAll, rules, rulesAll, rulesOf, moduleRules}
+use Rattle.ast.specs.Rules.{Rule, orElse, saysAll, rules, rulesAll, rulesOf, moduleRules}
 use Rattle.occurrences.specs.Occurrences.{found, listed, rowsFor, ruleRows, allRows, occurrenceRows, loneIn, lone, rowsByRule, timesBound}
 use Rattle.occurrences.specs.Collect.{Nodes}
 use Rattle.occurrences.proofs.CollectLone.{climb-low}

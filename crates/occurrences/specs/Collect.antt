@@ -18,7 +18,7 @@ use Rattle.table.specs.Table.{Table}
 use Rattle.table.specs.Rows.{nodeAt, Sorted}
 use Rattle.rows.specs.Rows.{Row, row, rowsLength}
 use Rattle.occurrences.specs.Spots.{Spot, spots, spotsSeq}
-use Rattle.occurrences.specs.Rules.{rules, rulesAll}
+use Rattle.ast.specs.Rules.{rules, rulesAll}
 use Rattle.occurrences.specs.Occurrences.{rowsFor, occurrenceRows, lone, rowsByRule}
 use Rattle.occurrences.specs.declared.Checked.{Checked}
 use Rattle.occurrences.specs.declared.Checked.the-variants.{Ok, Lone}

@@ -1,5 +1,4 @@
 pub mod Spots
-pub mod Rules
 pub mod Occurrences
 pub mod Collect
 pub mod Answers

@@ -15,7 +15,7 @@ use Rattle.scopes.specs.Resolve as resolving
 use Rattle.rows.specs.Rows.{Row, row, written}
 use Rattle.scopes.specs.Rows.{testRows, Outcome}
 use Rattle.occurrences.specs.Spots.{Spot, ruleSpots}
-use Rattle.occurrences.specs.Rules.{Rule, moduleRules}
+use Rattle.ast.specs.Rules.{Rule, moduleRules}
 
 module _ (img : List ℕ) (t : Table) where
   -- the binding: what lookup of its name gives, in the table, at the exit of the occurrence's node

@@ -9,7 +9,7 @@ ghost use Rattle.table.specs.Rows.{Sorted};
 ghost use Rattle.table.specs.Values.{optionOf};
 ghost use Rattle.rows.specs.Rows.{rights, rowsLength, written, Appended};
 ghost use Rattle.scopes.specs.Rows.{testRows};
-ghost use Rattle.occurrences.specs.Rules.{moduleRules};
+ghost use Rattle.ast.specs.Rules.{moduleRules};
 ghost use Rattle.occurrences.specs.Answers.{listedAnswer, checkedAnswer};
 ghost use Rattle.occurrences.specs.Occurrences as «occurrences-spec»;
 ghost use Rattle.occurrences.specs.Occurrences.{found, occurrenceRows, lone, rowsByRule};

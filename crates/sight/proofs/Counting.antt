@@ -13,7 +13,7 @@ use Rattle.ast.specs.Tree.{Tree, node, block, Trees, none, _◂_, treeAt}
 use Rattle.ast.proofs.Count.{nodesOf, nodesAll, is-same, times-append, once, nothing-else}
 use Rattle.ordered.proofs.Moves.{numbers, numbersSeq}
 use Rattle.sight.specs.Sight.{In}
-use Rattle.occurrences.specs.Rules.{Rule, orElse, saysAll, rules, rulesAll, rulesOf, moduleRules}
+use Rattle.ast.specs.Rules.{Rule, orElse, saysAll, rules, rulesAll, rulesOf, moduleRules}
 use Rattle.sight.proofs.Members.{Distinct}
 use Rattle.sight.proofs.Lists.{entered, enteredAll, visited, visitedAll, moduleNumbers}
 use Rattle.sight.proofs.Verdict.{root-of}

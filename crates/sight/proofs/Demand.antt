@@ -25,7 +25,7 @@ use Rattle.table.specs.State.{Exit}
 use Rattle.table.specs.Table.{lookup, exitAt}
 use Rattle.occurrences.specs.Occurrences.{occurrences}
 use Rattle.sight.specs.Sight.{Place, In, outerConst, Same}
-use Rattle.occurrences.specs.Rules.{Rule, moduleRules}
+use Rattle.ast.specs.Rules.{Rule, moduleRules}
 use Rattle.sight.proofs.Leaving.{answered, list-few, lists-all, lists-once, row-of, row-kinds, same-bindings}
 use Rattle.sight.proofs.Listing.{placesOf, Occurs, AllRows}
 use Rattle.sight.proofs.Members.{Distinct}

@@ -23,7 +23,7 @@ use Rattle.ordered.specs.Kept.{Kept}
 use Rattle.ordered.proofs.Agreed.{through, above, above-cong, Agree, lookup-agree}
 use Rattle.ordered.proofs.Kept.{mark-word, scope-word, symbol-word, scope-kept, symbol-kept}
 use Rattle.sight.specs.Sight.{In}
-use Rattle.occurrences.specs.Rules.{orElse, own}
+use Rattle.ast.specs.Rules.{orElse, own}
 use Rattle.sight.proofs.Members.{in-left, in-right}
 
 pub orElse-none : (u : Option ℕ) → orElse u none ≡ u

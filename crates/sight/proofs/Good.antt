@@ -17,7 +17,7 @@ use Rattle.table.specs.Table.{Table, lookup, isKind, mark, exitAt}
 use Rattle.ordered.specs.Kept.{Kept as KeptTable}
 use Rattle.ordered.proofs.Kept.{mark-kept}
 use Rattle.sight.specs.Sight.{Sort, defined, Place, add, opened, In, Within}
-use Rattle.occurrences.specs.Rules.{orElse, own}
+use Rattle.ast.specs.Rules.{orElse, own}
 use Rattle.sight.proofs.Flat.{limitOf, Sorted, Chain}
 use Rattle.sight.proofs.Frame.{Bounds, Later, later-next, mark-lookup, mark-exit, mark-exit-same, new-lookup, new-lookup-old, new-exit, new-kept}
 use Rattle.sight.proofs.Keep.{bound, adds, hits, bound-hit, bound-miss, bound-cong, Choice, choice, choice-defined, New, Kept, kept, keptPlace}

@@ -20,7 +20,7 @@ use Rattle.ast.proofs.Accepted.{both}
 use Rattle.scopes.proofs.Headed.{headed-exit}
 use Rattle.occurrences.specs.Occurrences.{occurrenceRows, occurrencesOf, occurrences}
 use Rattle.sight.specs.Sight.{Sort, ordinary, declared, applied, defined, Place, In, outerConst, Same}
-use Rattle.occurrences.specs.Rules.{Rule, moduleRules}
+use Rattle.ast.specs.Rules.{Rule, moduleRules}
 use Rattle.sight.proofs.Listing.{placesOf, Occurs, AllRows}
 use Rattle.sight.proofs.Members.{Distinct}
 use Rattle.sight.proofs.Resolving.{tableOf, resolved, left-lookup}

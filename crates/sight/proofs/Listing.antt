@@ -10,7 +10,7 @@ use Rattle.ast.specs.Image.{nameOf}
 use Rattle.rows.specs.Rows.{Row, row}
 use Rattle.sight.specs.Sight.{Sort, ordinary, declared, applied, defined, Place, In, rulePlaces, outerConst, Occurrence}
 use Rattle.occurrences.specs.Spots.{Spot}
-use Rattle.occurrences.specs.Rules.{Rule}
+use Rattle.ast.specs.Rules.{Rule}
 
 -- q stands in the term of the defined-then whose variable is d: the term's places are numbered from the atom's start on,
 -- and the variable's after them

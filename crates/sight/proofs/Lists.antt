@@ -21,7 +21,7 @@ use Rattle.ordered.proofs.Kept.{mark-kept, symbol-kept}
 use Rattle.ordered.proofs.Moves.{numbersSeq}
 use Rattle.scopes.proofs.Adds.{named, done-same, twice-done, and-inv}
 use Rattle.sight.specs.Sight.{In}
-use Rattle.occurrences.specs.Rules.{orElse, own, ruleOwn, Rule, says, saysAll, rules, rulesAll}
+use Rattle.ast.specs.Rules.{orElse, own, ruleOwn, Rule, says, saysAll, rules, rulesAll}
 use Rattle.sight.proofs.Members.{in-left, in-right}
 use Rattle.sight.proofs.Frame.{orElse-none, name-find-other, name-find, name-parent, name-exit, mark-parent, mark-exit}
 use Rattle.sight.proofs.Steps.{Bodies}

@@ -14,7 +14,7 @@ use Rattle.scopes.specs.Resolve.{zeroed, walked, headed}
 use Rattle.scopes.specs.Walk.{done, resolveTree}
 use Rattle.scopes.proofs.Headed.{headed-lookup}
 use Rattle.scopes.proofs.Resolving.{Ended, walk-ended, zeroed-long, headed-symbols}
-use Rattle.occurrences.specs.Rules.{Rule, moduleRules}
+use Rattle.ast.specs.Rules.{Rule, moduleRules}
 use Rattle.sight.proofs.Verdict.{root-of}
 use Rattle.sight.proofs.WholeModule.{Resolved, resolves}
 use Rattle.sight.proofs.Counting.{module-small, module-distinct, rules-are}

@@ -18,7 +18,7 @@ use Rattle.ordered.proofs.Moves.{numbersSeq}
 use Rattle.ordered.proofs.Bools.{true-not-false}
 use Rattle.occurrences.specs.Occurrences.{found, listed, rowsFor, ruleRows, allRows, occurrenceRows}
 use Rattle.sight.specs.Sight.{Place, In}
-use Rattle.occurrences.specs.Rules.{Rule, moduleRules}
+use Rattle.ast.specs.Rules.{Rule, moduleRules}
 use Rattle.occurrences.specs.Spots.{Spot, ruleSpots}
 use Rattle.sight.proofs.Counting.{in-times, distinct-times, ruleNumbers, rule-nodes-once, rule-nodes-small}
 use Rattle.sight.proofs.Listing.{spotOf, spotsOf, placesOf, Occurs, RowsOf, end, put, pass, RuleRows, AllRows, noRule, rule}

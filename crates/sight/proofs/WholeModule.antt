@@ -26,7 +26,7 @@ use Rattle.ordered.proofs.Moves.{numbersSeq, rises}
 use Rattle.scopes.proofs.Adds.{and-inv}
 use Rattle.scopes.proofs.Resolving.{none-kept}
 use Rattle.sight.specs.Sight.{Place, In, rulePlaces, Naming, Occurrence, Same, outerConst}
-use Rattle.occurrences.specs.Rules.{Rule, saysAll, rulesAll, orElse}
+use Rattle.ast.specs.Rules.{Rule, saysAll, rulesAll, orElse}
 use Rattle.sight.proofs.Members.{in-left, in-right, in-split, Distinct, distinct-left, distinct-right, distinct-apart}
 use Rattle.sight.proofs.Frame.{Bounds, Later, later-next, lookup-child, lookup-root, mark-parent, mark-exit, child-parent, child-parent-other, child-empty, child-exit}
 use Rattle.sight.proofs.Steps.{Bodies}

@@ -10,7 +10,7 @@ use lib.Dec.{eqb}
 use Rattle.ast.specs.Image.{kindAt}
 use Rattle.ast.specs.Kinds.{outer, inner, plain, term, ident, head, headMember, member, branch, match, case, ifVar, definedThen, arg}
 use Rattle.ast.specs.Tree.{Tree, node, block, Trees, none, _◂_}
-use Rattle.occurrences.specs.Rules.{Rule}
+use Rattle.ast.specs.Rules.{Rule}
 
 -- what an IdentTerm is at its place: an ordinary ident term, an if-var ident, an app head's ident, or a defined-then
 -- variable, with the number that was next where its atom starts
