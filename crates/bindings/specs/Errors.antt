@@ -11,31 +11,19 @@ use Rattle.ast.specs.Tests.{_▸_, need}
 use Rattle.ast.specs.Tree.{Tree, node, block, Trees, none, _◂_, treeAt}
 use Rattle.ast.specs.Rows.{opsFrom}
 use Rattle.ast.specs.Answer.{Answer, refused, twice as twiceAnswer, result}
-use Rattle.error.specs.Kinds.{introducedInThen, definedNotNew, patternNotFresh, repeatedArgument}
+use Rattle.error.specs.Kinds.{introducedInThen, definedNotNew, patternNotFresh, repeatedArgument, asked}
 use Rattle.table.specs.Table.{Table, lookup, isKind, isVar, entryAt, exitAt}
 use Rattle.table.specs.State.{Exit}
 use Rattle.scopes.specs.Walk.{Listed, done, twice}
 use Rattle.scopes.specs.Resolve.{zeroed, walked, headed}
 use Rattle.scopes.specs.Twice.{among}
-use Rattle.rows.specs.Rows.{Row, row, written}
+use Rattle.rows.specs.Rows.{Row, row, when, written}
 use Rattle.scopes.specs.Rows.{testRows, Outcome}
-
-unfoldable pub when : Bool → Row → List Row
-when true w = w ∷ []
-when false w = []
 
 unfoldable pub sameNode : Option ℕ → Option ℕ → Bool
 sameNode nothing o = false
 sameNode (some a) nothing = false
 sameNode (some a) (some b) = eqb a b
-
--- below a then-atom rows of number 1 are asked for, and not below Dom, Cod or a predicate's receiver
-unfoldable pub asked : ℕ → Bool → Bool
-asked k a =
-    elim (eqb k 29) [
-      | true ↦ true
-      | false ↦ elim (eqb k 18 || (eqb k 19 || eqb k 26)) [ true ↦ false | false ↦ a ]
-    ]
 
 module _ (img : List ℕ) (t : Table) where
   -- what a name is at a node's entry, and at its exit
