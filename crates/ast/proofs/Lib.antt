@@ -10,9 +10,5 @@ pub mod RowNames
 pub mod Acceptance
 pub mod Words
 pub mod Scans
-pub mod Fields
-pub mod Parts
 pub mod Runs
-pub mod Whole
-pub mod Names
 pub mod Kids

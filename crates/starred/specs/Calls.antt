@@ -16,7 +16,8 @@ use Rattle.ordered.specs.Walk.{walkIdent, headRole, walkArg, walk, walkSeq, wal
 use Rattle.scopes.specs.Walk.{enterName, enterRule, andThen, resolveTree, enter, enterAll, visit, visitAll}
 use Rattle.scopes.specs.Resolve.{testTable, zeroed, walked, headed, outcomeOf, resolve}
 use Rattle.table.specs.Sound.{hasName, isSymbol, parentBelow, rowSound, testSound}
-use Rattle.scopes.specs.Lookup.{numberFrom, numberOf, testLookup, symbolAnswer, foundBy, lookupCall}
+use Rattle.names.specs.Number.{numberFrom, numberOf}
+use Rattle.scopes.specs.Lookup.{testLookup, symbolAnswer, foundBy, lookupCall}
 use Rattle.rows.specs.Rows.{lefts, rights, filled, written, when}
 use Rattle.scopes.specs.Rows.{testRows}
 use Rattle.scopes.specs.Twice.{among, repeats, ruleNames, twiceIn, declaredTwice, declares, declaresAll, inModel, inModels}
