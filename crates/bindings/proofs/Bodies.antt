@@ -8,7 +8,7 @@ use native.Mathlib.Omega.{arith}
 use lib.Dec.{eqb}
 use lib.ListN.{getD}
 use Rattle.ast.specs.Image.{kindAt, field}
-use Rattle.ast.specs.Kinds.{inner, plain, term, head, case, match, definedThen, noChild, Kind, kindOf}
+use Rattle.ast.specs.Kinds.{inner, plain, term, head, case, definedThen, noChild, Kind, kindOf}
 use Rattle.ast.specs.Is.{Is}
 use Rattle.ast.specs.Tree.{Tree, node, block, none, _◂_, swaps, ordered, treeAt}
 use Rattle.ast.specs.Items.{items, blocks}
@@ -20,7 +20,7 @@ use Rattle.rows.specs.Rows.{Row}
 use Rattle.ordered.proofs.Blocks.{BlocksFrom, next-block}
 use Rattle.bindings.specs.Errors.{asked, definedRow, isCtor, argRow, argRows, rowsOf, rowsSeq, declRows, declsRows}
 use Rattle.bindings.specs.Checks.{Run, inside, listed, declared, ofPattern, ofCase, ofArgs}
-use Rattle.bindings.proofs.RowLaws.{rowsAt, plain-rows, term-rows, branch-rows, match-rows, case-rows, defined-none, defined-some, one-inside, two-inside, case-inside, child-list-inside, branch-inside, pattern-first, pattern-none, pattern-app, args-inside, decl-child, rule-rows, model-rows, module-rows}
+use Rattle.bindings.proofs.RowLaws.{rowsAt, plain-rows, term-rows, case-rows, defined-none, defined-some, one-inside, two-inside, case-inside, child-list-inside, branch-inside, pattern-first, pattern-none, pattern-app, args-inside, decl-child, rule-rows, model-rows, module-rows}
 use Rattle.bindings.proofs.Quiet.{quiet}
 use Rattle.bindings.proofs.Epic.{Down, Item, listed-start, listed-more}
 
@@ -231,16 +231,18 @@ module _ (img : List ℕ) (t : Table) where
       }
 
   pub stmt-branch : {n d : ℕ} → Is img (kindOf 36) n → 2 ≡ field img n 0 → d ≡ field img n 1 → Down img t false 39 n d (inside img t false n)
+  unfolding kindOf asked
   stmt-branch {n} is q r =
       let s = stmt-down is 2 q r refl in
       let i = child-is img is (s .0) in
-      record { low = s .0 .below; is = i; same = s .1 ∙ branch-rows img t false n i }
+      record { low = s .0 .below; is = i; same = s .1 ∙ plain-rows img t false 39 _ n i (s .0 .kind) }
 
   pub stmt-match : {n d : ℕ} → Is img (kindOf 36) n → 3 ≡ field img n 0 → d ≡ field img n 1 → Down img t false 40 n d (inside img t false n)
+  unfolding kindOf asked
   stmt-match {n} is q r =
       let s = stmt-down is 3 q r refl in
       let i = child-is img is (s .0) in
-      record { low = s .0 .below; is = i; same = s .1 ∙ match-rows img t false n i }
+      record { low = s .0 .below; is = i; same = s .1 ∙ plain-rows img t false 40 _ n i (s .0 .kind) }
 
   -- the statements of a block
   pub stmts-item : {n c j x : ℕ} (i : ℕ) → Run img 36 n c j → i < c → x ≡ field img n (j + i)
@@ -262,7 +264,7 @@ module _ (img : List ℕ) (t : Table) where
   unfolding kindOf ordered FormedFields
   cases-start {n} is =
       let h : Child img n 12 (field img n 0) = (fields-of img is) .0 in
-      child-list-inside img t false (inner match) 12 35 is (λ ts. refl)
+      child-list-inside img t false (inner plain) 12 35 is (λ ts. refl)
       ∙ ap (λ (l : List Row). l ++ listed img t false n (field img n 1) 2) (quiet img t (is .accepted) n ((child-is img is h) .below) (h .kind) tt)
       ∙ listed-start img t false n (field img n 1) 2
 

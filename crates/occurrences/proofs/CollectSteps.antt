@@ -10,7 +10,7 @@ use native.Mathlib.Nat.{sub-zero, add-zero, eq-or-lt-of-le}
 use lib.Dec.{eqb}
 use lib.ListN.{length, getD, length-append}
 use Rattle.ast.specs.Image.{nodes, kindAt, field}
-use Rattle.ast.specs.Kinds.{Class, inner, plain, term, head, headMember, member, match, case, name, child, list, cases, noChild, Kind, kindOf}
+use Rattle.ast.specs.Kinds.{Class, inner, plain, term, head, headMember, member, case, name, child, list, cases, noChild, Kind, kindOf}
 use Rattle.ast.specs.Tree.{Trees, ordered, treeAt}
 use Rattle.ast.specs.Is.{Is, kindBy}
 use Rattle.ast.proofs.Row.{Child, Items, FormedFields, next, ends}
@@ -318,7 +318,7 @@ module _ (img : List ℕ) (t : Table) where
 
   pub matchOf : {n a size c : ℕ} → Ready img t (kindOf 40) n c → a ≡ field img n 0 → size ≡ field img n 1 → ChildList 35 n a size c
   unfolding kindOf threads ordered
-  matchOf p q r = childList (inner match) refl (λ ts. refl) p q r
+  matchOf p q r = childList (inner plain) refl (λ ts. refl) p q r
 
   -- a loop over the blocks of a branch: after i of them it stands at place j
   pub record BlocksLeft (N n count i j c : ℕ) (ws : List ℕ) (d : ℕ) (us : List ℕ) : Type 0 where
