@@ -6,7 +6,7 @@ use Prim.Native.Nat.{ℕ, zero, suc, _+_}
 use lib.Dec.{leb, eqb}
 use lib.ListN.{length}
 use Rattle.ast.specs.Image.{nodes, last, kindAt, startAt, field, nameOf}
-use Rattle.ast.specs.Kinds.{Class, outer, inner, root, decl, signature, rule, enum, model, plain, term, ident, head, headMember, member, branch, match, case, ifVar, definedThen, arg}
+use Rattle.ast.specs.Kinds.{Class, outer, inner, root, decl, signature, rule, enum, model, plain, term, ident, head, headMember, member, case, ifVar, definedThen, arg}
 use Rattle.ast.specs.Tests.{_▸_, need}
 use Rattle.ast.specs.Tree.{Tree, node, block, Trees, none, _◂_, treeAt}
 use Rattle.ast.specs.Rows.{opsFrom}
@@ -116,8 +116,6 @@ module _ (img : List ℕ) (t : Table) where
     rowsOf a o (node n k (inner head) (suc x ∷ sh) ts) = rowsSeq a n ts
     rowsOf a o (node n k (inner headMember) sh ts) = rowsFirst a n ts
     rowsOf a o (node n k (inner member) sh ts) = rowsFirst a n ts
-    rowsOf a o (node n k (inner branch) sh ts) = rowsSeq a n ts
-    rowsOf a o (node n k (inner match) sh ts) = rowsSeq a n ts
     rowsOf a o (node n k (inner case) sh ts) = patternRows ts ++ rowsSeq a n ts
     rowsOf a o (node n k (inner ifVar) sh ts) = []
     rowsOf a o (node n k (inner definedThen) sh ts) = rowsDefined a o n ts

@@ -8,7 +8,7 @@ use Prim.Native.Nat.{ℕ, zero, suc, _≤_, _<_}
 use native.Mathlib.Omega.{arith}
 use lib.Dec.{eqb}
 use Rattle.ast.specs.Image.{nodes, kindAt, nameOf}
-use Rattle.ast.specs.Kinds.{Class, outer, inner, plain, term, ident, head, headMember, member, branch, match, case, ifVar, definedThen, arg}
+use Rattle.ast.specs.Kinds.{Class, outer, inner, plain, term, ident, head, headMember, member, case, ifVar, definedThen, arg}
 use Rattle.ast.specs.Tree.{Tree, node, block, Trees, none, _◂_}
 use Rattle.table.specs.Layout.{allOnes}
 use Rattle.table.specs.State.{Exit, introduce, back, marked}
@@ -89,8 +89,6 @@ module _ (img : List ℕ) (T : Table) where
     Told p (node n k (inner head) sh ts) env = Around n env (meetsSeq (headPart sh) ts env) × ToldSeq (headPart sh) ts env
     Told p (node n k (inner headMember) sh ts) env = ToldThen names ts env
     Told p (node n k (inner member) sh ts) env = Around n env (meetsThen names ts env) × ToldThen names ts env
-    Told p (node n k (inner branch) sh ts) env = Around n env (meetsSeq occurs ts env) × ToldSeq occurs ts env
-    Told p (node n k (inner match) sh ts) env = Around n env (meetsSeq occurs ts env) × ToldSeq occurs ts env
     Told p (node n k (inner case) sh ts) env = Around n env env × ToldSeq occurs ts env
     Told p (node n k (inner ifVar) sh ts) env = Around n env (meetsThen declares ts env) × ToldThen declares ts env
     Told p (node n k (inner definedThen) sh ts) env = Around n env (meetsThen (defines env) ts env) × ToldThen (defines env) ts env
@@ -287,10 +285,6 @@ module _ (img : List ℕ) (T : Table) where
         (f .0, marked-at n allOnes allOnes e′ (kp .small n (in-right n (numbersSeq ts) (n ∷ []) (inl refl))) (f .1))
     told (node n k (inner member) sh ts) h e q a kp =
         wrapped n (numbersSeq ts) e (walkFirst img walking.names ts e) (walks-first img walking.names ts e) a (λ kq. toldFirst ts h e a kq) kp
-    told (node n k (inner branch) sh ts) h e q a kp =
-        wrapped n (numbersSeq ts) e (walkSeq img walking.occurs ts e) (walks-along img walking.occurs ts e) a (λ kq. toldSeq ts h e as-occurs a kq) kp
-    told (node n k (inner match) sh ts) h e q a kp =
-        wrapped n (numbersSeq ts) e (walkSeq img walking.occurs ts e) (walks-along img walking.occurs ts e) a (λ kq. toldSeq ts h e as-occurs a kq) kp
     told (node n k (inner case) sh ts) h {env = env} e q a kp =
         let e′ = walkSeq img walking.occurs ts e in
         let w = walks-along img walking.occurs ts e in
