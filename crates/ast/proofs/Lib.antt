@@ -17,3 +17,4 @@ pub mod Runs
 pub mod Whole
 pub mod Names
 pub mod Kids
+pub mod Bools
