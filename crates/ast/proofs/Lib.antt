@@ -13,3 +13,4 @@ pub mod Words
 pub mod Scans
 pub mod Runs
 pub mod Kids
+pub mod Bools

@@ -24,7 +24,7 @@ use Rattle.scopes.specs.Walk.{twice}
 use Rattle.scopes.specs.Resolve.{testTable, walked}
 use Rattle.scopes.specs.Clash.{Clash, orElse, ruleNode, declared, declaredAll, earliest, clashFrom, modelClash, modelClashes, clashIn, firstClash}
 use Rattle.scopes.proofs.Clashes.{shows}
-use Rattle.ordered.proofs.Bools.{true-not-false}
+use Rattle.ast.proofs.Bools.{true-not-false}
 use Rattle.ordered.proofs.Moves.{namedBy, enters}
 use Rattle.scopes.proofs.Namings.{symbol-below, Fit, tree-fits}
 use Rattle.scopes.proofs.Resolving.{table-accepted, walked-shown}

@@ -16,7 +16,7 @@ use Rattle.table.specs.Table.{Table, mark, newScope, lookup}
 use Rattle.table.proofs.Frames.{find-mark, find-scope}
 use Rattle.ordered.specs.Kept.{Kept}
 use Rattle.ordered.specs.Walk.{occurs, walkSeq}
-use Rattle.ordered.proofs.Agreed.{lookup-agree}
+use Rattle.table.proofs.Agreed.{lookup-agree}
 use Rattle.ordered.proofs.Kept.{mark-kept, scope-kept, mark-word, scope-word}
 use Rattle.ordered.proofs.Moves.{numbersSeq}
 use Rattle.scopes.specs.Resolve.{zeroed, walked}

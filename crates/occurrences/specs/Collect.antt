@@ -23,10 +23,6 @@ use Rattle.occurrences.specs.Occurrences.{rowsFor, occurrenceRows, lone,
 use Rattle.occurrences.specs.declared.Checked.{Checked}
 use Rattle.occurrences.specs.declared.Checked.the-variants.{Ok, Lone}
 
--- a table as lookup reads it: the words and the count of symbols
-abbrev pub sought : List ℕ → ℕ → Table
-sought ws y = record { words = ws; scopes = 0; symbols = y }
-
 abbrev pub spot : ℕ → ℕ → Spot
 spot n i = record { node = n; ident = i }
 

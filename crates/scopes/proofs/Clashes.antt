@@ -9,7 +9,7 @@ use lib.Dec.{eqb}
 use lib.ListN.{length}
 use Rattle.ast.specs.Image.{nodes, nameOf}
 use Rattle.ast.specs.Kinds.{outer, inner, root, decl, signature, rule, enum, model}
-use Rattle.ast.specs.Tree.{Tree, node, block, Trees, none, _◂_}
+use Rattle.ast.specs.Tree.{Tree, node, block, Trees, none, _◂_, size, sizes}
 use Rattle.ast.proofs.Small.{Small, Smalls}
 use Rattle.table.specs.Layout.{tableLength}
 use Rattle.table.specs.Rows.{scopeOf}
@@ -18,7 +18,6 @@ use Rattle.table.specs.Table.{find, mark}
 use Rattle.table.proofs.Frames.{own, find-none, find-mark, find-symbol}
 use Rattle.table.proofs.Rising.{either}
 use Rattle.ordered.proofs.Kept.{mark-length}
-use Rattle.ordered.specs.Size.{size, sizes}
 use Rattle.scopes.specs.Walk.{Listed, done, twice, enterName, enterRule, andThen, enter, enterAll, visit, visitAll}
 use Rattle.scopes.specs.Lists.{ent, ents, vis, viss, Fits}
 use Rattle.scopes.specs.Clash.{Clash, orElse, ruleNode, declared, declaredAll, earliest, clashFrom, modelClash, modelClashes}

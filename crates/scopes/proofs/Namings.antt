@@ -19,7 +19,7 @@ use Rattle.ast.proofs.Unfold.{treeAt-is}
 use Rattle.ast.proofs.Vars.{Everywhere, everywhere, every-kind, and-both}
 use Rattle.table.specs.Sound.{hasName, isSymbol}
 use Rattle.table.proofs.Sounds.{named-yes, symbol-out, symbol-rule, symbol-arg, symbol-var, symbol-decl}
-use Rattle.ordered.proofs.Bools.{true-not-false, false-true}
+use Rattle.ast.proofs.Bools.{true-not-false, false-true}
 use Rattle.ordered.proofs.Moves.{namedBy, enters}
 
 -- the kinds of these classes

@@ -14,10 +14,10 @@ use Rattle.ast.specs.Image.{nodes, last, kindAt}
 use Rattle.ast.specs.Rows.{kids, shape}
 use Rattle.ast.specs.Kinds.{Class}
 use Rattle.ast.specs.Tests.{run, verdict}
-use Rattle.ast.specs.Tree.{Tree, node, block, Trees, ordered, grow, classAt, treeAt}
+use Rattle.ast.specs.Tree.{Tree, node, block, Trees, ordered, grow, classAt, treeAt, size}
 use Rattle.ast.proofs.Accepted.{both, needed, skip, formed, last-below}
 use Rattle.ast.proofs.Unfold.{treeAt-is}
-use Rattle.ast.proofs.Count as count
+use Rattle.ast.proofs.Count.{tree-size}
 use Rattle.ast.proofs.Small.{Small, tree-small}
 use Rattle.ast.proofs.Vars.{Everywhere}
 use Rattle.table.specs.Layout.{allOnes, nodesPlace, scopesPlace, symbolsPlace, tableLength}
@@ -28,8 +28,6 @@ use Rattle.table.proofs.Sounds.{parent-low, row-yes, sound-rest}
 use Rattle.ordered.specs.Walkers.{Few}
 use Rattle.ordered.specs.Kept.{Kept}
 use Rattle.ordered.proofs.Kept.{past, mark-kept, scope-kept, mark-past, scope-past, mark-length, scope-length}
-use Rattle.ordered.specs.Size.{size}
-use Rattle.ordered.proofs.Size.{size-nodes}
 use Rattle.rows.specs.Rows.{cleared}
 use Rattle.rows.proofs.Appends.{clear-length}
 use Rattle.scopes.specs.Walk.{Listed, done, twice, enterAll, visitAll, resolveTree}
@@ -154,7 +152,7 @@ module _ (img tab : List ℕ) where
 
   module _ (accepted : verdict img ≡ 0) where
     whole-size : size (treeAt img (last img)) ≡ nodes img
-    whole-size = size-nodes (treeAt img (last img)) ∙ count.size img accepted
+    whole-size = tree-size img accepted
 
     pub walk-ended : (e : Exit) → walked img tab ≡ done e → Ended img (zeroed img tab) e
     unfolding walked

@@ -10,18 +10,16 @@ use Rattle.ast.specs.Is.{Is}
 use Rattle.ast.specs.Items.{items}
 use Rattle.ast.specs.Kinds.{root, list, kindOf}
 use Rattle.ast.specs.Tests.{verdict}
-use Rattle.ast.specs.Tree.{Tree, Trees, none, treeAt}
+use Rattle.ast.specs.Tree.{Tree, Trees, none, treeAt, size, sizes}
 use Rattle.ast.specs.declared.NodeId.{NodeId}
 use Rattle.ast.proofs.Accepted.{formed, last-below}
-use Rattle.ast.proofs.Count as counting
+use Rattle.ast.proofs.Count.{tree-size}
 use Rattle.ast.proofs.Row.{append, append-none, nodeOf}
 use Rattle.ast.proofs.Shapes.{tree-of, run-list}
 use Rattle.table.specs.Layout.{allOnes, tableLength}
 use Rattle.table.specs.State.{Exit, childScope, marked}
 use Rattle.table.specs.Values.{tableOf, exitOf}
 use Rattle.table.specs.declared.Walked.{Walked}
-use Rattle.ordered.specs.Size.{size, sizes}
-use Rattle.ordered.proofs.Size.{size-nodes}
 use Rattle.rows.specs.Rows.{cleared}
 use Rattle.scopes.specs.Walk.{andThen, enterAll, visitAll, resolveTree}
 use Rattle.scopes.specs.Resolve.{testTable, zeroed, walked, headed, resolve}
@@ -96,7 +94,7 @@ module _ (img : List ℕ) where
       a = append-none ts
 
       fills : suc (sizes ts) ≡ nodes img
-      fills = ap (λ (us : Trees). suc (sizes us)) (sym a) ∙ sym (root-tree ws low (p .long) is .1) ∙ ap (λ (x : ℕ). size (treeAt img x)) q ∙ size-nodes (treeAt img (last img)) ∙ counting.size img (p .accepted)
+      fills = ap (λ (us : Trees). suc (sizes us)) (sym a) ∙ sym (root-tree ws low (p .long) is .1) ∙ ap (λ (x : ℕ). size (treeAt img x)) q ∙ tree-size img (p .accepted)
 
       whole : resolveTree img (treeAt img (last img)) (record { words = ws; scopes = 0; symbols = 0 }) ≡ overList img n 1 (field img n 0) m
       whole = ap (λ (x : ℕ). resolveTree img (treeAt img x) (record { words = ws; scopes = 0; symbols = 0 })) (sym q) ∙ root-tree ws low (p .long) is .0

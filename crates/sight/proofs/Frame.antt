@@ -20,7 +20,7 @@ use Rattle.table.proofs.Finds.{row-out}
 use Rattle.table.proofs.Frames.{SameRows, from-same, find-none, find-mark, find-scope, symbol-same, symbol-scope, find-symbol}
 use Rattle.table.proofs.Rising.{either, hit, find-snoc}
 use Rattle.ordered.specs.Kept.{Kept}
-use Rattle.ordered.proofs.Agreed.{through, above, above-cong, Agree, lookup-agree}
+use Rattle.table.proofs.Agreed.{through, above, above-cong, Agree, lookup-agree}
 use Rattle.ordered.proofs.Kept.{mark-word, scope-word, symbol-word, scope-kept, symbol-kept}
 use Rattle.sight.specs.Sight.{In}
 use Rattle.ast.specs.Rules.{orElse, own}

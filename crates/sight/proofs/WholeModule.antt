@@ -20,7 +20,7 @@ use Rattle.table.proofs.Frames.{find-mark, find-scope}
 use Rattle.ordered.specs.Walk.{occurs, walkSeq}
 use Rattle.scopes.specs.Walk.{done, enterAll, visitAll, resolveTree}
 use Rattle.ordered.specs.Kept.{Kept}
-use Rattle.ordered.proofs.Agreed.{Agree, lookup-agree}
+use Rattle.table.proofs.Agreed.{Agree, lookup-agree}
 use Rattle.ordered.proofs.Kept.{mark-kept, scope-kept}
 use Rattle.ordered.proofs.Moves.{numbersSeq, rises}
 use Rattle.scopes.proofs.Adds.{and-inv}
