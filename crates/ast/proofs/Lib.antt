@@ -16,3 +16,4 @@ pub mod Runs
 pub mod Whole
 pub mod Names
 pub mod Kids
+pub mod Declarations

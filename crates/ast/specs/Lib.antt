@@ -10,4 +10,5 @@ pub mod Scan
 pub mod Parts
 pub mod Names
 pub mod Answer
+pub mod Declarations
 pub mod Rules
