@@ -13,4 +13,5 @@ pub mod Words
 pub mod Scans
 pub mod Runs
 pub mod Kids
+pub mod Declarations
 pub mod Bools

@@ -9,6 +9,7 @@ use native.Mathlib.Decide.{ℕ-discrete}
 use native.Mathlib.Omega.{arith}
 use borrow.Author.Tests.{eq-eqb, ne-eqb, not-true}
 use lib.Dec.{T, eqb, eqb→eq}
+use Rattle.ast.specs.Declarations.{orElse}
 use Rattle.ast.specs.Image.{last, kindAt, nameOf}
 use Rattle.ast.specs.Kinds.{Class, outer, inner, root, decl, signature, rule, enum, model, plain, term, ident, head, headMember, member, case, ifVar, definedThen, arg, kinds, kindOf}
 use Rattle.ast.specs.Tests.{verdict}
@@ -24,7 +25,7 @@ use Rattle.scopes.specs.Walk.{done}
 use Rattle.table.specs.State.{Exit}
 use Rattle.table.specs.Table.{Table, lookup, isVar, entryAt, atEntry, atExit}
 use Rattle.bindings.specs.Errors.{sameNode, introduces, introducedRow, definedRow, definedRows, argRow, argRows, listRows, isCtor, appRows, patternRows, rowsOf, rowsSeq, rowsFirst, rowsDefined, declRows, declsRows, plainRows}
-use Rattle.ast.specs.Rules.{Rule, orElse, saysAll, rules, rulesAll, rulesOf, moduleRules}
+use Rattle.ast.specs.Rules.{Rule, saysAll, rules, rulesAll, rulesOf, moduleRules}
 use Rattle.sight.specs.Sight.{In}
 use Rattle.sight.proofs.Lists.{Decl, Decls}
 use Rattle.sight.proofs.Members.{in-left, in-right}

@@ -7,6 +7,7 @@ use mathlib.Core.Option.{Option, none as nothing, some}
 use Prim.Native.Nat.{ℕ, zero, suc, _≤_, _<_}
 use native.Mathlib.Omega.{arith}
 use lib.Dec.{eqb}
+use Rattle.ast.specs.Declarations.{orElse, earliest}
 use Rattle.ast.specs.Image.{nodes, kindAt, nameOf}
 use Rattle.ast.specs.Kinds.{Class, outer, inner, plain, term, ident, head, headMember, member, case, ifVar, definedThen, arg}
 use Rattle.ast.specs.Tree.{Tree, node, block, Trees, none, _◂_}
@@ -18,7 +19,6 @@ use Rattle.ordered.specs.Walk.{Role, walkIdent, walk, walkSeq, walkFirst}
 use Rattle.ordered.specs.Walk as walking
 use Rattle.ordered.proofs.Kept.{mark-kept}
 use Rattle.ordered.proofs.Moves.{numbers, numbersSeq, marks, drops}
-use Rattle.ast.specs.Rules.{orElse, own}
 use Rattle.sight.proofs.Frame.{mark-lookup, mark-exit-same, new-lookup, new-kept}
 use Rattle.sight.proofs.Members.{in-right}
 use Rattle.sight.proofs.Moves.{Walks}
@@ -160,8 +160,8 @@ module _ (img : List ℕ) (T : Table) where
   abbrev named : ℕ → Env → Env
   named i env = with (nameOf img) i env
 
-  own-with : (i : ℕ) (env : Env) (x : ℕ) → orElse (own img i x) (env x) ≡ named i env x
-  unfolding own with
+  own-with : (i : ℕ) (env : Env) (x : ℕ) → orElse (earliest (nameOf img) (i ∷ []) x) (env x) ≡ named i env x
+  unfolding earliest with
   own-with i env x = go (eqb (nameOf img i) x)
     where
       go : (b : Bool) → orElse (elim b [ true ↦ some i | false ↦ nothing ]) (env x) ≡ elim b [ true ↦ some i | false ↦ env x ]
@@ -192,7 +192,7 @@ module _ (img : List ℕ) (T : Table) where
               k .lookups K x (omega arith)
               ∙ mark-lookup img i (e .scope) K t (k .small i (inl refl)) K x
               ∙ new-lookup img i e (a .sane) (a .inside) (omega arith) (omega arith) x
-              ∙ ap (orElse (own img i x)) (sym (old (e .scope) x (a .inside)) ∙ a .reads x)
+              ∙ ap (orElse (earliest (nameOf img) (i ∷ []) x)) (sym (old (e .scope) x (a .inside)) ∙ a .reads x)
               ∙ own-with i env x;
         }
 

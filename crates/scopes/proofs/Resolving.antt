@@ -10,7 +10,8 @@ use lib.Dec.{leb→le}
 use lib.ListN.{length, getD, set, drop, replicate, length-set, length-append, length-replicate}
 use lib.Seq.{getD-set-same, getD-set-other, drop-set-lt, drop-at}
 use Rattle.ast.specs.Answer.{refused, twice as twiceAnswer, result}
-use Rattle.ast.specs.Image.{nodes, last, kindAt}
+use Rattle.ast.specs.Declarations.{moduleLists}
+use Rattle.ast.specs.Image.{nodes, last, kindAt, nameOf}
 use Rattle.ast.specs.Rows.{kids, shape}
 use Rattle.ast.specs.Kinds.{Class}
 use Rattle.ast.specs.Tests.{run, verdict}
@@ -116,8 +117,8 @@ module _ (img ws : List ℕ) (long : tableLength (nodes img) ≤ length ws) wher
         good = moves-good img (ends-and img (enterAll img ts m) (visitAll img ts) (enterAll-ends img ts (fit .1) m) (λ f. visitAll-ends img ts (fit .1) f) e h) few (begun-good img ws n (q .0) long);
       }
 
-  tree-shown : (u : Tree) → Small (nodes img) u → size u ≤ nodes img → shows (resolveTree img u (record { words = ws; scopes = 0; symbols = 0 })) ≡ clashIn img u
-  unfolding resolveTree Small size clashIn shows
+  tree-shown : (u : Tree) → Small (nodes img) u → size u ≤ nodes img → shows (resolveTree img u (record { words = ws; scopes = 0; symbols = 0 })) ≡ clashIn (nameOf img) (moduleLists u)
+  unfolding resolveTree Small size clashIn moduleLists shows
   tree-shown (block ts) q s = refl
   tree-shown (node n k c sh ts) q s =
       let m = begun img ws n (q .0) long in
