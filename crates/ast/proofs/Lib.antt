@@ -3,6 +3,7 @@ pub mod Accepted
 pub mod Unfold
 pub mod Row
 pub mod Shapes
+pub mod Blocks
 pub mod Small
 pub mod Count
 pub mod Vars
@@ -12,3 +13,5 @@ pub mod Words
 pub mod Scans
 pub mod Runs
 pub mod Kids
+pub mod Declarations
+pub mod Bools

@@ -8,4 +8,5 @@ pub mod Is
 pub mod Tests
 pub mod Scan
 pub mod Answer
+pub mod Declarations
 pub mod Rules

@@ -9,22 +9,23 @@ use native.Mathlib.Decide.{ℕ-discrete}
 use native.Mathlib.Omega.{arith}
 use borrow.Author.Tests.{eq-eqb, ne-eqb, not-true}
 use lib.Dec.{T, eqb, eqb→eq}
+use Rattle.ast.specs.Declarations.{orElse}
 use Rattle.ast.specs.Image.{last, kindAt, nameOf}
-use Rattle.ast.specs.Kinds.{Class, outer, inner, root, decl, signature, rule, enum, model, plain, term, ident, head, headMember, member, branch, match, case, ifVar, definedThen, arg, kinds, kindOf}
+use Rattle.ast.specs.Kinds.{Class, outer, inner, root, decl, signature, rule, enum, model, plain, term, ident, head, headMember, member, case, ifVar, definedThen, arg, kinds, kindOf}
 use Rattle.ast.specs.Tests.{verdict}
 use Rattle.ast.specs.Tree.{Tree, node, block, Trees, none, _◂_}
 use Rattle.ast.proofs.Accepted.{formed, last-below}
 use Rattle.ast.proofs.Unfold.{treeOf}
 use Rattle.ast.proofs.Vars.{and-both, Everywhere, EverywhereAll}
-use Rattle.ordered.proofs.Bools.{not-equal}
+use Rattle.ast.proofs.Bools.{not-equal}
 use Rattle.rows.specs.Rows.{Row, row, when}
 use Rattle.error.specs.Kinds.{introducedInThen, definedNotNew, patternNotFresh, asked}
 use Rattle.scopes.specs.Resolve.{walked}
 use Rattle.scopes.specs.Walk.{done}
 use Rattle.table.specs.State.{Exit}
-use Rattle.table.specs.Table.{Table, lookup, isVar, entryAt}
-use Rattle.bindings.specs.Errors.{sameNode, atEntry, atExit, introduces, introducedRow, definedRow, definedRows, argRow, argRows, listRows, isCtor, appRows, patternRows, rowsOf, rowsSeq, rowsFirst, rowsDefined, declRows, declsRows, plainRows}
-use Rattle.ast.specs.Rules.{Rule, orElse, saysAll, rules, rulesAll, rulesOf, moduleRules}
+use Rattle.table.specs.Table.{Table, lookup, isVar, entryAt, atEntry, atExit}
+use Rattle.bindings.specs.Errors.{sameNode, introduces, introducedRow, definedRow, definedRows, argRow, argRows, listRows, isCtor, appRows, patternRows, rowsOf, rowsSeq, rowsFirst, rowsDefined, declRows, declsRows, plainRows}
+use Rattle.ast.specs.Rules.{Rule, saysAll, rules, rulesAll, rulesOf, moduleRules}
 use Rattle.sight.specs.Sight.{In}
 use Rattle.sight.proofs.Lists.{Decl, Decls}
 use Rattle.sight.proofs.Members.{in-left, in-right}
@@ -284,10 +285,6 @@ module _ (img : List ℕ) (T₀ : Table) where
         faults-first ts h (s .1) (quiet (s .0 .0) (s .0 .0 .back)) a n env t
     faults-are (node n k (inner member) sh ts) h s a p q o o′ env c t =
         faults-first ts h (s .1) (quiet (s .0 .0) (s .0 .0 .back)) a n env (t .1)
-    faults-are (node n k (inner branch) sh ts) h s a p q o o′ env c t =
-        faults-along ts h (s .1) (quiet (s .0 .0) (s .0 .0 .back)) a occurs tt n n env (t .1)
-    faults-are (node n k (inner match) sh ts) h s a p q o o′ env c t =
-        faults-along ts h (s .1) (quiet (s .0 .0) (s .0 .0 .back)) a occurs tt n n env (t .1)
     faults-are (node n k (inner case) sh ts) h s a p q o o′ env c t =
         ap₂ _++_ (pattern-is ts h (s .1) env (t .1)) (faults-along ts h (s .1) (quiet (s .0 .0) (s .0 .0 .back)) a occurs tt n n env (t .1))
     faults-are (node n k (inner ifVar) sh ts) h s a p q o o′ env c t = refl

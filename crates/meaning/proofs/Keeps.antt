@@ -90,7 +90,7 @@ module _ (img : List ℕ) where
       ∙ scope-word img (e .scope) (e .table) (entryPlace N m) (omega arith)
   walks-entry (drops v) b sm m l f = walks-entry v b sm m l f
 
-  pub enters-entry : {ns : List ℕ} {D : ℕ → Option ℕ} {e e′ : Exit} → Enters img ns D e e′ → Small ns → (m : ℕ) → m < N → (In m ns → ⊥)
+  pub enters-entry : {ns ds : List ℕ} {e e′ : Exit} → Enters img ns ds e e′ → Small ns → (m : ℕ) → m < N → (In m ns → ⊥)
       → entryAt img (e′ .table .words) m ≡ entryAt img (e .table .words) m
   unfolding marked ownSymbol
   enters-entry lists.stay sm m l f = refl

@@ -7,7 +7,7 @@ use mathlib.Core.Option.{Option, none as nothing, some}
 use Prim.Native.Nat.{ℕ, zero, suc}
 use lib.Dec.{eqb}
 use Rattle.ast.specs.Image.{kindAt, nameOf}
-use Rattle.ast.specs.Kinds.{outer, inner, plain, term, ident, head, headMember, member, branch, match, case, ifVar, definedThen, arg}
+use Rattle.ast.specs.Kinds.{outer, inner, plain, term, ident, head, headMember, member, case, ifVar, definedThen, arg}
 use Rattle.ast.specs.Tests.{verdict}
 use Rattle.ast.specs.Tree.{Tree, node, block, Trees, none, _◂_}
 use Rattle.rows.specs.Rows.{Row, row}
@@ -78,8 +78,6 @@ module _ (img : List ℕ) (T : Table) where
     marks-are (node n k (inner head) (suc c ∷ sh) ts) h p o env t = marks-along ts h occurs n env (t .1)
     marks-are (node n k (inner headMember) sh ts) h p o env t = marks-first ts h n env t
     marks-are (node n k (inner member) sh ts) h p o env t = marks-first ts h n env (t .1)
-    marks-are (node n k (inner branch) sh ts) h p o env t = marks-along ts h occurs n env (t .1)
-    marks-are (node n k (inner match) sh ts) h p o env t = marks-along ts h occurs n env (t .1)
     marks-are (node n k (inner case) sh ts) h p o env t = marks-along ts h occurs n env (t .1)
     marks-are (node n k (inner ifVar) sh ts) h p o env t = marks-then ts h declares n env (t .1)
     marks-are (node n k (inner definedThen) sh ts) h p o env t = marks-back ts (defines-bodies img ts h) (defines env) n env (t .1)

@@ -5,7 +5,7 @@ use mathlib.Core.Bool.{false}
 use mathlib.Core.List.{List, [], _∷_, _++_}
 use Prim.Native.Nat.{ℕ}
 use Rattle.ast.specs.Image.{nodes, kindAt, nameOf}
-use Rattle.ast.specs.Kinds.{outer, inner, plain, term, ident, head, headMember, member, branch, match, case, ifVar, definedThen, arg}
+use Rattle.ast.specs.Kinds.{outer, inner, plain, term, ident, head, headMember, member, case, ifVar, definedThen, arg}
 use Rattle.ast.specs.Rules.{Rule, moduleRules}
 use Rattle.ast.specs.Tests.{verdict}
 use Rattle.ast.specs.Tree.{Tree, node, block, Trees, none, _◂_}
@@ -55,8 +55,6 @@ module _ (img : List ℕ) (T : Table) where
     each p (node n k (inner head) sh ts) env t = cons (t .0) (eachSeq (headPart sh) ts env (t .1))
     each p (node n k (inner headMember) sh ts) env t = eachThen names ts env t
     each p (node n k (inner member) sh ts) env t = cons (t .0) (eachThen names ts env (t .1))
-    each p (node n k (inner branch) sh ts) env t = cons (t .0) (eachSeq occurs ts env (t .1))
-    each p (node n k (inner match) sh ts) env t = cons (t .0) (eachSeq occurs ts env (t .1))
     each p (node n k (inner case) sh ts) env t = cons (t .0) (eachSeq occurs ts env (t .1))
     each p (node n k (inner ifVar) sh ts) env t = cons (t .0) (eachThen declares ts env (t .1))
     each p (node n k (inner definedThen) sh ts) env t = cons (t .0) (eachThen (defines env) ts env (t .1))

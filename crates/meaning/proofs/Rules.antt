@@ -6,7 +6,8 @@ use mathlib.Core.Option.{Option}
 use Prim.Native.Nat.{ℕ, suc, _≤_, _<_}
 use native.Mathlib.Omega.{arith}
 use lib.ListN.{length}
-use Rattle.ast.specs.Image.{nodes, last}
+use Rattle.ast.specs.Declarations.{declaredAll, orElse, earliest}
+use Rattle.ast.specs.Image.{nodes, last, nameOf}
 use Rattle.ast.specs.Kinds.{Class}
 use Rattle.ast.specs.Tests.{verdict}
 use Rattle.ast.specs.Tree.{Tree, node, Trees}
@@ -16,14 +17,14 @@ use Rattle.table.specs.Table.{Table, mark, newScope, lookup}
 use Rattle.table.proofs.Frames.{find-mark, find-scope}
 use Rattle.ordered.specs.Kept.{Kept}
 use Rattle.ordered.specs.Walk.{occurs, walkSeq}
-use Rattle.ordered.proofs.Agreed.{lookup-agree}
+use Rattle.table.proofs.Agreed.{lookup-agree}
 use Rattle.ordered.proofs.Kept.{mark-kept, scope-kept, mark-word, scope-word}
 use Rattle.ordered.proofs.Moves.{numbersSeq}
 use Rattle.scopes.specs.Resolve.{zeroed, walked}
 use Rattle.scopes.specs.Walk.{done, enterAll, visitAll, resolveTree}
 use Rattle.scopes.proofs.Adds.{and-inv}
 use Rattle.scopes.proofs.Resolving.{none-kept, walk-ended, zeroed-long}
-use Rattle.ast.specs.Rules.{Rule, saysAll, rulesAll, moduleRules, orElse}
+use Rattle.ast.specs.Rules.{Rule, saysAll, rulesAll, moduleRules}
 use Rattle.sight.specs.Sight.{In}
 use Rattle.sight.proofs.Counting.{module-small, module-distinct, rules-are}
 use Rattle.sight.proofs.Frame.{Bounds, lookup-child, lookup-root, mark-parent, mark-exit, child-parent, child-parent-other, child-empty, child-exit}
@@ -41,15 +42,18 @@ record Opened (e e′ : Exit) : Type 0 where
   scopes : e′ .table .scopes ≡ suc (e .table .scopes)
   symbols≤ : e .table .symbols ≤ e′ .table .symbols
 
-opened : (img : List ℕ) (n : ℕ) {es : List ℕ} {D : ℕ → Option ℕ} (e e′ : Exit) → Enters img es D (marked img n (e .table .scopes) (childScope img e)) e′ → Opened e e′
+opened : (img : List ℕ) (n : ℕ) {es ds : List ℕ} (e e′ : Exit) → Enters img es ds (marked img n (e .table .scopes) (childScope img e)) e′ → Opened e e′
 unfolding marked childScope
 opened img n e e′ v = let p = stays img v in record { scope = p .scope; scopes = (let q = p .scopes in omega arith); symbols≤ = p .symbols }
 
-module _ (img : List ℕ) (n : ℕ) (es : List ℕ) (D : ℕ → Option ℕ) (e e′ : Exit)
-    (v : Enters img es D (marked img n (e .table .scopes) (childScope img e)) e′) (b : Bounds img (e′ .table)) (sm : Small img (n ∷ es))
+module _ (img : List ℕ) (n : ℕ) (es ds : List ℕ) (e e′ : Exit)
+    (v : Enters img es ds (marked img n (e .table .scopes) (childScope img e)) e′) (b : Bounds img (e′ .table)) (sm : Small img (n ∷ es))
     (so : Kept img (e .table)) (inside : e .scope < e .table .scopes) where
   abbrev N : ℕ
   N = nodes img
+
+  abbrev D : ℕ → Option ℕ
+  D = earliest (nameOf img) ds
 
   abbrev t : Table
   t = e .table
@@ -69,7 +73,7 @@ module _ (img : List ℕ) (n : ℕ) (es : List ℕ) (D : ℕ → Option ℕ) (e 
   K<N : K < N
   K<N = let q = (opened img n e e′ v) .scopes in let b₀ = b .0 in omega arith
 
-  entered : Entered img K es D t₁ (e′ .table)
+  entered : Entered img K es ds t₁ (e′ .table)
   unfolding marked childScope
   entered =
       entering img v (b .1) (λ k j. sm k (inr j)) (mark-kept img n K K t₀ n<N (scope-kept img (e .scope) t K<N so)) (omega arith)
@@ -171,7 +175,7 @@ module _ (img : List ℕ) (T : Table) where
         | inl q ↦ subst (λ (z : Rule). ToldSeq img T meaning.occurs (z .statements) (z .meaning)) (sym q) (rule-told img T ts body e a k)
         | inr i ↦ absurd i
       ])
-  visited (nested {es = es} {ns = ns} {rs = rs} {D = D} {m = m} {e = e} {e′ = e′} {e″ = e″} n v u) =
+  visited (nested {es = es} {ds = ds} {ns = ns} {rs = rs} {m = m} {e = e} {e′ = e′} {e″ = e″} n v u) =
       let o = opened img n e e′ v in
       let o₀ = o .scope in
       let o₁ = o .scopes in
@@ -184,13 +188,13 @@ module _ (img : List ℕ) (T : Table) where
         scopes≤ = omega arith;
         symbols≤ = omega arith;
         onward = λ b sm so i.
-            let l = list-onward img n es D e e′ v (omega arith, omega arith) (λ k j. sm k (in-left k (n ∷ es) ns j)) so i in
+            let l = list-onward img n es ds e e′ v (omega arith, omega arith) (λ k j. sm k (in-left k (n ∷ es) ns j)) so i in
             onward-next img (n ∷ es) ns (e .table) (e′ .table) (e″ .table) l (g .onward b (λ k j. sm k (in-right k (n ∷ es) ns j)) (l .sane) (omega arith));
         tells = λ a k r j.
             let b = k .few in
             let i = a .inside in
             let sm : Small img (n ∷ es) = λ x j. k .small x (in-left x (n ∷ es) ns j) in
-            let l = list-onward img n es D e e′ v (omega arith, omega arith) sm (a .sane) i in
+            let l = list-onward img n es ds e e′ v (omega arith, omega arith) sm (a .sane) i in
             let h = g .onward b (λ x j. k .small x (in-right x (n ∷ es) ns j)) (l .sane) (omega arith) in
             let kl = ends-before img T (n ∷ es) ns (e′ .table) (e″ .table) h k in
             g .tells (record {
@@ -199,8 +203,8 @@ module _ (img : List ℕ) (T : Table) where
               reads = λ x.
                   ap (λ z. lookup img T z x) o₀
                   ∙ kl .lookups (e .table .scopes) x (omega arith)
-                  ∙ list-reads img n es D e e′ v (omega arith, omega arith) sm (a .sane) i x
-                  ∙ ap (orElse (D x)) (sym (kl .lookups (e .scope) x (omega arith)) ∙ a .reads x);
+                  ∙ list-reads img n es ds e e′ v (omega arith, omega arith) sm (a .sane) i x
+                  ∙ ap (orElse (earliest (nameOf img) ds x)) (sym (kl .lookups (e .scope) x (omega arith)) ∙ a .reads x);
             }) (ends-after img T (n ∷ es) ns (e″ .table) k) r j;
       }
 
@@ -227,7 +231,7 @@ resolve-tells img n k c sh ts ws e q size b d sm di =
     let z = visited img (e .table) (visitsAll img ts d D (h .0) e (h .2)) in
     let z₀ = z .scopes≤ in
     let z₁ = z .symbols≤ in
-    let en : Entered img 0 es D (mark img n 0 0 t₁) (h .0 .table) =
+    let en : Entered img 0 es (declaredAll ts) (mark img n 0 0 t₁) (h .0 .table) =
     entering img E (omega arith) (λ m i. sm m (inr (in-left m es ns i))) (mark-kept img n 0 0 t₁ n<N (scope-kept img allOnes t₀ (omega arith) so)) (omega arith) in
     let sn : Small img ns = λ m i. sm m (inr (in-right m es ns i)) in
     let o = z .onward b sn (en .sane) (omega arith) in

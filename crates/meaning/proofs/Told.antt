@@ -7,8 +7,9 @@ use mathlib.Core.Option.{Option, none as nothing, some}
 use Prim.Native.Nat.{ℕ, zero, suc, _≤_, _<_}
 use native.Mathlib.Omega.{arith}
 use lib.Dec.{eqb}
+use Rattle.ast.specs.Declarations.{orElse, earliest}
 use Rattle.ast.specs.Image.{nodes, kindAt, nameOf}
-use Rattle.ast.specs.Kinds.{Class, outer, inner, plain, term, ident, head, headMember, member, branch, match, case, ifVar, definedThen, arg}
+use Rattle.ast.specs.Kinds.{Class, outer, inner, plain, term, ident, head, headMember, member, case, ifVar, definedThen, arg}
 use Rattle.ast.specs.Tree.{Tree, node, block, Trees, none, _◂_}
 use Rattle.table.specs.Layout.{allOnes}
 use Rattle.table.specs.State.{Exit, introduce, back, marked}
@@ -18,7 +19,6 @@ use Rattle.ordered.specs.Walk.{Role, walkIdent, walk, walkSeq, walkFirst}
 use Rattle.ordered.specs.Walk as walking
 use Rattle.ordered.proofs.Kept.{mark-kept}
 use Rattle.ordered.proofs.Moves.{numbers, numbersSeq, marks, drops}
-use Rattle.ast.specs.Rules.{orElse, own}
 use Rattle.sight.proofs.Frame.{mark-lookup, mark-exit-same, new-lookup, new-kept}
 use Rattle.sight.proofs.Members.{in-right}
 use Rattle.sight.proofs.Moves.{Walks}
@@ -89,8 +89,6 @@ module _ (img : List ℕ) (T : Table) where
     Told p (node n k (inner head) sh ts) env = Around n env (meetsSeq (headPart sh) ts env) × ToldSeq (headPart sh) ts env
     Told p (node n k (inner headMember) sh ts) env = ToldThen names ts env
     Told p (node n k (inner member) sh ts) env = Around n env (meetsThen names ts env) × ToldThen names ts env
-    Told p (node n k (inner branch) sh ts) env = Around n env (meetsSeq occurs ts env) × ToldSeq occurs ts env
-    Told p (node n k (inner match) sh ts) env = Around n env (meetsSeq occurs ts env) × ToldSeq occurs ts env
     Told p (node n k (inner case) sh ts) env = Around n env env × ToldSeq occurs ts env
     Told p (node n k (inner ifVar) sh ts) env = Around n env (meetsThen declares ts env) × ToldThen declares ts env
     Told p (node n k (inner definedThen) sh ts) env = Around n env (meetsThen (defines env) ts env) × ToldThen (defines env) ts env
@@ -162,8 +160,8 @@ module _ (img : List ℕ) (T : Table) where
   abbrev named : ℕ → Env → Env
   named i env = with (nameOf img) i env
 
-  own-with : (i : ℕ) (env : Env) (x : ℕ) → orElse (own img i x) (env x) ≡ named i env x
-  unfolding own with
+  own-with : (i : ℕ) (env : Env) (x : ℕ) → orElse (earliest (nameOf img) (i ∷ []) x) (env x) ≡ named i env x
+  unfolding earliest with
   own-with i env x = go (eqb (nameOf img i) x)
     where
       go : (b : Bool) → orElse (elim b [ true ↦ some i | false ↦ nothing ]) (env x) ≡ elim b [ true ↦ some i | false ↦ env x ]
@@ -194,7 +192,7 @@ module _ (img : List ℕ) (T : Table) where
               k .lookups K x (omega arith)
               ∙ mark-lookup img i (e .scope) K t (k .small i (inl refl)) K x
               ∙ new-lookup img i e (a .sane) (a .inside) (omega arith) (omega arith) x
-              ∙ ap (orElse (own img i x)) (sym (old (e .scope) x (a .inside)) ∙ a .reads x)
+              ∙ ap (orElse (earliest (nameOf img) (i ∷ []) x)) (sym (old (e .scope) x (a .inside)) ∙ a .reads x)
               ∙ own-with i env x;
         }
 
@@ -287,10 +285,6 @@ module _ (img : List ℕ) (T : Table) where
         (f .0, marked-at n allOnes allOnes e′ (kp .small n (in-right n (numbersSeq ts) (n ∷ []) (inl refl))) (f .1))
     told (node n k (inner member) sh ts) h e q a kp =
         wrapped n (numbersSeq ts) e (walkFirst img walking.names ts e) (walks-first img walking.names ts e) a (λ kq. toldFirst ts h e a kq) kp
-    told (node n k (inner branch) sh ts) h e q a kp =
-        wrapped n (numbersSeq ts) e (walkSeq img walking.occurs ts e) (walks-along img walking.occurs ts e) a (λ kq. toldSeq ts h e as-occurs a kq) kp
-    told (node n k (inner match) sh ts) h e q a kp =
-        wrapped n (numbersSeq ts) e (walkSeq img walking.occurs ts e) (walks-along img walking.occurs ts e) a (λ kq. toldSeq ts h e as-occurs a kq) kp
     told (node n k (inner case) sh ts) h {env = env} e q a kp =
         let e′ = walkSeq img walking.occurs ts e in
         let w = walks-along img walking.occurs ts e in

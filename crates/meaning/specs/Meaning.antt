@@ -6,7 +6,7 @@ use mathlib.Core.Option.{Option, none as nothing, some}
 use Prim.Native.Nat.{ℕ, zero, suc}
 use lib.Dec.{eqb}
 use Rattle.ast.specs.Image.{kindAt, nameOf}
-use Rattle.ast.specs.Kinds.{Class, outer, inner, Inner, plain, term, ident, head, headMember, member, branch, match, case, ifVar, definedThen, arg}
+use Rattle.ast.specs.Kinds.{Class, outer, inner, Inner, plain, term, ident, head, headMember, member, case, ifVar, definedThen, arg}
 use Rattle.ast.specs.Rules.{Rule, moduleRules}
 use Rattle.ast.specs.Tree.{Tree, node, block, Trees, none, _◂_}
 use Rattle.error.specs.Kinds.{introducedInThen, definedNotNew, patternNotFresh, asked}
@@ -100,8 +100,6 @@ module _ (name kind : ℕ → ℕ) where
     meet p (node n k (inner head) sh ts) env = meetSeq (headPart sh) ts env
     meet p (node n k (inner member) sh ts) env = meetThen names ts env
     meet p (node n k (inner headMember) sh ts) env = meetThen names ts env
-    meet p (node n k (inner branch) sh ts) env = meetSeq occurs ts env
-    meet p (node n k (inner match) sh ts) env = meetSeq occurs ts env
     meet p (node n k (inner case) sh ts) env = env
     meet p (node n k (inner ifVar) sh ts) env = meetThen declares ts env
     meet p (node n k (inner definedThen) sh ts) env = meetThen (defines env) ts env
@@ -129,8 +127,6 @@ module _ (name kind : ℕ → ℕ) where
     marks p o (node n k (inner head) sh ts) env = marksSeq (headPart sh) n ts env
     marks p o (node n k (inner member) sh ts) env = marksFirst n ts env
     marks p o (node n k (inner headMember) sh ts) env = marksFirst n ts env
-    marks p o (node n k (inner branch) sh ts) env = marksSeq occurs n ts env
-    marks p o (node n k (inner match) sh ts) env = marksSeq occurs n ts env
     marks p o (node n k (inner case) sh ts) env = marksSeq occurs n ts env
     marks p o (node n k (inner ifVar) sh ts) env = marksThen declares n ts env
     marks p o (node n k (inner definedThen) sh ts) env = marksBack (defines env) n ts env
@@ -212,8 +208,6 @@ module _ (name kind : ℕ → ℕ) where
     faults a p o (node n k (inner head) sh ts) env = faultsSeq a (headPart sh) n ts env
     faults a p o (node n k (inner headMember) sh ts) env = faultsFirst a n ts env
     faults a p o (node n k (inner member) sh ts) env = faultsFirst a n ts env
-    faults a p o (node n k (inner branch) sh ts) env = faultsSeq a occurs n ts env
-    faults a p o (node n k (inner match) sh ts) env = faultsSeq a occurs n ts env
     faults a p o (node n k (inner case) sh ts) env = patternFaults ts env ++ faultsSeq a occurs n ts env
     faults a p o (node n k (inner ifVar) sh ts) env = []
     faults a p o (node n k (inner definedThen) sh ts) env = faultsDefined a n ts env

@@ -1,7 +1,7 @@
 -- The nodes of a rule in the walk's order, each with the environment before and after it.
 use mathlib.Core.List.{List, [], _∷_, _++_}
 use Prim.Native.Nat.{ℕ}
-use Rattle.ast.specs.Kinds.{outer, inner, plain, term, ident, head, headMember, member, branch, match, case, ifVar, definedThen, arg}
+use Rattle.ast.specs.Kinds.{outer, inner, plain, term, ident, head, headMember, member, case, ifVar, definedThen, arg}
 use Rattle.ast.specs.Rules.{Rule}
 use Rattle.ast.specs.Tree.{Tree, node, block, Trees, none, _◂_}
 use Rattle.meaning.specs.Meaning.{Env, Part, occurs, declares, names, defines, headPart, meetIdent, meet, meetSeq, meetThen}
@@ -29,8 +29,6 @@ module _ (name kind : ℕ → ℕ) where
     meetings p (node n k (inner head) sh ts) env = meeting n env (meetSeq name kind (headPart sh) ts env) ∷ meetingsSeq (headPart sh) ts env
     meetings p (node n k (inner headMember) sh ts) env = meetingsThen names ts env
     meetings p (node n k (inner member) sh ts) env = meeting n env (meetThen name kind names ts env) ∷ meetingsThen names ts env
-    meetings p (node n k (inner branch) sh ts) env = meeting n env (meetSeq name kind occurs ts env) ∷ meetingsSeq occurs ts env
-    meetings p (node n k (inner match) sh ts) env = meeting n env (meetSeq name kind occurs ts env) ∷ meetingsSeq occurs ts env
     meetings p (node n k (inner case) sh ts) env = meeting n env env ∷ meetingsSeq occurs ts env
     meetings p (node n k (inner ifVar) sh ts) env = meeting n env (meetThen name kind declares ts env) ∷ meetingsThen declares ts env
     meetings p (node n k (inner definedThen) sh ts) env = meeting n env (meetThen name kind (defines env) ts env) ∷ meetingsThen (defines env) ts env

@@ -14,6 +14,7 @@ use Rattle.ast.proofs.Accepted.{both, skip, stop, needed}
 use Rattle.table.specs.Layout.{nodePlace}
 use Rattle.table.specs.Table.{climb, lookup, exitAt}
 use Rattle.table.specs.State.{Exit}
+use Rattle.table.specs.Values.{sought}
 use Rattle.rows.specs.Rows.{Row, rowsLength, written, cleared, putRows, Appended}
 use Rattle.rows.proofs.Appends.{written-is}
 use Rattle.scopes.specs.Walk.{done, twice}
@@ -26,7 +27,7 @@ use Rattle.scopes.proofs.Headed.{headed-lookup, headed-exit, headed-sorted}
 use Rattle.occurrences.specs.Spots.{Spot}
 use Rattle.ast.specs.Rules.{moduleRules}
 use Rattle.occurrences.specs.Occurrences.{found, occurrenceRows, lone, rowsByRule, onceAnswer, occurrencesOf, occurrences, onceOf, once}
-use Rattle.occurrences.specs.Collect.{sought, Whole, Nodes}
+use Rattle.occurrences.specs.Collect.{Whole, Nodes}
 use Rattle.occurrences.proofs.Few.{rows-few}
 use Rattle.occurrences.proofs.CollectRules.{same-lists, same-all}
 

@@ -5,9 +5,9 @@ use mathlib.Core.Option.{Option, none as nothing, some}
 use Prim.Native.Nat.{ℕ, zero, suc, _+_}
 use lib.Dec.{eqb, leb}
 use lib.ListN.{length}
-use Rattle.ast.specs.Image.{nodes, kindAt, nameOf}
+use Rattle.ast.specs.Image.{nodes}
 use Rattle.ast.specs.Answer.{Answer, refused, twice as twiceAnswer, result, other}
-use Rattle.table.specs.Table.{Table, lookup, exitAt}
+use Rattle.table.specs.Table.{Table, isKind, isVar, atExit}
 use Rattle.table.specs.State.{Exit}
 use Rattle.scopes.specs.Walk.{Listed, done, twice}
 use Rattle.scopes.specs.Resolve.{testTable, zeroed, walked, headed}
@@ -20,11 +20,12 @@ use Rattle.ast.specs.Rules.{Rule, moduleRules}
 module _ (img : List ℕ) (t : Table) where
   -- the binding: what lookup of its name gives, in the table, at the exit of the occurrence's node
   abbrev pub found : Spot → Option ℕ
-  found s = lookup img t (exitAt img (t .words) (s .node)) (nameOf img (s .ident))
+  found s = atExit img t (s .node) (s .ident)
 
   unfoldable pub listed : ℕ → Option ℕ → List Row → List Row
+  unfolding isKind
   listed n nothing l = l
-  listed n (some i) l = elim (eqb (kindAt img i) 13) [ true ↦ row n i ∷ l | false ↦ l ]
+  listed n (some i) l = elim (isVar img (some i)) [ true ↦ row n i ∷ l | false ↦ l ]
 
   -- the rows for spots: those that lookup gives as a Var
   unfoldable pub rowsFor : List Spot → List Row

@@ -6,26 +6,17 @@ ghost use lib.ListN.{length, getD, set};
 ghost use Rattle.ast.specs.Image as «image-spec»;
 ghost use Rattle.ast.specs.Kinds.{kindOf};
 ghost use Rattle.table.specs.Rows.{Sorted};
-ghost use Rattle.table.specs.Values.{optionOf};
+ghost use Rattle.table.specs.Values.{sought};
 ghost use Rattle.rows.specs.Rows.{rights, rowsLength, written, Appended};
 ghost use Rattle.scopes.specs.Rows.{testRows};
 ghost use Rattle.ast.specs.Rules.{moduleRules};
 ghost use Rattle.occurrences.specs.Answers.{listedAnswer, checkedAnswer};
 ghost use Rattle.occurrences.specs.Occurrences as «occurrences-spec»;
 ghost use Rattle.occurrences.specs.Occurrences.{found, occurrenceRows, lone, rowsByRule};
-ghost use Rattle.occurrences.specs.Collect.{sought, spot, identRows, rowsIn, rowsAt, Room, Ready, Run, joined, listsIn, listsAt, Listing, ListingRun, Whole, Nodes, readRows, under, recount, recounted, loneOf, Scratch, Searched};
+ghost use Rattle.occurrences.specs.Collect.{spot, identRows, rowsIn, rowsAt, Room, Ready, ReadyRun, joined, listsIn, listsAt, Listing, ListingRun, Whole, Nodes, readRows, under, recount, recounted, loneOf, Scratch, Searched};
 use ast::NodeId;
 use scopes::Resolved;
 use table::Found;
-
-// What lookup of the ident's name gives at the exit of the node.
-fn lookup_at(image: &[u8], table: &[u32], symbols: u32, node: NodeId, ident: NodeId) -> Found
-    requires { ⌜ Sorted («image-spec».nodes (now image)) symbols (now table) ⌝ }
-    ensures { λ r. ⌜ optionOf r ≡ found (now (image .entry)) (sought (now (table .entry)) symbols) (spot (node .0) (ident .0)) ⌝ }
-{
-    let exit = table::exit_of(image, table, node);
-    table::seek(image, table, symbols, exit, ast::name_of(image, ident))
-}
 
 // An ident directly under a Term or AppHead: a row if it is a Var.
 fn collect_ident(
@@ -40,14 +31,14 @@ fn collect_ident(
     requires { ⌜ Room (now image) (sought (now table) symbols) (identRows (now image) (sought (now table) symbols) (node .0) (ident .0)) count ⌝ }
     ensures { λ r. ⌜ Appended («image-spec».nodes (now (image .entry))) (identRows (now (image .entry)) (sought (now (table .entry)) symbols) (node .0) (ident .0)) count (now (rows .entry)) r (now (rows .exit)) ⌝ }
 {
-    match lookup_at(image, table, symbols, node, ident) {
+    let found = table::at_exit(image, table, symbols, node, ident);
+    if !table::is_var(image, found) {
+        return count;
+    }
+    match found {
         Found::At(binding) => {
-            if ast::kind_at(image, binding) == 13 {
-                let n = ast::node_count(image);
-                rows::put_row(rows, n, count, node.0, binding.0)
-            } else {
-                count
-            }
+            let n = ast::node_count(image);
+            rows::put_row(rows, n, count, node.0, binding.0)
         }
         Found::Nothing => count,
     }
@@ -290,7 +281,7 @@ fn collect_stmts(
     first: usize,
     size: usize,
 ) -> u32
-    requires { ⌜ Run (now image) (sought (now table) symbols) 36 (node .0) first size count ⌝ }
+    requires { ⌜ ReadyRun (now image) (sought (now table) symbols) 36 (node .0) first size count ⌝ }
     ensures { λ r. ⌜ Appended («image-spec».nodes (now (image .entry))) (rowsAt (now (image .entry)) (sought (now (table .entry)) symbols) (node .0) size first) count (now (rows .entry)) r (now (rows .exit)) ⌝ }
 {
     let mut i = 0;

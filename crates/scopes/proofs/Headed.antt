@@ -8,7 +8,7 @@ use Rattle.table.specs.Layout.{entryPlace, exitPlace, parentPlace, scopePlace, 
 use Rattle.table.specs.Rows.{Sorted}
 use Rattle.table.specs.Table.{Table, find, lookup, entryAt, exitAt}
 use Rattle.table.proofs.Frames.{from-same}
-use Rattle.ordered.proofs.Agreed.{lookup-agree}
+use Rattle.table.proofs.Agreed.{lookup-agree}
 use Rattle.scopes.specs.Resolve.{headed}
 use Rattle.scopes.proofs.Resolving.{headed-word, headed-length}
 

@@ -10,14 +10,15 @@ use lib.Dec.{leb→le}
 use lib.ListN.{length, getD, set, drop, replicate, length-set, length-append, length-replicate}
 use lib.Seq.{getD-set-same, getD-set-other, drop-set-lt, drop-at}
 use Rattle.ast.specs.Answer.{refused, twice as twiceAnswer, result}
-use Rattle.ast.specs.Image.{nodes, last, kindAt}
+use Rattle.ast.specs.Declarations.{moduleLists}
+use Rattle.ast.specs.Image.{nodes, last, kindAt, nameOf}
 use Rattle.ast.specs.Rows.{kids, shape}
 use Rattle.ast.specs.Kinds.{Class}
 use Rattle.ast.specs.Tests.{run, verdict}
-use Rattle.ast.specs.Tree.{Tree, node, block, Trees, ordered, grow, classAt, treeAt}
+use Rattle.ast.specs.Tree.{Tree, node, block, Trees, ordered, grow, classAt, treeAt, size}
 use Rattle.ast.proofs.Accepted.{both, needed, skip, formed, last-below}
 use Rattle.ast.proofs.Unfold.{treeAt-is}
-use Rattle.ast.proofs.Count as count
+use Rattle.ast.proofs.Count.{tree-size}
 use Rattle.ast.proofs.Small.{Small, tree-small}
 use Rattle.ast.proofs.Vars.{Everywhere}
 use Rattle.table.specs.Layout.{allOnes, nodesPlace, scopesPlace, symbolsPlace, tableLength}
@@ -28,8 +29,6 @@ use Rattle.table.proofs.Sounds.{parent-low, row-yes, sound-rest}
 use Rattle.ordered.specs.Walkers.{Few}
 use Rattle.ordered.specs.Kept.{Kept}
 use Rattle.ordered.proofs.Kept.{past, mark-kept, scope-kept, mark-past, scope-past, mark-length, scope-length}
-use Rattle.ordered.specs.Size.{size}
-use Rattle.ordered.proofs.Size.{size-nodes}
 use Rattle.rows.specs.Rows.{cleared}
 use Rattle.rows.proofs.Appends.{clear-length}
 use Rattle.scopes.specs.Walk.{Listed, done, twice, enterAll, visitAll, resolveTree}
@@ -118,8 +117,8 @@ module _ (img ws : List ℕ) (long : tableLength (nodes img) ≤ length ws) wher
         good = moves-good img (ends-and img (enterAll img ts m) (visitAll img ts) (enterAll-ends img ts (fit .1) m) (λ f. visitAll-ends img ts (fit .1) f) e h) few (begun-good img ws n (q .0) long);
       }
 
-  tree-shown : (u : Tree) → Small (nodes img) u → size u ≤ nodes img → shows (resolveTree img u (record { words = ws; scopes = 0; symbols = 0 })) ≡ clashIn img u
-  unfolding resolveTree Small size clashIn shows
+  tree-shown : (u : Tree) → Small (nodes img) u → size u ≤ nodes img → shows (resolveTree img u (record { words = ws; scopes = 0; symbols = 0 })) ≡ clashIn (nameOf img) (moduleLists u)
+  unfolding resolveTree Small size clashIn moduleLists shows
   tree-shown (block ts) q s = refl
   tree-shown (node n k c sh ts) q s =
       let m = begun img ws n (q .0) long in
@@ -154,7 +153,7 @@ module _ (img tab : List ℕ) where
 
   module _ (accepted : verdict img ≡ 0) where
     whole-size : size (treeAt img (last img)) ≡ nodes img
-    whole-size = size-nodes (treeAt img (last img)) ∙ count.size img accepted
+    whole-size = tree-size img accepted
 
     pub walk-ended : (e : Exit) → walked img tab ≡ done e → Ended img (zeroed img tab) e
     unfolding walked

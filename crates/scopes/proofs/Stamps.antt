@@ -19,7 +19,7 @@ use Rattle.table.specs.State.{Exit, ownSymbol, marked}
 use Rattle.table.specs.Table.{Table, rowIs, findFrom, mark, newSymbol}
 use Rattle.table.proofs.Finds.{row-out, row-in}
 use Rattle.table.proofs.Frames.{SameRows, symbol-same, symbol-node}
-use Rattle.ordered.proofs.Bools.{false-true}
+use Rattle.ast.proofs.Bools.{false-true}
 use Rattle.ordered.proofs.Kept.{mark-word}
 use Rattle.scopes.specs.Lists.{Seen, Stamped}
 

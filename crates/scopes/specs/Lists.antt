@@ -5,12 +5,13 @@ use mathlib.Core.Bool.{Bool, true, false}
 use mathlib.Core.List.{List}
 use Prim.Native.Nat.{ℕ, suc, _+_, _-_, _<_, _≤_}
 use lib.ListN.{length, getD, set, drop}
-use Rattle.ast.specs.Image.{nodes, kindAt, field, nameOf}
-use Rattle.ast.specs.Is.{Is}
+use Rattle.ast.specs.Image.{nodes, kindAt, nameOf}
+use Rattle.ast.specs.Declarations.{declared, declaredAll}
+use Rattle.ast.specs.Is.{Is, Run}
 use Rattle.ast.specs.Items.{items}
 use Rattle.ast.specs.Kinds.{outer, inner, root, decl, signature, rule, enum, model, Kind, kindOf}
 use Rattle.ast.specs.Tests.{verdict}
-use Rattle.ast.specs.Tree.{Tree, node, block, Trees, none, _◂_, treeAt}
+use Rattle.ast.specs.Tree.{Tree, node, block, Trees, none, _◂_, treeAt, size, sizes}
 use Rattle.table.specs.Layout.{tableLength}
 use Rattle.table.specs.Rows.{scopeOf, nodeAt}
 use Rattle.table.specs.State.{Exit}
@@ -18,7 +19,6 @@ use Rattle.table.specs.Values.{exitOf}
 use Rattle.ordered.specs.Walk.{occurs}
 use Rattle.ordered.specs.Walkers.{inside, Room}
 use Rattle.ordered.specs.Kept.{Kept}
-use Rattle.ordered.specs.Size.{size, sizes}
 use Rattle.scopes.specs.Walk.{Listed, done, twice, andThen, enterAll, visitAll}
 use Rattle.scopes.specs.declared.Declared.{Declared}
 use Rattle.scopes.specs.declared.Declared.the-variants.{Done, Twice}
@@ -28,25 +28,16 @@ abbrev pub listedOf : Declared → List ℕ → Listed
 listedOf (Done w) ws = done (exitOf w ws)
 listedOf (Twice x a b) ws = twice x (a .0) (b .0)
 
--- how many symbols entering a declaration may add
-unfoldable mutual
-  pub ent : Tree → ℕ
-  ent (block ts) = 0
-  ent (node n k (inner i) sh ts) = 0
-  ent (node n k (outer root) sh ts) = 0
-  ent (node n k (outer decl) sh ts) = ents ts
-  ent (node n k (outer signature) sh ts) = 1
-  ent (node n k (outer rule) sh ts) = 1
-  ent (node n k (outer enum) sh ts) = 1 + ents ts
-  ent (node n k (outer model) sh ts) = 1
+-- how many symbols entering a declaration, or a list of them, may add
+abbrev pub ent : Tree → ℕ
+ent u = length (declared u)
 
-  pub ents : Trees → ℕ
-  ents none = 0
-  ents (t ◂ ts) = ent t + ents ts
+abbrev pub ents : Trees → ℕ
+ents us = length (declaredAll us)
 
--- how many symbols visiting it may add
+-- how many symbols visiting a declaration may add
 unfoldable mutual
-  unfolding ents sizes
+  unfolding declaredAll sizes
 
   pub vis : Tree → ℕ
   vis (block ts) = 0
@@ -123,27 +114,19 @@ module _ (img : List ℕ) where
     pub is : Is img kd n
     pub fits : Fits (size (treeAt img n)) (vis (treeAt img n)) e
 
-  -- count items of kind k from place j of n's row on
-  pub record Lists (k n j count : ℕ) : Type 0 where
-    pub accepted : verdict img ≡ 0
-    pub below : n < nodes img
-    pub lower : (i : ℕ) → i < count → field img n (j + i) < n
-    pub kinds : (i : ℕ) → i < count → kindAt img (field img n (j + i)) ≡ k
-    pub short : j + count ≤ 8192
-
-  -- what entering the names of such a list asks
+  -- what entering the names of a list asks
   pub record EnterRun (seen : List ℕ) (n j count : ℕ) (e : Exit) : Type 0 where
-    pub lists : Lists 1 n j count
+    pub run : Run img 1 n j count
     pub entering : Entering seen (ents (items img n count j)) e
 
-  -- what visiting the declarations of such a list asks
+  -- what visiting the declarations of a list asks
   pub record VisitRun (k n j count : ℕ) (e : Exit) : Type 0 where
-    pub lists : Lists k n j count
+    pub run : Run img k n j count
     pub fits : Fits (sizes (items img n count j)) (viss (items img n count j)) e
 
   -- what the whole list asks: the walk stands in the newest scope, which has no row yet
   pub record ListRun (n j count : ℕ) (e : Exit) : Type 0 where
-    pub lists : Lists 1 n j count
+    pub run : Run img 1 n j count
     pub fits : Fits (sizes (items img n count j)) (ents (items img n count j) + viss (items img n count j)) e
     pub newest : suc (e .scope) ≡ e .table .scopes
     pub fresh : (j : ℕ) → j < e .table .symbols → scopeOf (nodes img) (e .table .words) j < e .scope

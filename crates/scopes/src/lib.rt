@@ -122,7 +122,7 @@ fn enter_ctors(
 
 // An unnamed rule is not entered.
 fn enter_rule(image: &[u8], table: &mut [u32], seen: &mut [u32], at: Walked, id: NodeId) -> Declared
-    requires { ⌜ (Is (now image) (kindOf 6) (id .0)) × (Entering (now image) (now seen) 1 (exitOf at (now table))) ⌝ }
+    requires { ⌜ (Is (now image) (kindOf 6) (id .0)) × (Entering (now image) (now seen) (ent (treeAt (now image) (id .0))) (exitOf at (now table))) ⌝ }
     ensures { λ r. ⌜ Enters (now (image .entry)) (enter (now (image .entry)) (treeAt (now (image .entry)) (id .0)) (exitOf at (now (table .entry)))) (now (table .entry)) r (now (seen .exit)) (now (table .exit)) ⌝ }
 {
     let name = ast::field(image, id, 0);

@@ -2,7 +2,7 @@
 use mathlib.Core.Path.{_≡_, refl, sym, _∙_, ap, ap₂}
 use mathlib.Core.Logic.{_≢_}
 use mathlib.Core.Bool.{Bool}
-use mathlib.Core.List.{List, _++_}
+use mathlib.Core.List.{List, [], _∷_, _++_}
 use mathlib.Core.Option.{Option, none, some}
 use Prim.Native.Nat.{ℕ, zero, suc, _+_, _≤_, _<_}
 use native.Mathlib.Nat.{zero-add}
@@ -11,7 +11,9 @@ use native.Mathlib.Omega.{arith}
 use lib.ListN.{set, length-set}
 use lib.Seq.{getD-set-same}
 use borrow.Author.Tests.{lt-ltb, le-ltb}
-use Rattle.ast.specs.Image.{nodes}
+use Rattle.ast.specs.Declarations.{orElse, earliest}
+use Rattle.ast.specs.Image.{nodes, nameOf}
+use Rattle.ast.proofs.Declarations.{orElse-none}
 use Rattle.table.specs.Layout.{entryPlace, exitPlace, parentPlace}
 use Rattle.table.specs.Rows.{parentAt}
 use Rattle.table.specs.State.{Exit, introduce}
@@ -20,15 +22,10 @@ use Rattle.table.proofs.Finds.{row-out}
 use Rattle.table.proofs.Frames.{SameRows, from-same, find-none, find-mark, find-scope, symbol-same, symbol-scope, find-symbol}
 use Rattle.table.proofs.Rising.{either, hit, find-snoc}
 use Rattle.ordered.specs.Kept.{Kept}
-use Rattle.ordered.proofs.Agreed.{through, above, above-cong, Agree, lookup-agree}
+use Rattle.table.proofs.Agreed.{through, above, above-cong, Agree, lookup-agree}
 use Rattle.ordered.proofs.Kept.{mark-word, scope-word, symbol-word, scope-kept, symbol-kept}
 use Rattle.sight.specs.Sight.{In}
-use Rattle.ast.specs.Rules.{orElse, own}
 use Rattle.sight.proofs.Members.{in-left, in-right}
-
-pub orElse-none : (u : Option ℕ) → orElse u none ≡ u
-orElse-none none = refl
-orElse-none (some n) = refl
 
 either-orElse : (o u : Option ℕ) → either o u ≡ orElse o u
 unfolding either
@@ -139,9 +136,9 @@ module _ (img : List ℕ) where
         rows : SameRows N (t .symbols) named (t .words)
         rows = symbol-same img s n t Y<N (sane .rising .long)
 
-    pub name-find : (x : ℕ) → find img (newSymbol img s n t) s x ≡ orElse (find img t s x) (own img n x)
-    unfolding own Rattle.table.proofs.Frames.own
-    name-find x = find-symbol img s n t Y<N (sane .rising .long) x ∙ either-orElse (find img t s x) (own img n x)
+    pub name-find : (x : ℕ) → find img (newSymbol img s n t) s x ≡ orElse (find img t s x) (earliest (nameOf img) (n ∷ []) x)
+    unfolding earliest Rattle.table.proofs.Frames.own
+    name-find x = find-symbol img s n t Y<N (sane .rising .long) x ∙ either-orElse (find img t s x) (earliest (nameOf img) (n ∷ []) x)
 
     pub name-parent : (r : ℕ) → r < N → parentAt N named r ≡ parentAt N (t .words) r
     name-parent r h = symbol-word img s n t (parentPlace N r) (omega arith) (omega arith)
@@ -175,16 +172,16 @@ module _ (img : List ℕ) where
     unfolding introduce
     new-lookup-old s x h = lookup-agree img K t₂ (e .table) s x h old-agree
 
-    new-find : (x : ℕ) → find img t₂ K x ≡ own img n x
+    new-find : (x : ℕ) → find img t₂ K x ≡ earliest (nameOf img) (n ∷ []) x
     unfolding newScope
     new-find x =
-        name-find K n t₁ sane₁ Y<N x ∙ ap (λ o. orElse o (own img n x)) (child-empty (e .scope) (e .table) sane K<N x)
+        name-find K n t₁ sane₁ Y<N x ∙ ap (λ o. orElse o (earliest (nameOf img) (n ∷ []) x)) (child-empty (e .scope) (e .table) sane K<N x)
 
     new-parent : parentAt N (t₂ .words) K ≡ e .scope
     unfolding newScope
     new-parent = name-parent K n t₁ sane₁ Y<N K K<N ∙ child-parent (e .scope) (e .table) sane K<N
 
-    pub new-lookup : (x : ℕ) → lookup img ((introduce img n e) .table) K x ≡ orElse (own img n x) (lookup img (e .table) (e .scope) x)
+    pub new-lookup : (x : ℕ) → lookup img ((introduce img n e) .table) K x ≡ orElse (earliest (nameOf img) (n ∷ []) x) (lookup img (e .table) (e .scope) x)
     unfolding introduce
     new-lookup x =
         lookup-child t₂ K (e .scope) x new-parent inside

@@ -9,6 +9,7 @@ use Prim.Native.Nat.{ℕ, _≤_, _<_}
 use native.Mathlib.Omega.{arith}
 use lib.ListN.{length}
 use lib.Dec.{eqb}
+use Rattle.ast.specs.Declarations.{declaredAll, orElse, earliest}
 use Rattle.ast.specs.Image.{nodes, nameOf, kindAt}
 use Rattle.ast.specs.Kinds.{Class}
 use Rattle.ast.specs.Tree.{node, Trees}
@@ -20,13 +21,13 @@ use Rattle.table.proofs.Frames.{find-mark, find-scope}
 use Rattle.ordered.specs.Walk.{occurs, walkSeq}
 use Rattle.scopes.specs.Walk.{done, enterAll, visitAll, resolveTree}
 use Rattle.ordered.specs.Kept.{Kept}
-use Rattle.ordered.proofs.Agreed.{Agree, lookup-agree}
+use Rattle.table.proofs.Agreed.{Agree, lookup-agree}
 use Rattle.ordered.proofs.Kept.{mark-kept, scope-kept}
 use Rattle.ordered.proofs.Moves.{numbersSeq, rises}
 use Rattle.scopes.proofs.Adds.{and-inv}
 use Rattle.scopes.proofs.Resolving.{none-kept}
 use Rattle.sight.specs.Sight.{Place, In, rulePlaces, Naming, Occurrence, Same, outerConst}
-use Rattle.ast.specs.Rules.{Rule, saysAll, rulesAll, orElse}
+use Rattle.ast.specs.Rules.{Rule, saysAll, rulesAll}
 use Rattle.sight.proofs.Members.{in-left, in-right, in-split, Distinct, distinct-left, distinct-right, distinct-apart}
 use Rattle.sight.proofs.Frame.{Bounds, Later, later-next, lookup-child, lookup-root, mark-parent, mark-exit, child-parent, child-parent-other, child-empty, child-exit}
 use Rattle.sight.proofs.Steps.{Bodies}
@@ -121,10 +122,13 @@ module _ (img : List ℕ) where
           )
 
   -- a new list, its scope below the one of e
-  module _ (n : ℕ) (es : List ℕ) (D m : ℕ → Option ℕ) (e : Exit) (t′ : Table) (so : Kept img (e .table)) (inside : e .scope < e .table .scopes)
+  module _ (n : ℕ) (es ds : List ℕ) (m : ℕ → Option ℕ) (e : Exit) (t′ : Table) (so : Kept img (e .table)) (inside : e .scope < e .table .scopes)
       (K<N : e .table .scopes < nodes img) (n<N : n < nodes img)
-      (en : Entered img (e .table .scopes) es D (mark img n (e .table .scopes) (e .table .scopes) (newScope img (e .scope) (e .table))) t′)
+      (en : Entered img (e .table .scopes) es ds (mark img n (e .table .scopes) (e .table .scopes) (newScope img (e .scope) (e .table))) t′)
       (reads : (x : ℕ) → lookup img (e .table) (e .scope) x ≡ m x) where
+    abbrev D : ℕ → Option ℕ
+    D = earliest (nameOf img) ds
+
     abbrev t : Table
     t = e .table
 
@@ -185,7 +189,7 @@ module _ (img : List ℕ) where
       let f = framed img (walks-seq img ts e) b sm so i in
       record { sane = f .sane; later = f .later; walked = λ T k r j. absurd j }
   holds (ruled {m = m} {e = e} ts body) b sm di so i reads outs = held-rule ts body m e b sm di so i reads outs
-  holds (nested {es = es} {ns = ns} {rs = rs} {D = D} {m = m} {e = e} {e′ = e′} {e″ = e″} n v u) b sm di so i reads outs =
+  holds (nested {es = es} {ds = ds} {ns = ns} {rs = rs} {m = m} {e = e} {e′ = e′} {e″ = e″} n v u) b sm di so i reads outs =
       let K = e .table .scopes in
       let p = stays img v in
       let p₀ = p .scope in
@@ -196,15 +200,15 @@ module _ (img : List ℕ) where
       let q₁ = q .symbols in
       let K<N : K < nodes img = omega arith in
       let n<N = sm n (inl refl) in
-      let en : Entered img K es D (mark img n K K (newScope img (e .scope) (e .table))) (e′ .table) =
+      let en : Entered img K es ds (mark img n K K (newScope img (e .scope) (e .table))) (e′ .table) =
       entering img v (omega arith) (λ k j. sm k (inr (in-left k es ns j)))
       (mark-kept img n K K (newScope img (e .scope) (e .table)) n<N (scope-kept img (e .scope) (e .table) K<N so)) (omega arith) in
       let f : Held (n ∷ es) [] (e .table) (e′ .table) =
-      record { sane = en .sane; later = list-later n es D m e (e′ .table) so i K<N n<N en reads; walked = λ T k r j. absurd j } in
+      record { sane = en .sane; later = list-later n es ds m e (e′ .table) so i K<N n<N en reads; walked = λ T k r j. absurd j } in
       let g : Held ns rs (e′ .table) (e″ .table) =
       holds u b (λ k j. sm k (inr (in-right k es ns j))) (distinct-right es ns (di .1)) (en .sane) (omega arith)
-      (λ x. ap (λ s. lookup img (e′ .table) s x) p₀ ∙ list-reads n es D m e (e′ .table) so i K<N n<N en reads x)
-      (λ x. kind-orElse img (D x) (m x) (en .novar x) (outs x)) in
+      (λ x. ap (λ s. lookup img (e′ .table) s x) p₀ ∙ list-reads n es ds m e (e′ .table) so i K<N n<N en reads x)
+      (λ x. kind-orElse img (earliest (nameOf img) ds x) (m x) (en .novar x) (outs x)) in
       held-after (n ∷ es) ns [] rs (e .table) (e′ .table) (e″ .table) (omega arith) q₀ di f g
 
   -- what resolving leaves for the rules rs
@@ -235,7 +239,7 @@ module _ (img : List ℕ) where
       let p₁ = p .scopes in
       let z = returns v in
       let z₀ = z .symbols in
-      let en : Entered img 0 es D (mark img n 0 0 t₁) (h .0 .table) =
+      let en : Entered img 0 es (declaredAll ts) (mark img n 0 0 t₁) (h .0 .table) =
       entering img E (omega arith) (λ m i. sm m (inr (in-left m es ns i))) (mark-kept img n 0 0 t₁ n<N (scope-kept img allOnes t₀ (omega arith) so)) (omega arith) in
       let reads : (x : ℕ) → lookup img (h .0 .table) (h .0 .scope) x ≡ D x = λ x.
       ap (λ s. lookup img (h .0 .table) s x) p₀

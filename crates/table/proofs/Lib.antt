@@ -3,3 +3,4 @@ pub mod Rising
 pub mod Overs
 pub mod Sounds
 pub mod Frames
+pub mod Agreed

@@ -11,7 +11,7 @@ ghost use Rattle.table.specs.Table as «table-spec»;
 ghost use Rattle.table.specs.State.{childScope, ownSymbol, introduce, marked, unmarked};
 ghost use Rattle.table.specs.Sound.{hasName, isSymbol, parentBelow, rowSound, testSound};
 ghost use Rattle.table.specs.Rows.{scopeOf, nodeAt, parentAt, Sorted, Cut, Before, Rising, Block};
-ghost use Rattle.table.specs.Values.{tableOf, exitOf, optionOf};
+ghost use Rattle.table.specs.Values.{tableOf, sought, exitOf, optionOf};
 use ast::NodeId;
 
 pub struct ScopeId(pub u32);
@@ -404,6 +404,23 @@ pub fn seek(image: &[u8], table: &[u32], symbols: u32, scope: ScopeId, name: u32
     Found::Nothing
 }
 
+// Of a kind.
+pub fn is_kind(image: &[u8], found: Found, kind: u32) -> bool
+    ensures { λ r. ⌜ r ≡ «table-spec».isKind (now (image .entry)) kind (optionOf found) ⌝ }
+{
+    match found {
+        Found::At(node) => ast::kind_at(image, node) == kind,
+        Found::Nothing => false,
+    }
+}
+
+// A Var.
+pub fn is_var(image: &[u8], found: Found) -> bool
+    ensures { λ r. ⌜ r ≡ «table-spec».isVar (now (image .entry)) (optionOf found) ⌝ }
+{
+    is_kind(image, found, 13)
+}
+
 // A Var or a Const.
 pub fn is_value(image: &[u8], found: Found) -> bool
     ensures { λ r. ⌜ r ≡ «table-spec».isValue (now (image .entry)) (optionOf found) ⌝ }
@@ -432,6 +449,23 @@ pub fn exit_of(image: &[u8], table: &[u32], node: NodeId) -> ScopeId
 {
     let n = ast::wide(ast::node_count(image));
     ScopeId(get(table, 3 + n + ast::wide(node.0)))
+}
+
+// What the name of an IdentTerm is at a node's entry, and at its exit.
+pub fn at_entry(image: &[u8], table: &[u32], symbols: u32, node: NodeId, ident: NodeId) -> Found
+    requires { ⌜ Sorted («image-spec».nodes (now image)) symbols (now table) ⌝ }
+    ensures { λ r. ⌜ optionOf r ≡ «table-spec».atEntry (now (image .entry)) (sought (now (table .entry)) symbols) (node .0) (ident .0) ⌝ }
+{
+    let scope = entry_of(image, table, node);
+    seek(image, table, symbols, scope, ast::name_of(image, ident))
+}
+
+pub fn at_exit(image: &[u8], table: &[u32], symbols: u32, node: NodeId, ident: NodeId) -> Found
+    requires { ⌜ Sorted («image-spec».nodes (now image)) symbols (now table) ⌝ }
+    ensures { λ r. ⌜ optionOf r ≡ «table-spec».atExit (now (image .entry)) (sought (now (table .entry)) symbols) (node .0) (ident .0) ⌝ }
+{
+    let scope = exit_of(image, table, node);
+    seek(image, table, symbols, scope, ast::name_of(image, ident))
 }
 
 // The symbol number of each kind, as the cases of `Symbol` go; 0 for a kind that is no symbol's.

@@ -1,15 +1,15 @@
 -- Tables that agree on what each scope has, and on its parent, give the same lookups.
-use mathlib.Core.Path.{_≡_, refl, ap, ap₂, _∙_}
+use mathlib.Core.Path.{_≡_, refl, ap₂, _∙_}
 use mathlib.Core.Bool.{Bool, true, false}
 use mathlib.Core.List.{List}
 use mathlib.Core.Option.{Option, none, some}
-use Prim.Native.Nat.{ℕ, zero, suc, _+_, _<_}
+use Prim.Native.Nat.{ℕ, zero, suc, _<_}
 use native.Mathlib.Omega.{arith}
 use lib.Dec.{ltb}
 use borrow.Author.Tests.{ltb-true}
 use Rattle.ast.specs.Image.{nodes, nameOf}
 use Rattle.table.specs.Rows.{parentAt}
 use Rattle.table.specs.Table.{Table, find, climb, lookup}
 
 -- lookup from a scope, by what a search gives
 pub looked-up : (img : List ℕ) (t : Table) (s : ℕ) (x : ℕ) (i : ℕ) (o : Option ℕ) (z : ℕ) → s ≡ z → x ≡ nameOf img i

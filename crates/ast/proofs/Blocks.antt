@@ -4,11 +4,11 @@ use mathlib.Core.List.{List}
 use Prim.Native.Nat.{ℕ, zero, suc, _+_, _-_, _<_, _≤_}
 use native.Mathlib.Omega.{arith}
 use native.Mathlib.Nat.{le-refl, le-trans}
 use Rattle.ast.specs.Image.{field}
-use Rattle.ast.specs.Is.{Is}
+use Rattle.ast.specs.Is.{Is, Run}
 use Rattle.ast.specs.Kinds.{kindOf}
-use Rattle.ast.proofs.Row.{next, ends, blocksEnd, Items, FormedBlocks, FormedFields}
-use Rattle.ast.proofs.Shapes.{one-more, formed-row, row}
+use Rattle.ast.proofs.Row.{next, ends, blocksEnd, FormedBlocks, FormedFields}
+use Rattle.ast.proofs.Shapes.{one-more, formed-row, row, run-of}
 
 module _ (img : List ℕ) where
   ends-grows : (n c j : ℕ) → j ≤ blocksEnd img n c j
@@ -18,6 +18,7 @@ module _ (img : List ℕ) where
 
   -- after i of the count blocks, from place j on
   pub record BlocksFrom (n count i j : ℕ) : Type 0 where
+    pub is : Is img (kindOf 39) n
     pub within : i ≤ count
     pub formed : FormedBlocks img n 36 (count - i) j
     pub short : blocksEnd img n (count - i) j ≤ 8192
@@ -27,6 +28,7 @@ module _ (img : List ℕ) where
   blocks-from {n} {count} is q =
       let e : field img n 0 ≡ count - 0 = omega arith in
       record {
+        is = is;
         within = omega arith;
         formed = subst (λ (c : ℕ). FormedBlocks img n 36 c 1) e ((row img is) .0);
         short = subst (λ (c : ℕ). blocksEnd img n c 1 ≤ 8192) e ((formed-row img is) .short);
@@ -37,8 +39,7 @@ module _ (img : List ℕ) where
 
   -- one block more
   pub record NextBlock (n count i j : ℕ) : Type 0 where
-    pub items : Items img n 36 (field img n j) (j + 1)
-    pub fits : j + 1 + field img n j ≤ 8192
+    pub run : Run img 36 n (j + 1) (field img n j)
     pub from : BlocksFrom n count (i + 1) (j + 1 + field img n j)
 
   pub next-block : {n count i j : ℕ} → BlocksFrom n count i j → i < count → NextBlock n count i j
@@ -48,7 +49,6 @@ module _ (img : List ℕ) where
       let hs : FormedBlocks img n 36 (suc c) j = subst (λ (x : ℕ). FormedBlocks img n 36 x j) (one-more l) (b .formed) in
       let sh : blocksEnd img n c (j + 1 + field img n j) ≤ 8192 = subst (λ (x : ℕ). blocksEnd img n x j ≤ 8192) (one-more l) (b .short) in
       record {
-        items = hs .0;
-        fits = le-trans (ends-grows n c (j + 1 + field img n j)) sh;
-        from = record { within = omega arith; formed = hs .1; short = sh };
+        run = run-of img (b .is) (hs .0) (le-trans (ends-grows n c (j + 1 + field img n j)) sh);
+        from = record { is = b .is; within = omega arith; formed = hs .1; short = sh };
       }

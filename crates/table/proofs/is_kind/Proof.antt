@@ -1,10 +1,10 @@
 use mathlib.Core.Path.{sym, ap, _∙_}
 use lib.Dec.{eqb}
 use Rattle.table.specs.Table.{isKind}
 use Rattle.table.specs.Values.{optionOf}
 use borrow.Author.Needs.{needs}
-use Rattle.bindings.proofs.is_kind.Statement.{statement}
-use Rattle.bindings.proofs.is_kind.Tie as tie
+use Rattle.table.proofs.is_kind.Statement.{statement}
+use Rattle.table.proofs.is_kind.Tie as tie
 
 enum-known-found : tie.Need-enum-known-found
 enum-known-found c = search needs

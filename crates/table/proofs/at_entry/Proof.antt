@@ -1,7 +1,7 @@
-use Rattle.ordered.proofs.Agreed.{looked-up}
+use Rattle.table.proofs.Agreed.{looked-up}
 use borrow.Author.Needs.{needs}
-use Rattle.bindings.proofs.at_entry.Statement.{statement}
-use Rattle.bindings.proofs.at_entry.Tie as tie
+use Rattle.table.proofs.at_entry.Statement.{statement}
+use Rattle.table.proofs.at_entry.Tie as tie
 
 entry-of-requires : tie.Need-entry-of-requires
 entry-of-requires c κs = search needs

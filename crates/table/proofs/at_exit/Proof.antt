@@ -1,7 +1,7 @@
+use Rattle.table.proofs.Agreed.{looked-up}
 use borrow.Author.Needs.{needs}
-use Rattle.ordered.proofs.Agreed.{looked-up}
-use Rattle.occurrences.proofs.lookup_at.Statement.{statement}
-use Rattle.occurrences.proofs.lookup_at.Tie as tie
+use Rattle.table.proofs.at_exit.Statement.{statement}
+use Rattle.table.proofs.at_exit.Tie as tie
 
 exit-of-requires : tie.Need-exit-of-requires
 exit-of-requires c κs = search needs
@@ -15,5 +15,5 @@ seek-requires c κs = search needs
 returns : tie.Need-returns
 returns c = looked-up _ _ _ _ _ _ _ (c .before .before .exit-of .ensures) (c .before .name-of .ensures) (c .seek .ensures)
 
-pub lookup-at-spec : {M : Type 1} → statement M
-lookup-at-spec = tie.close (tie.spec exit-of-requires name-of-requires seek-requires returns)
+pub at-exit-spec : {M : Type 1} → statement M
+at-exit-spec = tie.close (tie.spec exit-of-requires name-of-requires seek-requires returns)
