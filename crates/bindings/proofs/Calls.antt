@@ -26,7 +26,7 @@ use Rattle.scopes.proofs.Headed.{headed-sorted}
 use Rattle.bindings.specs.Errors.{isStrict, strictRows, declRows, plainRows, errorRows, testErrors, errorsOf, errors}
 use Rattle.bindings.specs.Checks.{Ready, ofMode, Filled, Wrote}
 use Rattle.bindings.proofs.Alike.{errors-headed}
-use Rattle.bindings.proofs.Few.{both-few, rows-few}
+use Rattle.bindings.proofs.Bound.{both-few, rows-few}
 
 -- writing the rows ------------------------------------------------------------------------------------------------------
 module _ (img : List ℕ) where

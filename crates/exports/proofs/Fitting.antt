@@ -27,7 +27,7 @@ use Rattle.ast.proofs.Bools.{true-is}
 use Rattle.scopes.proofs.Namings.{symbol-below}
 use Rattle.scopes.proofs.Resolving.{Ways, refuses, stops, fills, ways, refuses-outcome, stops-outcome, fills-outcome, walked-ended, table-accepted}
 use Rattle.bindings.specs.Errors.{errorRows, testErrors, errorsOf, errors}
-use Rattle.bindings.proofs.Few as errors-few
+use Rattle.bindings.proofs.Bound as errors-few
 use Rattle.occurrences.specs.Occurrences.{occurrenceRows, lone, rowsByRule, onceAnswer, occurrencesOf, occurrences, onceOf, once}
 use Rattle.ast.specs.Rules.{moduleRules}
 use Rattle.occurrences.proofs.CollectLone.{climb-low}

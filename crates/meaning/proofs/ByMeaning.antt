@@ -22,7 +22,7 @@ use Rattle.table.specs.Table.{Table, lookup}
 use Rattle.bindings.specs.Checks.{ofMode}
 use Rattle.bindings.specs.Errors.{errorRows, testErrors, errorsOf, errors}
 use Rattle.bindings.proofs.Calls.{passes-table}
-use Rattle.bindings.proofs.Few.{rows-few}
+use Rattle.bindings.proofs.Bound.{rows-few}
 use Rattle.sight.proofs.Demand.{list}
 use Rattle.sight.proofs.Leaving.{list-is}
 use Rattle.sight.proofs.Single.{single-done}

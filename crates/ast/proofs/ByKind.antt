@@ -5,16 +5,16 @@ use mathlib.Core.List.{List, [], _∷_}
 use Prim.Native.Nat.{ℕ, zero, suc, _<_, _≤_}
 use native.Mathlib.Omega.{arith}
 use lib.Dec.{T, eqb}
 use Rattle.ast.specs.Image.{nodes, kindAt}
-use Rattle.ast.specs.Kinds.{Class, outer, inner, root, decl, signature, rule, enum, model, plain, term, ident, head, headMember, member, branch, match, case, ifVar, definedThen, arg, kinds, kindOf}
+use Rattle.ast.specs.Kinds.{Class, outer, inner, root, decl, signature, rule, enum, model, plain, term, ident, head, headMember, member, case, ifVar, definedThen, arg, kinds, kindOf}
 use Rattle.ast.specs.Rows.{Kid, one, many, numbers, kids, shape}
 use Rattle.ast.specs.Tests.{verdict}
 use Rattle.ast.specs.Tree.{Tree, node, block, Trees, none, _◂_, swap, swaps, ordered, growAll, grow, classAt, treeAt}
 use Rattle.ast.proofs.Accepted.{formed}
 use Rattle.ast.proofs.Kids.{childKind, kids-admitted, every-pair}
 use Rattle.ast.proofs.Unfold.{All, nil, cons, All-split, All-map, treeAt-is}
 use Rattle.ast.proofs.Vars.{checkAll, every-kind, Each}
-use Rattle.ordered.proofs.Bools.{not-or}
+use Rattle.ast.proofs.Bools.{not-or}
 
 -- the one kind of each class but plain, signature and those above rules
 abbrev pub kindFor : Class → ℕ → Bool
@@ -30,8 +30,6 @@ kindFor (inner ident) k = eqb k 13
 kindFor (inner head) k = eqb k 15
 kindFor (inner headMember) k = eqb k 16
 kindFor (inner member) k = eqb k 17
-kindFor (inner branch) k = eqb k 39
-kindFor (inner match) k = eqb k 40
 kindFor (inner case) k = eqb k 35
 kindFor (inner ifVar) k = eqb k 33
 kindFor (inner definedThen) k = eqb k 34
@@ -68,7 +66,7 @@ module _ (P : Tree → Type 0) where
     each-growAll nil = tt
     each-growAll (cons h r) = (h, each-growAll r)
 
-    each-grow : (ks : List Kid) → All (λ c. P (f c)) (numbers ks) → Each P (grow f ks)
+    pub each-grow : (ks : List Kid) → All (λ c. P (f c)) (numbers ks) → Each P (grow f ks)
     unfolding grow numbers Each
     each-grow [] h = tt
     each-grow (one c ∷ ks) (cons h r) = (h, each-grow ks r)

@@ -1,74 +1,52 @@
--- At most N error rows, so none is ever dropped: plain rows by the size of the rules' trees, rows 4 by the count of ArgDecls.
+-- At most N error rows, so none is ever dropped: in a rule there are no more rows than nodes and no ArgDecl, and rows 4 are no
+-- more than there are ArgDecls.
 use mathlib.Core.Path.{_≡_, refl, sym, ap, subst, _∙_}
-use mathlib.Core.Bool.{Bool, true, false, _||_, _&&_, not}
+use mathlib.Core.Bool.{Bool, true, false, _||_, _&&_}
 use mathlib.Core.List.{List, [], _∷_, _++_}
 use Prim.Native.Nat.{ℕ, zero, suc, _+_, _<_, _≤_}
 use native.Mathlib.Nat.{add-zero}
 use native.Mathlib.Numerals.{add-one}
-use native.Mathlib.Decide.{decLt}
 use native.Mathlib.Omega.{arith}
-use lib.Dec.{T, eqb, leb, eqb→eq, leb→le}
+use lib.Dec.{T, eqb, leb, eqb→eq}
 use lib.ListN.{length, length-append}
-use borrow.Author.Tests.{eqb-true, le-leb}
+use borrow.Author.Tests.{eqb-true}
 use Rattle.ast.specs.Image.{nodes, kindAt, startAt, opAt, field, last}
-use Rattle.ast.specs.Kinds.{Class, outer, inner, root, decl, signature, rule, enum, model, plain, term, ident, head, headMember, member, branch, match, case, ifVar, definedThen, arg, child, list, kinds, kindOf}
+use Rattle.ast.specs.Kinds.{Class, outer, inner, root, decl, signature, rule, enum, model, plain, term, ident, head, headMember, member, case, ifVar, definedThen, arg, child, list, kinds, kindOf}
 use Rattle.ast.specs.Is.{Is}
 use Rattle.ast.specs.Items.{below}
 use Rattle.ast.specs.Rows.{opsFrom, shape}
 use Rattle.ast.specs.Tests.{is, verdict}
-use Rattle.ast.specs.Tree.{Tree, node, block, Trees, none, _◂_, ordered, classAt, treeAt}
+use Rattle.ast.specs.Tree.{Tree, node, block, Trees, none, _◂_, ordered, classAt, treeAt, size, sizes}
 use Rattle.ast.proofs.Accepted.{formed, last-below}
-use Rattle.ast.proofs.Count.{nodesOf, nodesAll, sumOf, sumTo, sumOf-append, sumTo-add, sumTo-ones, is-same, is-other, whole}
+use Rattle.ast.proofs.Bools.{false-true, is-true, true-not-false}
+use Rattle.ast.proofs.ByKind.{kindFor, each-map, kidsAt, class-kind, by-kinds}
+use Rattle.ast.proofs.Count.{nodesOf, nodesAll, sumOf, sumTo, sumOf-append, is-same, is-other, whole, tree-size}
 use Rattle.ast.proofs.Row.{Child, FormedFields, allKids}
 use Rattle.ast.proofs.Shapes.{row as fields-of, child-is}
 use Rattle.ast.proofs.Unfold.{All, nil, cons, All-append, treeAt-is}
-use Rattle.ast.proofs.Vars.{checkAll, Each}
+use Rattle.ast.proofs.Vars.{Each}
 use Rattle.error.specs.Kinds.{asked}
-use Rattle.ordered.proofs.Bools.{false-true, is-true, true-not-false}
+use Rattle.table.specs.Table.{Table, isVar, atEntry}
 use Rattle.rows.specs.Rows.{Row, row, when}
 use Rattle.scopes.specs.Twice.{among}
-use Rattle.table.specs.Table.{Table, isVar}
-use Rattle.bindings.specs.Errors.{atEntry, introduces, introducedRow, definedRow, definedRows, argRow, argRows, listRows, isCtor, appRows, patternRows, rowsOf, rowsSeq, rowsFirst, rowsDefined, declRows, declsRows, plainRows, argsOf, repeated, repeatedIn, repeatedTo, strictFrom, strictRows, isStrict, errorRows}
+use Rattle.bindings.specs.Errors.{introduces, introducedRow, definedRow, definedRows, argRow, argRows, listRows, isCtor, appRows, patternRows, rowsOf, rowsSeq, rowsFirst, rowsDefined, declRows, declsRows, plainRows, argsOf, repeated, repeatedIn, repeatedTo, strictFrom, strictRows, isStrict, errorRows}
 use Rattle.bindings.proofs.RowLaws.{kids-of}
 use Rattle.bindings.proofs.Quiet.{quiet}
-use Rattle.sentences.proofs.ByKind.{kindFor, each-map, kidsAt, low-kind, class-kind, each-kid, by-kinds}
 
--- a row that stands where a test says so
+-- no more rows than nodes ---------------------------------------------------------------------------------------------
 when-few : (b : Bool) (w : Row) → length (when b w) ≤ 1
 unfolding when
 when-few true w = omega arith
 when-few false w = omega arith
 
--- 1 at an ArgDecl
-abbrev argDecl : List ℕ → ℕ → ℕ
-argDecl img n = is 10 (kindAt img n)
-
--- how many nodes a tree has, and some trees
-abbrev ones : ℕ → ℕ
-ones n = 1
-
-abbrev size : Tree → ℕ
-size u = sumOf ones (nodesOf u)
-
-abbrev sizes : Trees → ℕ
-sizes us = sumOf ones (nodesAll us)
-
-cons-few : (w : ℕ → ℕ) (l k : List Row) (u : Tree) (us : Trees) → length l ≤ sumOf w (nodesOf u) → length k ≤ sumOf w (nodesAll us) → length (l ++ k) ≤ sumOf w (nodesAll (u ◂ us))
-unfolding nodesOf
-cons-few w l k u us a b = let c = length-append l k in let d = sumOf-append w (nodesOf u) (nodesAll us) in omega arith
-
-first-less : (u : Tree) (us : Trees) → size u ≤ sizes (u ◂ us)
-unfolding nodesOf
-first-less u us = let d = sumOf-append ones (nodesOf u) (nodesAll us) in omega arith
-
-rest-less : (u : Tree) (us : Trees) → sizes us ≤ sizes (u ◂ us)
-unfolding nodesOf
-rest-less u us = let d = sumOf-append ones (nodesOf u) (nodesAll us) in omega arith
+cons-few : (l k : List Row) (u : Tree) (us : Trees) → length l ≤ size u → length k ≤ sizes us → length (l ++ k) ≤ sizes (u ◂ us)
+unfolding size
+cons-few l k u us a b = let c = length-append l k in omega arith
 
 module _ (img : List ℕ) (t : Table) where
-  -- rows 2 and 3, of any trees
+  -- rows 2, and rows 3, whatever the trees
   defined-few : (at : ℕ) (u : Tree) → length (definedRow img t at u) ≤ size u
-  unfolding definedRow nodesOf sumOf
+  unfolding definedRow size
   defined-few at (block ts) = omega arith
   defined-few at (node n k c sh none) = omega arith
   defined-few at (node n k c sh (block ts ◂ us)) = omega arith
@@ -77,10 +55,10 @@ module _ (img : List ℕ) (t : Table) where
   variables-few : (at : ℕ) (us : Trees) → length (definedRows img t at us) ≤ sizes us
   unfolding definedRows
   variables-few at none = omega arith
-  variables-few at (u ◂ us) = cons-few ones (definedRow img t at u) (definedRows img t at us) u us (defined-few at u) (variables-few at us)
+  variables-few at (u ◂ us) = cons-few (definedRow img t at u) (definedRows img t at us) u us (defined-few at u) (variables-few at us)
 
   arg-few : (u : Tree) → length (argRow img t u) ≤ size u
-  unfolding argRow nodesOf sumOf
+  unfolding argRow size
   arg-few (block ts) = omega arith
   arg-few (node n k c [] ts) = omega arith
   arg-few (node n k c (suc x ∷ sh) ts) = omega arith
@@ -91,69 +69,69 @@ module _ (img : List ℕ) (t : Table) where
   args-few : (us : Trees) → length (argRows img t us) ≤ sizes us
   unfolding argRows
   args-few none = omega arith
-  args-few (u ◂ us) = cons-few ones (argRow img t u) (argRows img t us) u us (arg-few u) (args-few us)
+  args-few (u ◂ us) = cons-few (argRow img t u) (argRows img t us) u us (arg-few u) (args-few us)
 
   list-few : (us : Trees) → length (listRows img t us) ≤ sizes us
-  unfolding listRows nodesOf sumOf
+  unfolding listRows size
   list-few none = omega arith
   list-few (block ts ◂ us) = omega arith
-  list-few (node n k c sh ts ◂ us) = let a = args-few ts in let b = first-less (node n k c sh ts) us in omega arith
+  list-few (node n k c sh ts ◂ us) = let a = args-few ts in omega arith
 
   app-few : (us : Trees) → length (appRows img t us) ≤ sizes us
-  unfolding appRows
+  unfolding appRows size
   app-few none = omega arith
   app-few (h ◂ us) = go (isCtor img t h)
     where
-      go : (b : Bool) → length {A = Row} (elim b [ true ↦ listRows img t us | false ↦ [] ]) ≤ sizes (h ◂ us)
-      go true = let a = list-few us in let b = rest-less h us in omega arith
+      go : (b : Bool) → length {A = Row} (elim b [ true ↦ listRows img t us | false ↦ [] ]) ≤ size h + sizes us
+      go true = let a = list-few us in omega arith
       go false = omega arith
 
   pattern-few : (p : Tree) (us : Trees) → length (patternRows img t (p ◂ us)) ≤ size p
-  unfolding patternRows nodesOf sumOf
+  unfolding patternRows size
   pattern-few (block ts) us = omega arith
   pattern-few (node n k c sh none) us = omega arith
   pattern-few (node n k c sh (block ts ◂ vs)) us = omega arith
   pattern-few (node n k c sh (node m l d sh2 ts ◂ vs)) us = go (eqb l 14)
     where
-      go : (b : Bool) → length {A = Row} (elim b [ true ↦ appRows img t ts | false ↦ [] ]) ≤ size (node n k c sh (node m l d sh2 ts ◂ vs))
-      go true = let a = app-few ts in let b = first-less (node m l d sh2 ts) vs in omega arith
+      go : (b : Bool) → length {A = Row} (elim b [ true ↦ appRows img t ts | false ↦ [] ]) ≤ suc (suc (sizes ts) + sizes vs)
+      go true = let a = app-few ts in omega arith
       go false = omega arith
 
-  -- no more rows than nodes, whatever the node above
+  -- whatever the node above
   abbrev Few : Bool → Tree → Type 0
   Few a u = (o : ℕ) → length (rowsOf img t a o u) ≤ size u
 
   seq-few : (a : Bool) (ts : Trees) → Each (Few a) ts → (o : ℕ) → length (rowsSeq img t a o ts) ≤ sizes ts
   unfolding rowsOf Each
   seq-few a none h o = omega arith
-  seq-few a (u ◂ us) h o = cons-few ones (rowsOf img t a o u) (rowsSeq img t a o us) u us (h .0 o) (seq-few a us (h .1) o)
+  seq-few a (u ◂ us) h o = cons-few (rowsOf img t a o u) (rowsSeq img t a o us) u us (h .0 o) (seq-few a us (h .1) o)
+
+  block-few : (a : Bool) (ts : Trees) → Each (Few a) ts → Few a (block ts)
+  unfolding rowsOf size
+  block-few a ts h o = seq-few a ts h o
 
   first-few : (a : Bool) (ts : Trees) → Each (Few a) ts → (o : ℕ) → length (rowsFirst img t a o ts) ≤ sizes ts
-  unfolding rowsOf Each
+  unfolding rowsOf Each size
   first-few a none h o = omega arith
-  first-few a (u ◂ us) h o = let b = h .0 o in let c = first-less u us in omega arith
+  first-few a (u ◂ us) h o = let b = h .0 o in omega arith
 
-  back-few : (a : Bool) (ts : Trees) → Each (Few a) ts → (at o : ℕ) → length (rowsDefined img t a at o ts) ≤ sizes ts
-  unfolding rowsOf Each nodesOf
-  back-few a none h at o = omega arith
-  back-few a (u ◂ us) h at o =
-      let b = h .0 o in
-      let c = variables-few at us in
-      let d = length-append (definedRows img t at us) (rowsOf img t a o u) in
-      let e = sumOf-append ones (nodesOf u) (nodesAll us) in
-      omega arith
+  -- a defined-then's variables, and its term
+  then-few : (a : Bool) (ts : Trees) → Each (Few a) ts → (at o : ℕ) → length (rowsDefined img t a at o ts) ≤ sizes ts
+  unfolding rowsOf Each size
+  then-few a none h at o = omega arith
+  then-few a (u ◂ us) h at o = let b = h .0 o in let c = variables-few at us in let d = length-append (definedRows img t at us) (rowsOf img t a o u) in omega arith
 
-  -- a case whose pattern has no rows of its own
+  -- a case whose pattern has no rows but rows 3
   case-few : (a : Bool) (ts : Trees) → Each (Few a) ts → (n : ℕ) → rowsFirst img t a n ts ≡ [] → length (patternRows img t ts ++ rowsSeq img t a n ts) ≤ sizes ts
   unfolding rowsOf Each patternRows
   case-few a none h n e = omega arith
   case-few a (p ◂ us) h n e =
       subst (λ (l : List Row). length (patternRows img t (p ◂ us) ++ (l ++ rowsSeq img t a n us)) ≤ sizes (p ◂ us)) (sym e)
-      (cons-few ones (patternRows img t (p ◂ us)) (rowsSeq img t a n us) p us (pattern-few p us) (seq-few a us (h .1) n))
+      (cons-few (patternRows img t (p ◂ us)) (rowsSeq img t a n us) p us (pattern-few p us) (seq-few a us (h .1) n))
 
   -- a node over such trees
   node-few : (a : Bool) (n k : ℕ) (c : Class) (sh : List ℕ) (ts : Trees) → (c ≡ inner case → rowsFirst img t a n ts ≡ []) → Each (Few (asked k a)) ts → Each (Few a) ts → Few a (node n k c sh ts)
-  unfolding rowsOf introducedRow nodesOf sumOf
+  unfolding rowsOf introducedRow size
   node-few a n k (outer c) sh ts p g h o = omega arith
   node-few a n k (inner plain) sh ts p g h o = let b = seq-few (asked k a) ts g n in omega arith
   node-few a n k (inner term) sh ts p g h o = let b = seq-few a ts h n in omega arith
@@ -163,25 +141,28 @@ module _ (img : List ℕ) (t : Table) where
   node-few a n k (inner head) (suc x ∷ sh) ts p g h o = let b = seq-few a ts h n in omega arith
   node-few a n k (inner headMember) sh ts p g h o = let b = first-few a ts h n in omega arith
   node-few a n k (inner member) sh ts p g h o = let b = first-few a ts h n in omega arith
-  node-few a n k (inner branch) sh ts p g h o = let b = seq-few a ts h n in omega arith
-  node-few a n k (inner match) sh ts p g h o = let b = seq-few a ts h n in omega arith
   node-few a n k (inner case) sh ts p g h o = let b = case-few a ts h n (p refl) in omega arith
   node-few a n k (inner ifVar) sh ts p g h o = omega arith
-  node-few a n k (inner definedThen) sh ts p g h o = let b = back-few a ts h o n in omega arith
+  node-few a n k (inner definedThen) sh ts p g h o = let b = then-few a ts h o n in omega arith
   node-few a n k (inner arg) sh ts p g h o = omega arith
 
-  block-few : (a : Bool) (ts : Trees) → Each (Few a) ts → Few a (block ts)
-  unfolding rowsOf nodesOf
-  block-few a ts h o = seq-few a ts h o
-
--- the trees of an accepted image --------------------------------------------------------------------------------------
--- the kinds from Term to DefinedThenAtom: those that stand in a then-atom are among them, and no match case is
-abbrev thenKind : ℕ → Bool
-thenKind k = leb 12 k && leb k 34
+-- the rules of an accepted image ----------------------------------------------------------------------------------------
+-- the kinds from Term to DefinedThenAtom: what stands in a then-atom is of one of them, and a match case is not
+abbrev atomKind : ℕ → Bool
+atomKind k = leb 12 k && leb k 34
 
 -- rules, and what stands in them
-abbrev bodyKind : ℕ → Bool
-bodyKind k = eqb k 6 || leb 12 k
+abbrev ruleKind : ℕ → Bool
+ruleKind k = eqb k 6 || leb 12 k
+
+not-asked : (k : ℕ) → (k ≡ 29 → ⊥) → asked k false ≡ false
+unfolding asked
+not-asked k h = go (eqb k 29) (eqb k 18 || (eqb k 19 || eqb k 26)) (eqb→eq k 29)
+  where
+    go : (b c : Bool) → (T b → k ≡ 29) → _≡_ {A = Bool} (elim b [ true ↦ true | false ↦ elim c [ true ↦ false | false ↦ false ] ]) false
+    go true c e = absurd (h (e tt))
+    go false true e = refl
+    go false false e = refl
 
 is-few : (v c : ℕ) → is v c ≤ 1
 unfolding is
@@ -191,137 +172,136 @@ is-few v c = go (eqb v c)
     go true = omega arith
     go false = omega arith
 
-module _ (img : List ℕ) (t : Table) (accepted : verdict img ≡ 0) where
-  case-kind : {n : ℕ} → n < nodes img → classAt img n ≡ inner case → kindAt img n ≡ 35
-  case-kind {n} l e = eqb→eq _ _ (subst (λ (c : Class). T (kindFor c (kindAt img n))) e (class-kind img accepted n l))
+module _ (img : List ℕ) where
+  -- 1 at an ArgDecl
+  abbrev argDecl : ℕ → ℕ
+  argDecl n = is 10 (kindAt img n)
 
-  then-few : (n : ℕ) → n < nodes img → T (thenKind (kindAt img n)) → (a : Bool) → Few img t a (treeAt img n)
+  mutual
+    unfolding nodesOf sumOf size
+
+    few-decls : (u : Tree) → sumOf argDecl (nodesOf u) ≤ size u
+    few-decls (node n k c sh ts) = let a = all-decls ts in let b = is-few 10 (kindAt img n) in omega arith
+    few-decls (block ts) = all-decls ts
+
+    all-decls : (us : Trees) → sumOf argDecl (nodesAll us) ≤ sizes us
+    all-decls none = omega arith
+    all-decls (u ◂ us) = let a = few-decls u in let b = all-decls us in let c = sumOf-append argDecl (nodesOf u) (nodesAll us) in omega arith
+
+module _ (img : List ℕ) (t : Table) (accepted : verdict img ≡ 0) where
+  abbrev nodeAt : ℕ → Tree
+  nodeAt n = node n (kindAt img n) (classAt img n) (shape img n) (kidsAt img n)
+
+  node-is : {n : ℕ} → n < nodes img → treeAt img n ≡ nodeAt n
+  node-is {n} l = treeAt-is img (formed img accepted) n l
+
+  kind-by : {n : ℕ} (c : Class) → n < nodes img → classAt img n ≡ c → T (kindFor c (kindAt img n))
+  kind-by {n} c l e = subst (λ (x : Class). T (kindFor x (kindAt img n))) e (class-kind img accepted n l)
+
+  -- where rows 1 may be asked for
+  atom-few : (n : ℕ) → n < nodes img → T (atomKind (kindAt img n)) → (a : Bool) → Few img t a (treeAt img n)
   unfolding kinds
-  then-few = by-kinds img accepted Every (λ ts h a. block-few img t a ts (each-map Every (Few img t a) (λ u f. f a) ts h)) thenKind tt step
+  atom-few = by-kinds img accepted Every (λ ts h a. block-few img t a ts (at a ts h)) atomKind tt step
     where
       Every : Tree → Type 0
       Every u = (a : Bool) → Few img t a u
 
-      step : (n : ℕ) → n < nodes img → T (thenKind (kindAt img n)) → Each Every (kidsAt img n) → Every (node n (kindAt img n) (classAt img n) (shape img n) (kidsAt img n))
+      at : (a : Bool) (ts : Trees) → Each Every ts → Each (Few img t a) ts
+      at a ts h = each-map Every (Few img t a) (λ u f. f a) ts h
+
+      step : (n : ℕ) → n < nodes img → T (atomKind (kindAt img n)) → Each Every (kidsAt img n) → Every (nodeAt n)
       step n l q h a =
           node-few img t a n (kindAt img n) (classAt img n) (shape img n) (kidsAt img n)
-          (λ e. absurd (subst (λ (k : ℕ). T (thenKind k)) (case-kind l e) q))
-          (each-map Every (Few img t (asked (kindAt img n) a)) (λ u f. f (asked (kindAt img n) a)) (kidsAt img n) h)
-          (each-map Every (Few img t a) (λ u f. f a) (kidsAt img n) h)
+          (λ e. absurd (subst (λ (k : ℕ). T (atomKind k)) (eqb→eq _ _ (kind-by (inner case) l e)) q))
+          (at (asked (kindAt img n) a) (kidsAt img n) h) (at a (kidsAt img n) h)
 
   -- the pattern of a match case has no rows but rows 3
   pattern-quiet : {n : ℕ} → n < nodes img → classAt img n ≡ inner case → rowsFirst img t false n (kidsAt img n) ≡ []
   unfolding kindOf allKids ordered FormedFields rowsOf
   pattern-quiet {n} l e =
-      let is : Is img (kindOf 35) n = record { accepted = accepted; below = l; kind = ap kindOf (case-kind l e) } in
+      let k : kindAt img n ≡ 35 = eqb→eq _ _ (kind-by (inner case) l e) in
+      let is : Is img (kindOf 35) n = record { accepted = accepted; below = l; kind = ap kindOf k } in
       let h : Child img n 12 (field img n 0) = (fields-of img is) .0 in
-      ap (rowsFirst img t false n)
-      (sym (ap below (treeAt-is img (formed img accepted) n l)) ∙ kids-of img (inner case) (child 12 ∷ list 36 ∷ []) is (λ ts. refl))
+      ap (rowsFirst img t false n) (sym (ap below (node-is l)) ∙ kids-of img (inner case) (child 12 ∷ list 36 ∷ []) is (λ ts. refl))
       ∙ quiet img t accepted n ((child-is img is h) .below) (h .kind) tt
 
-  -- in a rule there are no more rows than nodes, and no ArgDecl
-  pub record Body (u : Tree) : Type 0 where
+  -- no more rows than nodes in the tree and below it, and no ArgDecl
+  pub record InRule (u : Tree) : Type 0 where
     pub few : Few img t false u
     pub inside : (o : ℕ) → length (rowsSeq img t false o (below u)) ≤ sizes (below u)
     pub bare : sumOf (argDecl img) (nodesOf u) ≡ 0
 
-  bodies-bare : (ts : Trees) → Each Body ts → sumOf (argDecl img) (nodesAll ts) ≡ 0
+  rule-few : (ts : Trees) → Each InRule ts → Each (Few img t false) ts
+  rule-few ts h = each-map InRule (Few img t false) (λ u r. r .few) ts h
+
+  rule-bare : (ts : Trees) → Each InRule ts → sumOf (argDecl img) (nodesAll ts) ≡ 0
   unfolding nodesOf Each sumOf
-  bodies-bare none h = refl
-  bodies-bare (u ◂ us) h = let a = sumOf-append (argDecl img) (nodesOf u) (nodesAll us) in let b = h .0 .bare in let c = bodies-bare us (h .1) in omega arith
+  rule-bare none h = refl
+  rule-bare (u ◂ us) h = let a = sumOf-append (argDecl img) (nodesOf u) (nodesAll us) in let b = h .0 .bare in let c = rule-bare us (h .1) in omega arith
 
-  body-block : (ts : Trees) → Each Body ts → Body (block ts)
+  rule-block : (ts : Trees) → Each InRule ts → InRule (block ts)
   unfolding nodesOf
-  body-block ts h =
-      let f = each-map Body (Few img t false) (λ u b. b .few) ts h in
-      record { few = block-few img t false ts f; inside = seq-few img t false ts f; bare = bodies-bare ts h }
+  rule-block ts h = record { few = block-few img t false ts (rule-few ts h); inside = seq-few img t false ts (rule-few ts h); bare = rule-bare ts h }
 
-  not-asked : (k : ℕ) → (k ≡ 29 → ⊥) → asked k false ≡ false
-  unfolding asked
-  not-asked k h = go (eqb k 29) (eqb k 18 || (eqb k 19 || eqb k 26)) (eqb→eq k 29)
+  rule-node : (n : ℕ) → n < nodes img → T (ruleKind (kindAt img n)) → Each InRule (kidsAt img n) → InRule (nodeAt n)
+  unfolding nodesOf sumOf
+  rule-node n l q h =
+      let z = is-other 10 (kindAt img n) (λ e. subst (λ (k : ℕ). T (ruleKind k)) (sym e) q) in
+      let b = rule-bare (kidsAt img n) h in
+      let f = rule-few (kidsAt img n) h in
+      record { few = go (atomKind (kindAt img n)) refl f; inside = seq-few img t false (kidsAt img n) f; bare = omega arith }
     where
-      go : (b c : Bool) → (T b → k ≡ 29) → _≡_ {A = Bool} (elim b [ true ↦ true | false ↦ elim c [ true ↦ false | false ↦ false ] ]) false
-      go true c e = absurd (h (e tt))
-      go false true e = refl
-      go false false e = refl
+      go : (b : Bool) → atomKind (kindAt img n) ≡ b → Each (Few img t false) (kidsAt img n) → Few img t false (nodeAt n)
+      go true e f = subst (Few img t false) (node-is l) (atom-few n l (is-true e) false)
+      go false e f =
+          node-few img t false n (kindAt img n) (classAt img n) (shape img n) (kidsAt img n) (pattern-quiet l)
+          (subst (λ (b : Bool). Each (Few img t b) (kidsAt img n)) (sym (not-asked (kindAt img n) (λ z. true-not-false (ap atomKind z) e))) f) f
 
-  body : (n : ℕ) → n < nodes img → T (bodyKind (kindAt img n)) → Body (treeAt img n)
+  in-rule : (n : ℕ) → n < nodes img → T (ruleKind (kindAt img n)) → InRule (treeAt img n)
   unfolding kinds
-  body = by-kinds img accepted Body body-block bodyKind tt step
-    where
-      step : (n : ℕ) → n < nodes img → T (bodyKind (kindAt img n)) → Each Body (kidsAt img n) → Body (node n (kindAt img n) (classAt img n) (shape img n) (kidsAt img n))
-      step n l q h =
-          let f = each-map Body (Few img t false) (λ u b. b .few) (kidsAt img n) h in
-          record {
-            few = few (thenKind (kindAt img n)) refl f;
-            inside = seq-few img t false (kidsAt img n) f;
-            bare = unfold nodesOf sumOf in (let a = bodies-bare (kidsAt img n) h in let b = own in omega arith);
-          }
-        where
-          own : argDecl img n ≡ 0
-          own = is-other 10 (kindAt img n) (λ e. subst (λ (k : ℕ). T (bodyKind k)) (sym e) q)
-
-          few : (b : Bool) → thenKind (kindAt img n) ≡ b → Each (Few img t false) (kidsAt img n) → Few img t false (node n (kindAt img n) (classAt img n) (shape img n) (kidsAt img n))
-          few true e f = subst (Few img t false) (treeAt-is img (formed img accepted) n l) (then-few n l (is-true e) false)
-          few false e f =
-              node-few img t false n (kindAt img n) (classAt img n) (shape img n) (kidsAt img n) (pattern-quiet l)
-              (subst (λ (b : Bool). Each (Few img t b) (kidsAt img n)) (sym (not-asked (kindAt img n) (λ z. true-not-false (ap thenKind z) e))) f) f
+  in-rule = by-kinds img accepted InRule rule-block ruleKind tt rule-node
 
   -- declarations: rows and ArgDecls together are no more than nodes
   abbrev Both : Tree → Type 0
   Both u = length (declRows img t u) + sumOf (argDecl img) (nodesOf u) ≤ size u
 
-  few-decls : (ns : List ℕ) → sumOf (argDecl img) ns ≤ sumOf ones ns
-  unfolding sumOf
-  few-decls [] = omega arith
-  few-decls (n ∷ ns) = let a = few-decls ns in let b = is-few 10 (kindAt img n) in omega arith
-
   both-all : (ts : Trees) → Each Both ts → length (declsRows img t ts) + sumOf (argDecl img) (nodesAll ts) ≤ sizes ts
-  unfolding nodesOf Each declRows sumOf
+  unfolding nodesOf Each declRows sumOf size
   both-all none h = omega arith
   both-all (u ◂ us) h =
       let a = sumOf-append (argDecl img) (nodesOf u) (nodesAll us) in
-      let b = sumOf-append ones (nodesOf u) (nodesAll us) in
-      let c = length-append (declRows img t u) (declsRows img t us) in
-      let d = h .0 in
-      let e = both-all us (h .1) in
+      let b = length-append (declRows img t u) (declsRows img t us) in
+      let c = h .0 in
+      let d = both-all us (h .1) in
       omega arith
 
   both-block : (ts : Trees) → Each Both ts → Both (block ts)
-  unfolding declRows nodesOf
-  both-block ts h = let a = few-decls (nodesAll ts) in omega arith
+  unfolding declRows
+  both-block ts h = let a = few-decls img (block ts) in omega arith
 
-  both-node : (n k : ℕ) (c : Class) (sh : List ℕ) (ts : Trees) → (c ≡ outer rule → Body (node n k c sh ts)) → Each Both ts → Both (node n k c sh ts)
-  unfolding declRows nodesOf sumOf
-  both-node n k (inner i) sh ts b h = let a = few-decls (n ∷ nodesAll ts) in omega arith
-  both-node n k (outer root) sh ts b h = let a = both-all ts h in let c = is-few 10 (kindAt img n) in omega arith
-  both-node n k (outer decl) sh ts b h = let a = both-all ts h in let c = is-few 10 (kindAt img n) in omega arith
-  both-node n k (outer signature) sh ts b h = let a = few-decls (n ∷ nodesAll ts) in omega arith
-  both-node n k (outer rule) sh ts b h = let a = b refl .inside n in let c = b refl .bare in omega arith
-  both-node n k (outer enum) sh ts b h = let a = few-decls (n ∷ nodesAll ts) in omega arith
-  both-node n k (outer model) sh ts b h = let a = both-all ts h in let c = is-few 10 (kindAt img n) in omega arith
+  both-node : (n k : ℕ) (c : Class) (sh : List ℕ) (ts : Trees) → (c ≡ outer rule → InRule (node n k c sh ts)) → Each Both ts → Both (node n k c sh ts)
+  unfolding declRows nodesOf sumOf size
+  both-node n k (inner i) sh ts r h = let a = few-decls img (node n k (inner i) sh ts) in omega arith
+  both-node n k (outer root) sh ts r h = let a = both-all ts h in let b = is-few 10 (kindAt img n) in omega arith
+  both-node n k (outer decl) sh ts r h = let a = both-all ts h in let b = is-few 10 (kindAt img n) in omega arith
+  both-node n k (outer signature) sh ts r h = let a = few-decls img (node n k (outer signature) sh ts) in omega arith
+  both-node n k (outer rule) sh ts r h = let a = r refl .inside n in let b = r refl .bare in omega arith
+  both-node n k (outer enum) sh ts r h = let a = few-decls img (node n k (outer enum) sh ts) in omega arith
+  both-node n k (outer model) sh ts r h = let a = both-all ts h in let b = is-few 10 (kindAt img n) in omega arith
 
   both : (n : ℕ) → n < nodes img → Both (treeAt img n)
   unfolding kinds
   both n l = by-kinds img accepted Both both-block (λ k. true) tt step n l tt
     where
-      step : (n : ℕ) → n < nodes img → T true → Each Both (kidsAt img n) → Both (node n (kindAt img n) (classAt img n) (shape img n) (kidsAt img n))
-      step n l q h = both-node n (kindAt img n) (classAt img n) (shape img n) (kidsAt img n) in-rule h
-        where
-          in-rule : classAt img n ≡ outer rule → Body (node n (kindAt img n) (classAt img n) (shape img n) (kidsAt img n))
-          in-rule e =
-              let k : kindAt img n ≡ 6 = eqb→eq _ _ (subst (λ (c : Class). T (kindFor c (kindAt img n))) e (class-kind img accepted n l)) in
-              subst Body (treeAt-is img (formed img accepted) n l) (body n l (subst (λ (x : ℕ). T (bodyKind x)) (sym k) tt))
+      step : (n : ℕ) → n < nodes img → T true → Each Both (kidsAt img n) → Both (nodeAt n)
+      step n l q h =
+          both-node n (kindAt img n) (classAt img n) (shape img n) (kidsAt img n)
+          (λ e. subst InRule (node-is l) (in-rule n l (subst (λ (k : ℕ). T (ruleKind k)) (sym (eqb→eq _ _ (kind-by (outer rule) l e))) tt))) h
 
-  -- plain rows and ArgDecls
+  -- plain rows, and ArgDecls
   plain-few : length (plainRows img t) + sumTo (argDecl img) (nodes img) ≤ nodes img
   unfolding plainRows
-  plain-few =
-      let a = both (last img) (last-below img accepted) in
-      let b = whole img accepted (argDecl img) in
-      let c = whole img accepted ones in
-      let d = sumTo-ones (nodes img) in
-      omega arith
+  plain-few = let a = both (last img) (last-below img accepted) in let b = whole img accepted (argDecl img) in let c = tree-size img accepted in omega arith
 
 -- rows 4 ----------------------------------------------------------------------------------------------------------------
 -- what holds of each of some numbers holds of one that is among them
@@ -355,10 +335,10 @@ module _ (img : List ℕ) (P : ℕ → Type 0) where
       go (suc y) ih = pick y (eqb near (suc y)) (ih (suc y))
 
 module _ (img : List ℕ) (accepted : verdict img ≡ 0) where
-  -- the arguments of a list are ArgDecls
   abbrev pub IsArg : ℕ → Type 0
   IsArg n = (n < nodes img) × (kindAt img n ≡ 10)
 
+  -- the arguments of a list are ArgDecls
   pub args-all : (m : ℕ) → m < nodes img → kindAt img m ≡ 11 → All IsArg (argsOf img m)
   unfolding argsOf kindOf FormedFields field
   args-all m l e =
@@ -376,7 +356,7 @@ module _ (img : List ℕ) (accepted : verdict img ≡ 0) where
       go true e = repeated-all img IsArg 0 (args-all m l (e tt))
       go false e = nil
 
-  -- and so are those whose name is repeated
+  -- and so are those that repeat a name
   pub lists-all : (m : ℕ) → m ≤ nodes img → All IsArg (repeatedTo img m)
   unfolding repeatedTo
   lists-all zero l = nil
@@ -397,7 +377,6 @@ module _ (img : List ℕ) (accepted : verdict img ≡ 0) where
       first true e = unfold when sumTo in let k = ap (is 10) (among-all s h e .1) ∙ is-same 10 in omega arith
       first false e = unfold when sumTo in omega arith
 
-  -- rows 4: at most as many as there are ArgDecls
   strict-few : length (strictRows img) ≤ sumTo (argDecl img) (nodes img)
   unfolding strictRows sumTo
   strict-few =
@@ -405,7 +384,7 @@ module _ (img : List ℕ) (accepted : verdict img ≡ 0) where
       let b = ap (sumTo (argDecl img)) (let z : 0 + nodes img ≡ nodes img = omega arith in z) in
       omega arith
 
-  -- at most N error rows, so none is ever dropped
+  -- at most N error rows
   pub both-few : (t : Table) → length (plainRows img t) + length (strictRows img) ≤ nodes img
   both-few t = let a = plain-few img t accepted in let b = strict-few in omega arith
 
