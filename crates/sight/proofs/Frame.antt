@@ -9,7 +9,7 @@ use native.Mathlib.Nat.{zero-add}
 use native.Mathlib.Numerals.{add-one}
 use native.Mathlib.Omega.{arith}
 use lib.ListN.{set, length-set}
-use lib.Seq.{getD-set-same}
+use lib.Seq.{getD-set-same, getD-set-other}
 use borrow.Author.Tests.{lt-ltb, le-ltb}
 use Rattle.ast.specs.Declarations.{orElse, earliest}
 use Rattle.ast.specs.Image.{nodes, nameOf}
@@ -17,7 +17,7 @@ use Rattle.ast.proofs.Declarations.{orElse-none}
 use Rattle.table.specs.Layout.{entryPlace, exitPlace, parentPlace}
 use Rattle.table.specs.Rows.{parentAt}
 use Rattle.table.specs.State.{Exit, introduce}
-use Rattle.table.specs.Table.{Table, mark, newScope, newSymbol, rowIs, findFrom, find, climb, lookup, exitAt}
+use Rattle.table.specs.Table.{Table, mark, newScope, newSymbol, rowIs, findFrom, find, climb, lookup, entryAt, exitAt}
 use Rattle.table.proofs.Finds.{row-out}
 use Rattle.table.proofs.Frames.{SameRows, from-same, find-none, find-mark, find-scope, symbol-same, symbol-scope, find-symbol}
 use Rattle.table.proofs.Rising.{either, hit, find-snoc}
@@ -93,6 +93,16 @@ module _ (img : List ℕ) where
     pub mark-exit : (m : ℕ) → m < N → m ≢ n → exitAt img ((mark img n e x t) .words) m ≡ exitAt img (t .words) m
     mark-exit m h f = mark-word img n e x t (exitPlace N m) (omega arith) (λ q. f (omega arith))
 
+    pub mark-entry : (m : ℕ) → m < N → m ≢ n → entryAt img ((mark img n e x t) .words) m ≡ entryAt img (t .words) m
+    mark-entry m h f = mark-word img n e x t (entryPlace N m) (λ q. f (omega arith)) (omega arith)
+
+    pub mark-entry-same : Kept img t → entryAt img ((mark img n e x t) .words) n ≡ e
+    unfolding mark
+    mark-entry-same s =
+        let z = s .rising .long in
+        getD-set-other (set (t .words) (entryPlace N n) e) (exitPlace N n) (entryPlace N n) x 0 (omega arith)
+        ∙ getD-set-same (t .words) (entryPlace N n) e 0 (omega arith)
+
     pub mark-exit-same : Kept img t → exitAt img ((mark img n e x t) .words) n ≡ x
     unfolding mark
     mark-exit-same s =
@@ -114,6 +124,9 @@ module _ (img : List ℕ) where
 
     pub child-exit : (m : ℕ) → m < N → exitAt img ((newScope img p t) .words) m ≡ exitAt img (t .words) m
     child-exit m h = scope-word img p t (exitPlace N m) (omega arith)
+
+    pub child-entry : (m : ℕ) → m < N → entryAt img ((newScope img p t) .words) m ≡ entryAt img (t .words) m
+    child-entry m h = scope-word img p t (entryPlace N m) (omega arith)
 
   -- a symbol more
   module _ (s n : ℕ) (t : Table) (sane : Kept img t) (Y<N : t .symbols < N) where
@@ -145,6 +158,9 @@ module _ (img : List ℕ) where
 
     pub name-exit : (m : ℕ) → m < N → exitAt img named m ≡ exitAt img (t .words) m
     name-exit m h = symbol-word img s n t (exitPlace N m) (omega arith) (omega arith)
+
+    pub name-entry : (m : ℕ) → m < N → entryAt img named m ≡ entryAt img (t .words) m
+    name-entry m h = symbol-word img s n t (entryPlace N m) (omega arith) (omega arith)
 
   -- a new scope, below the one that the walk stands in, with one symbol
   module _ (n : ℕ) (e : Exit) (sane : Kept img (e .table)) (inside : e .scope < e .table .scopes) (K<N : e .table .scopes < N) (Y<N : e .table .symbols < N) where
@@ -190,6 +206,10 @@ module _ (img : List ℕ) where
     pub new-exit : (m : ℕ) → m < N → exitAt img ((introduce img n e) .table .words) m ≡ exitAt img (e .table .words) m
     unfolding introduce
     new-exit m h = name-exit K n t₁ sane₁ Y<N m h ∙ child-exit (e .scope) (e .table) sane K<N m h
+
+    pub new-entry : (m : ℕ) → m < N → entryAt img ((introduce img n e) .table .words) m ≡ entryAt img (e .table .words) m
+    unfolding introduce
+    new-entry m h = name-entry K n t₁ sane₁ Y<N m h ∙ child-entry (e .scope) (e .table) sane K<N m h
 
     pub new-kept : Kept img ((introduce img n e) .table)
     unfolding introduce

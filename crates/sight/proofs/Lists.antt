@@ -14,7 +14,7 @@ use Rattle.ast.specs.Tree.{Tree, node, block, Trees, none, _◂_}
 use Rattle.ast.proofs.Declarations.{orElse-none, orElse-assoc, earliest-append}
 use Rattle.table.specs.Rows.{parentAt}
 use Rattle.table.specs.State.{Exit, childScope, ownSymbol, marked, back}
-use Rattle.table.specs.Table.{Table, find, isKind, exitAt}
+use Rattle.table.specs.Table.{Table, find, isKind, entryAt, exitAt}
 use Rattle.table.proofs.Frames.{find-mark}
 use Rattle.ordered.specs.Walk.{occurs, walkSeq}
 use Rattle.scopes.specs.Walk.{done, enterName, enterRule, andThen, enter, enterAll, visit, visitAll}
@@ -25,7 +25,7 @@ use Rattle.scopes.proofs.Adds.{named, done-same, twice-done, and-inv}
 use Rattle.sight.specs.Sight.{In}
 use Rattle.ast.specs.Rules.{Rule, saysAll, rules, rulesAll}
 use Rattle.sight.proofs.Members.{in-left, in-right}
-use Rattle.sight.proofs.Frame.{name-find-other, name-find, name-parent, name-exit, mark-parent, mark-exit}
+use Rattle.sight.proofs.Frame.{name-find-other, name-find, name-parent, name-exit, name-entry, mark-parent, mark-exit, mark-entry}
 use Rattle.sight.proofs.Steps.{Bodies}
 
 -- the nodes that entering marks
@@ -170,6 +170,7 @@ module _ (img : List ℕ) where
     pub here : (x : ℕ) → find img t′ s x ≡ orElse (find img t s x) (earliest (nameOf img) ds x)
     pub parents : (r : ℕ) → r < nodes img → parentAt (nodes img) (t′ .words) r ≡ parentAt (nodes img) (t .words) r
     pub exits : (m : ℕ) → m < nodes img → (In m ns → ⊥) → exitAt img (t′ .words) m ≡ exitAt img (t .words) m
+    pub entries : (m : ℕ) → m < nodes img → (In m ns → ⊥) → entryAt img (t′ .words) m ≡ entryAt img (t .words) m
     pub novar : (x : ℕ) → isKind img 13 (earliest (nameOf img) ds x) ≡ false
 
   pub entering : {ns ds : List ℕ} {e e′ : Exit} → Enters ns ds e e′ → e′ .table .symbols ≤ nodes img → ((n : ℕ) → In n ns → n < nodes img)
@@ -182,6 +183,7 @@ module _ (img : List ℕ) where
         here = λ x. sym (orElse-none (find img (e .table) (e .scope) x));
         parents = λ r l. refl;
         exits = λ m l f. refl;
+        entries = λ m l f. refl;
         novar = λ x. refl;
       }
   entering (next {ns = ns} {ms = ms} {ds = ds} {fs = fs} {e = e} {e′ = e′} {e″ = e″} v u) b sm so i =
@@ -201,6 +203,7 @@ module _ (img : List ℕ) where
             ∙ ap (orElse (find img (e .table) (e .scope) x)) (sym (earliest-append (nameOf img) ds fs x));
         parents = λ r l. g .parents r l ∙ f .parents r l;
         exits = λ m l k. g .exits m l (λ j. k (in-right m ns ms j)) ∙ f .exits m l (λ j. k (in-left m ns ms j));
+        entries = λ m l k. g .entries m l (λ j. k (in-right m ns ms j)) ∙ f .entries m l (λ j. k (in-left m ns ms j));
         novar = λ x. ap (isKind img 13) (earliest-append (nameOf img) ds fs x) ∙ kind-orElse (earliest (nameOf img) ds x) (earliest (nameOf img) fs x) (f .novar x) (g .novar x);
       }
   entering (marks {e = e} n) b sm so i =
@@ -213,6 +216,7 @@ module _ (img : List ℕ) where
         here = λ x. find-mark img n s s t l s x ∙ sym (orElse-none (find img t s x));
         parents = λ r k. mark-parent img n s s t l r;
         exits = λ m k f. mark-exit img n s s t l m k (λ q. f (inl q));
+        entries = λ m k f. mark-entry img n s s t l m k (λ q. f (inl q));
         novar = λ x. refl;
       }
   entering (names {e = e} n v) b sm so i =
@@ -224,6 +228,7 @@ module _ (img : List ℕ) where
         here = λ x. name-find img s n t so (omega arith) x;
         parents = λ r l. name-parent img s n t so (omega arith) r l;
         exits = λ m l f. name-exit img s n t so (omega arith) m l;
+        entries = λ m l f. name-entry img s n t so (omega arith) m l;
         novar = λ x. kind-own n x v;
       }
 
