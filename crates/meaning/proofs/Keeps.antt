@@ -13,9 +13,9 @@ use Rattle.ast.proofs.Vars.{Everywhere, EverywhereAll}
 use Rattle.table.specs.Layout.{entryPlace, exitPlace}
 use Rattle.table.specs.State.{Exit, introduce, ownSymbol, marked}
 use Rattle.table.specs.Table.{Table, mark, newScope, newSymbol, lookup, entryAt, exitAt}
+use Rattle.table.proofs.Frames.{mark-word, scope-word, symbol-word}
 use Rattle.ordered.specs.Kept.{Kept}
 use Rattle.ordered.specs.Walk.{Role, occurs, walk, walkSeq, walkFirst}
-use Rattle.ordered.proofs.Kept.{mark-word, scope-word, symbol-word}
 use Rattle.ordered.proofs.Moves.{numbers, numbersSeq, stay, next, marks, adds, drops, rises, walk-moves, seq-moves}
 use Rattle.sight.specs.Sight.{In}
 use Rattle.sight.proofs.Frame.{Bounds, Later, later-next}

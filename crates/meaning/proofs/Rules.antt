@@ -13,11 +13,11 @@ use Rattle.ast.specs.Tree.{Tree, node, Trees}
 use Rattle.table.specs.Layout.{allOnes, tableLength, entryPlace}
 use Rattle.table.specs.State.{Exit, childScope, marked, back}
 use Rattle.table.specs.Table.{Table, mark, newScope, lookup}
-use Rattle.table.proofs.Frames.{find-mark, find-scope}
+use Rattle.table.proofs.Frames.{mark-word, scope-word, find-mark, find-scope}
 use Rattle.ordered.specs.Kept.{Kept}
 use Rattle.ordered.specs.Walk.{occurs, walkSeq}
 use Rattle.ordered.proofs.Agreed.{lookup-agree}
-use Rattle.ordered.proofs.Kept.{mark-kept, scope-kept, mark-word, scope-word}
+use Rattle.ordered.proofs.Kept.{mark-kept, scope-kept}
 use Rattle.ordered.proofs.Moves.{numbersSeq}
 use Rattle.scopes.specs.Resolve.{zeroed, walked}
 use Rattle.scopes.specs.Walk.{done, enterAll, visitAll, resolveTree}

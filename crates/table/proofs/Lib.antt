@@ -1,3 +1,5 @@
+pub mod Places
+pub mod Steps
 pub mod Finds
 pub mod Rising
 pub mod Overs
