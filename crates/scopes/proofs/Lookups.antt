@@ -21,8 +21,8 @@ use Rattle.ast.proofs.Names.{name-slice, same-length}
 use Rattle.ast.specs.declared.Sizes.{Sizes}
 use Rattle.table.specs.Layout.{tableLength}
 use Rattle.table.specs.Table.{lookup, climb, symbolOf}
-use Rattle.table.specs.Sound.{scopesIn, symbolsIn, testSound}
-use Rattle.table.proofs.Sounds.{halt}
+use Rattle.sound.specs.Sound.{scopesIn, symbolsIn, testSound}
+use Rattle.sound.proofs.Sounds.{halt}
 use Rattle.scopes.specs.Resolve.{testTable}
 use Rattle.scopes.specs.Lookup.{numberFrom, numberOf, testLookup, symbolAnswer, foundBy, lookupCall}
 

@@ -15,7 +15,7 @@ use Rattle.ast.specs.Tree.{Tree, node, block, Trees, none, _◂_}
 use Rattle.ast.proofs.Vars.{Everywhere, EverywhereAll}
 use Rattle.table.specs.Layout.{allOnes, parentPlace, scopePlace, nodePlace, tableLength}
 use Rattle.table.specs.Rows.{scopeOf, nodeAt, parentAt}
-use Rattle.table.specs.Sound.{isSymbol}
+use Rattle.sound.specs.Sound.{isSymbol}
 use Rattle.table.specs.State.{Exit, childScope, ownSymbol, introduce, marked, back}
 use Rattle.table.specs.Table.{find, mark, newScope, newSymbol}
 use Rattle.table.proofs.Frames.{SameRows, mark-word, scope-word, symbol-word, symbol-same, symbol-scope, symbol-node}

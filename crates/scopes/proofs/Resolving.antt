@@ -21,10 +21,10 @@ use Rattle.ast.proofs.Count as count
 use Rattle.ast.proofs.Small.{Small, tree-small}
 use Rattle.ast.proofs.Vars.{Everywhere}
 use Rattle.table.specs.Layout.{allOnes, nodesPlace, scopesPlace, symbolsPlace, parentPlace, scopePlace, nodePlace, tableLength}
-use Rattle.table.specs.Sound.{isSymbol, scopesIn, symbolsIn, testSound}
+use Rattle.sound.specs.Sound.{isSymbol, scopesIn, symbolsIn, testSound}
 use Rattle.table.specs.State.{Exit, marked}
 use Rattle.table.specs.Table.{Table, mark, newScope}
-use Rattle.table.proofs.Sounds.{parent-low, row-yes, sound-rest}
+use Rattle.sound.proofs.Sounds.{parent-low, row-yes, sound-rest}
 use Rattle.ordered.specs.Walkers.{Few}
 use Rattle.ordered.specs.Kept.{Kept}
 use Rattle.ordered.proofs.Kept.{past, mark-kept, scope-kept, mark-past, scope-past, mark-length, scope-length}

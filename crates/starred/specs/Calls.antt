@@ -15,7 +15,7 @@ use Rattle.table.specs.State.{childScope, ownSymbol, introduce, marked, unmarke
 use Rattle.ordered.specs.Walk.{walkIdent, headRole, walkArg, walk, walkSeq, walkFirst}
 use Rattle.scopes.specs.Walk.{enterName, enterRule, andThen, resolveTree, enter, enterAll, visit, visitAll}
 use Rattle.scopes.specs.Resolve.{testTable, zeroed, walked, headed, outcomeOf, resolve}
-use Rattle.table.specs.Sound.{hasName, isSymbol, parentBelow, rowSound, testSound}
+use Rattle.sound.specs.Sound.{hasName, isSymbol, parentBelow, rowSound, testSound}
 use Rattle.scopes.specs.Lookup.{numberFrom, numberOf, testLookup, symbolAnswer, foundBy, lookupCall}
 use Rattle.rows.specs.Rows.{lefts, rights, filled, written}
 use Rattle.scopes.specs.Rows.{testRows}

@@ -3,5 +3,4 @@ pub mod Steps
 pub mod Finds
 pub mod Rising
 pub mod Overs
-pub mod Sounds
 pub mod Frames

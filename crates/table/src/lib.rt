@@ -5,12 +5,10 @@ ghost use Prim.Native.Nat.{ℕ, suc, _+_, _*_, _-_, _<_, _≤_, _^_};
 ghost use lib.ListN.{length, getD, set};
 ghost use lib.Dec.{eqb};
 ghost use Rattle.ast.specs.Image as «image-spec»;
-ghost use Rattle.ast.specs.Tests.{run};
 ghost use Rattle.table.specs.Layout as «layout-spec»;
 ghost use Rattle.table.specs.Layout.{parentPlace, scopePlace, nodePlace, arrays, tableLength};
 ghost use Rattle.table.specs.Table as «table-spec»;
 ghost use Rattle.table.specs.State.{childScope, ownSymbol, introduce, marked, unmarked};
-ghost use Rattle.table.specs.Sound.{hasName, isSymbol, parentBelow, rowSound, testSound};
 ghost use Rattle.table.specs.Rows.{scopeOf, nodeAt, parentAt, Sorted, Cut, Before, Rising, Block};
 ghost use Rattle.table.specs.Values.{tableOf, exitOf, optionOf};
 use ast::NodeId;
@@ -481,108 +479,4 @@ pub fn symbol_of(kind: u32) -> u32
         return SYMBOLS[kind as usize];
     }
     0
-}
-
-// An optional name that is present: a rule's or an argument's.
-fn has_name(image: &[u8], node: NodeId) -> bool
-    ensures { λ r. ⌜ r ≡ hasName (now (image .entry)) (node .0) ⌝ }
-{
-    if ast::field(image, node, 0) == 0 {
-        return false;
-    }
-    true
-}
-
-// A named node of kind 2 to 10 or 13.
-fn is_symbol(image: &[u8], node: NodeId) -> bool
-    ensures { λ r. ⌜ r ≡ isSymbol (now (image .entry)) (node .0) ⌝ }
-{
-    if ast::node_count(image) <= node.0 {
-        return false;
-    }
-    let kind = ast::kind_at(image, node);
-    if kind == 6 {
-        return has_name(image, node);
-    }
-    if kind == 10 {
-        return has_name(image, node);
-    }
-    if kind == 13 {
-        return true;
-    }
-    if kind < 2 {
-        return false;
-    }
-    kind <= 9
-}
-
-// Each scope but the first has a parent below it.
-fn test_parents(image: &[u8], table: &[u32], scopes: u32) -> u32
-    ensures { λ r. ⌜ r ≡ run (parentBelow (now (image .entry)) (now (table .entry))) (scopes - 1) 1 ⌝ }
-{
-    let mut s = 1u32;
-    while s < scopes {
-        if s <= parent_of(image, table, ScopeId(s)) {
-            return 16;
-        }
-        s += 1;
-    }
-    0
-}
-
-// A symbol row: a scope below K and a named node.
-fn test_row(image: &[u8], table: &[u32], j: u32) -> u32
-    ensures { λ r. ⌜ r ≡ rowSound (now (image .entry)) (now (table .entry)) j ⌝ }
-{
-    if get(table, 1) <= symbol_scope(image, table, j) {
-        return 16;
-    }
-    let node = NodeId(symbol_node(image, table, j));
-    if is_symbol(image, node) {
-        return 0;
-    }
-    16
-}
-
-fn test_rows(image: &[u8], table: &[u32], symbols: u32) -> u32
-    ensures { λ r. ⌜ r ≡ run (rowSound (now (image .entry)) (now (table .entry))) symbols 0 ⌝ }
-{
-    let mut j = 0u32;
-    while j < symbols {
-        let code = test_row(image, table, j);
-        if code != 0 {
-            return code;
-        }
-        j += 1;
-    }
-    0
-}
-
-// Refusal 16: a table that is not sound.
-pub fn test_sound(image: &[u8], table: &[u32]) -> u32
-    ensures { λ r. ⌜ r ≡ testSound (now (image .entry)) (now (table .entry)) ⌝ }
-{
-    let n = ast::node_count(image);
-    let scopes = get(table, 1);
-    let symbols = get(table, 2);
-    if get(table, 0) != n {
-        return 16;
-    }
-    if scopes == 0 {
-        return 16;
-    }
-    if n < scopes {
-        return 16;
-    }
-    if n < symbols {
-        return 16;
-    }
-    if parent_of(image, table, ScopeId(0)) != 4294967295 {
-        return 16;
-    }
-    let code = test_parents(image, table, scopes);
-    if code != 0 {
-        return code;
-    }
-    test_rows(image, table, symbols)
 }
