@@ -19,8 +19,8 @@ use Rattle.ast.proofs.Acceptance.{row, name-below, opt-name-below}
 use Rattle.ast.proofs.Accepted.{sized, last-below}
 use Rattle.ast.proofs.Unfold.{All, nil, cons, All-append}
 use Rattle.ast.proofs.Vars.{Everywhere, EverywhereAll, every-kind}
-use Rattle.table.specs.Sound.{isSymbol}
-use Rattle.table.proofs.Sounds.{named-no, symbol-rule, symbol-arg, symbol-low, symbol-decl}
+use Rattle.sound.specs.Sound.{isSymbol}
+use Rattle.sound.proofs.Sounds.{named-no, symbol-rule, symbol-arg, symbol-low, symbol-decl}
 use Rattle.scopes.specs.Walk.{twice}
 use Rattle.scopes.specs.Resolve.{testTable, walked}
 use Rattle.scopes.specs.Clash.{Clash, clashFrom, clashIn, firstClash}

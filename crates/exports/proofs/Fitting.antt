@@ -14,7 +14,7 @@ use Rattle.ast.specs.Tests.{need, verdict}
 use Rattle.ast.proofs.Accepted.{both, needed, ran, sized}
 use Rattle.rows.specs.Rows.{Row}
 use Rattle.table.specs.Rows.{nodeAt}
-use Rattle.table.specs.Sound.{symbolsIn, scopesIn, parentBelow, rowSound, testSound}
+use Rattle.sound.specs.Sound.{symbolsIn, scopesIn, parentBelow, rowSound, testSound}
 use Rattle.table.specs.State.{Exit}
 use Rattle.table.specs.Table.{symbolOf, lookup}
 use Rattle.scopes.specs.Lookup.{testLookup, symbolAnswer, foundBy, lookupCall}

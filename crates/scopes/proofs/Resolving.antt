@@ -21,11 +21,11 @@ use Rattle.ast.proofs.Unfold.{treeAt-is}
 use Rattle.ast.proofs.Count.{tree-size}
 use Rattle.ast.proofs.Small.{Small, tree-small}
 use Rattle.ast.proofs.Vars.{Everywhere}
-use Rattle.table.specs.Layout.{allOnes, nodesPlace, scopesPlace, symbolsPlace, tableLength}
-use Rattle.table.specs.Sound.{isSymbol, scopesIn, symbolsIn, testSound}
+use Rattle.table.specs.Layout.{allOnes, nodesPlace, scopesPlace, symbolsPlace, parentPlace, scopePlace, nodePlace, tableLength}
+use Rattle.sound.specs.Sound.{isSymbol, scopesIn, symbolsIn, testSound}
 use Rattle.table.specs.State.{Exit, marked}
 use Rattle.table.specs.Table.{Table, mark, newScope}
-use Rattle.table.proofs.Sounds.{parent-low, row-yes, sound-rest}
+use Rattle.sound.proofs.Sounds.{parent-low, row-yes, sound-rest}
 use Rattle.ordered.specs.Walkers.{Few}
 use Rattle.ordered.specs.Kept.{Kept}
 use Rattle.ordered.proofs.Kept.{past, mark-kept, scope-kept, mark-past, scope-past, mark-length, scope-length}
@@ -78,7 +78,7 @@ module _ (img ws : List ℕ) (n : ℕ) (below : n < nodes img) (long : tableLeng
       (record {
         long = (let z = scope-length img allOnes empty in omega arith);
         live = omega arith;
-        root = getD-set-same ws (3 + 2 * nodes img + 0) allOnes 0 (omega arith);
+        root = getD-set-same ws (parentPlace (nodes img) 0) allOnes 0 (omega arith);
         parents = λ s l k. absurd (omega arith);
         scopes = λ j k. absurd (omega arith);
         symbols = λ j k. absurd (omega arith);
@@ -232,11 +232,11 @@ headed-sound img ws e long d =
     let y = headed-symbols img t l in
     let g = d .good in
     sound-rest img vs (nodes img) (nodes img) (t .scopes) (t .symbols) refl (sym (headed-nodes img t l)) (sym k) (sym y) refl (λ q. let s = d .some in omega arith) (d .scopes) (d .symbols)
-    (headed-word img t (3 + 2 * nodes img + 0) (omega arith) ∙ g .root)
-    ∙ skip _ _ (run-all _ (t .scopes - 1) 1 (λ s a b. parent-low img vs s _ refl (let z = headed-word img t (3 + 2 * nodes img + s) (omega arith) in let p = g .parents s a (omega arith) in omega arith)))
+    (headed-word img t (parentPlace (nodes img) 0) (omega arith) ∙ g .root)
+    ∙ skip _ _ (run-all _ (t .scopes - 1) 1 (λ s a b. parent-low img vs s _ refl (let z = headed-word img t (parentPlace (nodes img) s) (omega arith) in let p = g .parents s a (omega arith) in omega arith)))
     ∙ run-all _ (t .symbols) 0 (λ j a b.
-    row-yes img vs j _ (t .scopes) refl (sym k) _ refl (let z = headed-word img t (3 + 3 * nodes img + j) (omega arith) in let p = g .scopes j (omega arith) in omega arith)
-    (ap (isSymbol img) (headed-word img t (3 + 4 * nodes img + j) (omega arith)) ∙ g .symbols j (omega arith)))
+    row-yes img vs j _ (t .scopes) refl (sym k) _ refl (let z = headed-word img t (scopePlace (nodes img) j) (omega arith) in let p = g .scopes j (omega arith) in omega arith)
+    (ap (isSymbol img) (headed-word img t (nodePlace (nodes img) j) (omega arith)) ∙ g .symbols j (omega arith)))
 
 -- Resolve -----------------------------------------------------------------------------------------------------------------
 module _ (img tab : List ℕ) where

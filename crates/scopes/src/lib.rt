@@ -380,9 +380,9 @@ pub fn walk_module(image: &[u8], table: &mut [u32]) -> Declared
 pub fn insert_counts(image: &[u8], table: &mut [u32], w: Walked)
     ensures { λ _. ⌜ now (table .exit) ≡ headed (now (image .entry)) (tableOf w (now (table .entry))) ⌝ }
 {
-    table::put(table, 0, ast::node_count(image));
-    table::put(table, 1, w.scopes);
-    table::put(table, 2, w.symbols);
+    table::put(table, table::NODES_PLACE, ast::node_count(image));
+    table::put(table, table::SCOPES_PLACE, w.scopes);
+    table::put(table, table::SYMBOLS_PLACE, w.symbols);
 }
 
 // What Resolve hands back: a refusal, a name that is declared twice with its two nodes, or K and Y.
@@ -397,7 +397,7 @@ pub fn resolve_into(image: &[u8], table: &mut [u32]) -> Resolved
     requires { ⌜ testTable (now image) (now table) ≡ 0 ⌝ }
     ensures { λ r. ⌜ (resolvedAnswer r ≡ (resolve (now (image .entry)) (now (table .entry))) .answer) × (now (table .exit) ≡ (resolve (now (image .entry)) (now (table .entry))) .table) ⌝ }
 {
-    let words = 3 + 5 * ast::wide(ast::node_count(image));
+    let words = table::words_for(ast::node_count(image));
     rows::clear(table, words);
     match walk_module(image, table) {
         Declared::Done(w) => {
@@ -419,7 +419,7 @@ pub fn test_table(image: &[u8], table: &[u32]) -> u32
     if code != 0 {
         return code;
     }
-    if table.len() < 3 + 5 * ast::wide(ast::node_count(image)) {
+    if table.len() < table::words_for(ast::node_count(image)) {
         return 13;
     }
     0
@@ -451,11 +451,11 @@ fn test_lookup(image: &[u8], table: &[u32], scope: ScopeId) -> u32
     if code != 0 {
         return code;
     }
-    let sound = table::test_sound(image, table);
+    let sound = sound::test_sound(image, table);
     if sound != 0 {
         return sound;
     }
-    if scope.0 < table::get(table, 1) {
+    if scope.0 < table::get(table, table::SCOPES_PLACE) {
         return 0;
     }
     17
@@ -465,7 +465,13 @@ fn test_lookup(image: &[u8], table: &[u32], scope: ScopeId) -> u32
 fn lookup_number(image: &[u8], table: &[u32], scope: ScopeId, name: u32) -> Looked
     ensures { λ r. ⌜ lookedAnswer r ≡ «lookup-spec».symbolAnswer (now (image .entry)) («lookup-spec».foundBy (now (image .entry)) (now (table .entry)) (scope .0) (some name)) ⌝ }
 {
-    match table::lookup(image, table, table::get(table, 2), scope, name) {
+    match table::lookup(
+        image,
+        table,
+        table::get(table, table::SYMBOLS_PLACE),
+        scope,
+        name,
+    ) {
         Found::At(node) => Looked::At(table::symbol_of(ast::kind_at(image, node)), node),
         Found::Nothing => Looked::Nothing,
     }

@@ -19,11 +19,11 @@ use Rattle.table.specs.Rows.{parentAt}
 use Rattle.table.specs.State.{Exit, introduce}
 use Rattle.table.specs.Table.{Table, mark, newScope, newSymbol, rowIs, findFrom, find, climb, lookup, entryAt, exitAt}
 use Rattle.table.proofs.Finds.{row-out}
-use Rattle.table.proofs.Frames.{SameRows, from-same, find-none, find-mark, find-scope, symbol-same, symbol-scope, find-symbol}
+use Rattle.table.proofs.Frames.{mark-word, scope-word, symbol-word, find-same, find-none, find-mark, find-scope, symbol-same, symbol-scope, find-symbol}
 use Rattle.table.proofs.Rising.{either, hit, find-snoc}
 use Rattle.ordered.specs.Kept.{Kept}
+use Rattle.ordered.proofs.Kept.{scope-kept, symbol-kept}
 use Rattle.table.proofs.Agreed.{through, above, above-cong, Agree, lookup-agree}
-use Rattle.ordered.proofs.Kept.{mark-word, scope-word, symbol-word, scope-kept, symbol-kept}
 use Rattle.sight.specs.Sight.{In}
 use Rattle.sight.proofs.Members.{in-left, in-right}
 
@@ -144,10 +144,7 @@ module _ (img : List ℕ) where
         ∙ ap (λ b. either (findFrom img y named 0 r x) (hit img named b y)) (row-out img named y r x (λ q. f (sym q ∙ symbol-scope img s n t Y<N (sane .rising .long))))
         ∙ either-orElse (findFrom img y named 0 r x) none
         ∙ orElse-none (findFrom img y named 0 r x)
-        ∙ from-same img y named (t .words) 0 r x (record { scopes = λ i h. rows .scopes i (omega arith); nodes = λ i h. rows .nodes i (omega arith) })
-      where
-        rows : SameRows N (t .symbols) named (t .words)
-        rows = symbol-same img s n t Y<N (sane .rising .long)
+        ∙ find-same img (symbol-same img s n t Y<N) r x
 
     pub name-find : (x : ℕ) → find img (newSymbol img s n t) s x ≡ orElse (find img t s x) (earliest (nameOf img) (n ∷ []) x)
     unfolding earliest Rattle.table.proofs.Frames.own

@@ -1,8 +1,8 @@
 use mathlib.Core.Path.{sym, _∙_}
-use Rattle.table.proofs.Sounds.{named-no, named-yes}
+use Rattle.sound.proofs.Sounds.{named-no, named-yes}
 use borrow.Author.Needs.{needs}
-use Rattle.table.proofs.has_name.Statement.{statement}
-use Rattle.table.proofs.has_name.Tie as tie
+use Rattle.sound.proofs.has_name.Statement.{statement}
+use Rattle.sound.proofs.has_name.Tie as tie
 
 field-requires : tie.Need-field-requires
 field-requires c κs = search needs

@@ -1,26 +1,18 @@
 -- Laws of the test whether a table is sound, as code goes through it.
 use mathlib.Core.Path.{_≡_, refl, sym, ap, ap₂, _∙_}
 use mathlib.Core.Bool.{Bool, true, false, _&&_, _||_}
-use mathlib.Core.List.{List, [], _∷_}
+use mathlib.Core.List.{List}
 use Prim.Native.Nat.{ℕ, zero, suc, _+_, _-_, _<_, _≤_}
 use native.Mathlib.Omega.{arith}
 use lib.Dec.{leb, eqb}
-use lib.ListN.{getD, List·getD-eq-default}
+use lib.ListN.{getD}
 use borrow.Author.Tests.{lt-ltb, le-ltb, le-leb, lt-leb, eq-eqb, ne-eqb}
 use Rattle.ast.specs.Image.{nodes, kindAt, field}
 use Rattle.ast.specs.Tests.{_▸_, need, run}
 use Rattle.ast.proofs.Accepted.{skip, stop}
 use Rattle.ast.proofs.Scans.{need-in, need-out}
 use Rattle.table.specs.Layout.{allOnes, nodesPlace, parentPlace, scopePlace, nodePlace}
-use Rattle.table.specs.Table.{symbolOf}
-use Rattle.table.specs.Sound.{hasName, isSymbol, scopesIn, symbolsIn, parentBelow, rowSound, testSound}
-
-pub symbol-past : (k : ℕ) → 14 ≤ k → symbolOf k ≡ 0
-unfolding symbolOf
-symbol-past k h = List·getD-eq-default symbols 0 h
-  where
-    symbols : List ℕ
-    symbols = 0 ∷ 0 ∷ 0 ∷ 1 ∷ 2 ∷ 3 ∷ 7 ∷ 4 ∷ 6 ∷ 5 ∷ 8 ∷ 0 ∷ 0 ∷ 9 ∷ []
+use Rattle.sound.specs.Sound.{hasName, isSymbol, scopesIn, symbolsIn, parentBelow, rowSound, testSound}
 
 -- a run from b on: the whole is what is left of it after i tests
 module _ (f : ℕ → ℕ) (c b : ℕ) where

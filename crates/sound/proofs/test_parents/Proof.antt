@@ -1,10 +1,10 @@
 use mathlib.Core.Path.{sym}
 use native.Mathlib.Omega.{arith}
 use Prim.Native.Nat.{_-_, _≤_}
-use Rattle.table.specs.Sound.{parentBelow}
-use Rattle.table.proofs.Sounds.{RunFrom, from-begin, from-next, from-stop, from-end, parent-high, parent-low}
-use Rattle.table.proofs.test_parents.Statement.{statement}
-use Rattle.table.proofs.test_parents.Tie as tie
+use Rattle.sound.specs.Sound.{parentBelow}
+use Rattle.sound.proofs.Sounds.{RunFrom, from-begin, from-next, from-stop, from-end, parent-high, parent-low}
+use Rattle.sound.proofs.test_parents.Statement.{statement}
+use Rattle.sound.proofs.test_parents.Tie as tie
 use borrow.Author.Needs.{needs}
 
 abbrev Inv-loop : tie.InvT-loop

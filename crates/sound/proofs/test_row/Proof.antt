@@ -1,8 +1,8 @@
 use mathlib.Core.Path.{sym, _∙_}
-use Rattle.table.proofs.Sounds.{row-high, row-yes, row-no}
+use Rattle.sound.proofs.Sounds.{row-high, row-yes, row-no}
 use borrow.Author.Needs.{needs}
-use Rattle.table.proofs.test_row.Statement.{statement}
-use Rattle.table.proofs.test_row.Tie as tie
+use Rattle.sound.proofs.test_row.Statement.{statement}
+use Rattle.sound.proofs.test_row.Tie as tie
 
 get-requires : tie.Need-get-requires
 get-requires c κs = search needs

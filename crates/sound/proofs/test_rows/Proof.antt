@@ -1,9 +1,9 @@
 use mathlib.Core.Path.{sym, _∙_}
 use Prim.Native.Nat.{_-_}
-use Rattle.table.specs.Sound.{rowSound}
+use Rattle.sound.specs.Sound.{rowSound}
 use Rattle.ast.proofs.Runs.{RunLeft, run-begin, run-next, run-stop, run-end}
-use Rattle.table.proofs.test_rows.Statement.{statement}
-use Rattle.table.proofs.test_rows.Tie as tie
+use Rattle.sound.proofs.test_rows.Statement.{statement}
+use Rattle.sound.proofs.test_rows.Tie as tie
 use borrow.Author.Needs.{needs}
 
 abbrev Inv-loop : tie.InvT-loop

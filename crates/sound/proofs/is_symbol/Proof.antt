@@ -1,10 +1,10 @@
 use mathlib.Core.Path.{sym, ap, _∙_}
 use native.Mathlib.Omega.{arith}
 use lib.Dec.{leb}
-use Rattle.table.proofs.Sounds.{symbol-out, symbol-rule, symbol-arg, symbol-var, symbol-low, symbol-decl}
+use Rattle.sound.proofs.Sounds.{symbol-out, symbol-rule, symbol-arg, symbol-var, symbol-low, symbol-decl}
 use borrow.Author.Needs.{needs}
-use Rattle.table.proofs.is_symbol.Statement.{statement}
-use Rattle.table.proofs.is_symbol.Tie as tie
+use Rattle.sound.proofs.is_symbol.Statement.{statement}
+use Rattle.sound.proofs.is_symbol.Tie as tie
 
 node-count-requires : tie.Need-node-count-requires
 node-count-requires c κs = search needs

@@ -1,9 +1,9 @@
 use mathlib.Core.Path.{sym, _∙_}
 use Rattle.ast.proofs.Accepted.{skip}
-use Rattle.table.proofs.Sounds.{sound-nodes, sound-none, sound-scopes, sound-symbols, sound-root, sound-rest, halt}
+use Rattle.sound.proofs.Sounds.{sound-nodes, sound-none, sound-scopes, sound-symbols, sound-root, sound-rest, halt}
 use borrow.Author.Needs.{needs}
-use Rattle.table.proofs.test_sound.Statement.{statement}
-use Rattle.table.proofs.test_sound.Tie as tie
+use Rattle.sound.proofs.test_sound.Statement.{statement}
+use Rattle.sound.proofs.test_sound.Tie as tie
 
 node-count-requires : tie.Need-node-count-requires
 node-count-requires c κs = search needs
