@@ -6,7 +6,7 @@ use native.Mathlib.Nat.{add-zero}
 use native.Mathlib.Omega.{arith}
 use lib.ListN.{length, set, drop, replicate, length-append, length-replicate, length-drop, length-set, replicate-append-replicate}
 use borrow.Author.Fill.{fill-none, fill-more}
-use Rattle.rows.specs.Rows.{Row, lefts, rights, rowsLength, filled, written, cleared, putRows, Appended}
+use Rattle.rows.specs.Rows.{Row, lefts, rights, rowsLength, filled, written, cleared, putRows, Appended, Wrote}
 
 pub lefts-length : (l : List Row) → length (lefts l) ≡ length l
 unfolding lefts
@@ -121,3 +121,12 @@ written-is N l old k = sym (ap (λ (ws : List ℕ). set (putRows N 0 l ws) 0 (le
         ap₂ (λ (i j : ℕ). length l ∷ (lefts l ++ (replicate i 0 ++ (rights l ++ (replicate j 0 ++ rest)))))
         (ap (λ (i : ℕ). N - i) (sym (lefts-length l))) (ap (λ (i : ℕ). N - i) (sym (rights-length l)))
         ∙ ap (λ (ws : List ℕ). length l ∷ ws) (simp append-assoc)
+
+-- so a call writes its rows: words cleared, the rows put in, the count in front
+pub wrote : {N r k : ℕ} {l : List Row} {old us vs ws : List ℕ} → length l ≤ N → us ≡ cleared (rowsLength N) old → Appended N l 0 us r vs → (k ≡ r) × (ws ≡ set vs 0 r) → Wrote N l old k ws
+wrote {N} {r} {k} {l} {old} few begins puts ends =
+    let n : r ≡ length l = (let z = puts .count in omega arith) in
+    record {
+      count = ends .0 ∙ n;
+      words = ends .1 ∙ ap₂ (λ (xs : List ℕ) (x : ℕ). set xs 0 x) (puts .words ∙ ap (putRows N 0 l) begins) n ∙ sym (written-is N l old few);
+    }

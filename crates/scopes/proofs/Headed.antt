@@ -9,18 +9,14 @@ use Rattle.table.specs.Rows.{Sorted}
 use Rattle.table.specs.Table.{Table, find, lookup, entryAt, exitAt}
 use Rattle.table.proofs.Frames.{from-same}
 use Rattle.ordered.proofs.Agreed.{lookup-agree}
-use Rattle.scopes.specs.Resolve.{headed}
+use Rattle.scopes.specs.Resolve.{headed, counted}
 use Rattle.scopes.proofs.Resolving.{headed-word, headed-length}
 
 module _ (img : List ℕ) (t : Table) where
-  -- the table of the words that Resolve leaves
-  abbrev pub left : Table
-  left = record { words = headed img t; scopes = t .scopes; symbols = t .symbols }
-
-  pub headed-lookup : (s x : ℕ) → lookup img t s x ≡ lookup img left s x
+  pub headed-lookup : (s x : ℕ) → lookup img t s x ≡ lookup img (counted img t) s x
   unfolding find
   headed-lookup s x =
-      lookup-agree img (suc s) t left s x (omega arith)
+      lookup-agree img (suc s) t (counted img t) s x (omega arith)
       (λ r h. (
         (λ y. from-same img (t .symbols) (t .words) (headed img t) 0 r y
             (record { scopes = λ i l. sym (headed-word img t (scopePlace (nodes img) i) (omega arith)); nodes = λ i l. sym (headed-word img t (nodePlace (nodes img) i) (omega arith)) })),
