@@ -4,7 +4,7 @@ use mathlib.Core.Bool.{Bool, true, false}
 use mathlib.Core.List.{List, [], _++_}
 use Prim.Native.Nat.{ℕ, zero, suc, _+_, _<_, _≤_, _^_}
 use native.Mathlib.Omega.{arith}
-use lib.ListN.{length, set}
+use lib.ListN.{length}
 use borrow.Author.Tests.{eq-eqb, ne-eqb, le-leb, lt-leb}
 use Rattle.ast.specs.Image.{nodes, last}
 use Rattle.ast.specs.Kinds.{kindOf}
@@ -15,8 +15,7 @@ use Rattle.table.specs.Rows.{Sorted}
 use Rattle.table.specs.Table.{Table}
 use Rattle.table.specs.Values.{tableOf}
 use Rattle.table.specs.declared.Walked.{Walked}
-use Rattle.rows.specs.Rows.{Row, rowsLength, cleared, Appended, Wrote}
-use Rattle.rows.proofs.Appends.{wrote}
+use Rattle.rows.specs.Rows.{Row, Appended}
 use Rattle.scopes.specs.Resolve.{testTable}
 use Rattle.scopes.specs.Calls.{testRows}
 use Rattle.scopes.specs.Answers.{Resolves}
@@ -24,9 +23,9 @@ use Rattle.scopes.specs.declared.Declared.{Declared}
 use Rattle.scopes.specs.declared.Declared.the-variants.{Done}
 use Rattle.scopes.proofs.Calls.{rows-table, rows-long}
 use Rattle.scopes.proofs.Headed.{resolved-filled}
-use Rattle.bindings.specs.Errors.{isStrict, strictRows, declRows, plainRows, errorRows, testErrors}
+use Rattle.bindings.specs.Errors.{isStrict, strictRows, declRows, plainRows, testErrors}
 use Rattle.bindings.specs.Checks.{Ready, ofMode, Filled}
-use Rattle.bindings.proofs.Few.{both-few, rows-few}
+use Rattle.bindings.proofs.Few.{both-few}
 
 -- writing the rows ------------------------------------------------------------------------------------------------------
 module _ (img : List ℕ) where
@@ -57,12 +56,6 @@ module _ (img : List ℕ) where
 
   pub mode-fits : (t : Table) {N r : ℕ} {ws vs : List ℕ} → verdict img ≡ 0 → Appended N (plainRows img t) 0 ws r vs → r + length (strictRows img) < 2 ^ 32
   mode-fits t e h = let a = rows-fit t e in let b = h .count in omega arith
-
-  -- the rows are no more than nodes, so they are all written
-  pub errors-wrote : (t : Table) (mode : ℕ) {c r k : ℕ} {old us vs ws : List ℕ} → verdict img ≡ 0 → us ≡ cleared (rowsLength c) old → c ≡ nodes img
-      → Appended (nodes img) (plainRows img t ++ ofMode img mode) 0 us r vs → (k ≡ r) × (ws ≡ set vs 0 r) → Wrote (nodes img) (errorRows img t mode) old k ws
-  unfolding errorRows
-  errors-wrote t mode {c} {old = old} e b q h z = wrote (rows-few img e t mode) (b ∙ ap (λ (n : ℕ). cleared (rowsLength n) old) q) h z
 
 -- the refusals ----------------------------------------------------------------------------------------------------------
 module _ (img tab rows : List ℕ) (mode : ℕ) where

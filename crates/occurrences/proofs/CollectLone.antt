@@ -23,10 +23,11 @@ use Rattle.ast.proofs.Runs.{sat, claimed-times}
 use Rattle.ast.proofs.Unfold.{All, nil, cons, All-map}
 use Rattle.table.specs.Table.{Table, rowIs, findFrom, climb, lookup, exitAt}
 use Rattle.table.specs.Rows.{nodeAt}
-use Rattle.rows.specs.Rows.{Row, row, rights, rowsLength, putRows, Appended}
+use Rattle.rows.specs.Rows.{Row, row, rights, rowsLength, Appended, readRows}
+use Rattle.rows.proofs.Reading.{read-appended, read-more, read-end, read-all}
 use Rattle.occurrences.specs.Spots.{Spot, spotsSeq}
 use Rattle.occurrences.specs.Occurrences.{found, listed, rowsFor, timesBound, loneIn, lone}
-use Rattle.occurrences.specs.Collect.{rowsAt, joined, listsIn, listsAt, Listing, ListingRun, readRows, under, uncounted, recount, recounted, loneOf, Scratch, Searched}
+use Rattle.occurrences.specs.Collect.{rowsAt, joined, listsIn, listsAt, Listing, ListingRun, under, uncounted, recount, recounted, loneOf, Scratch, Searched}
 use Rattle.occurrences.specs.declared.Checked.{Checked}
 use Rattle.occurrences.specs.declared.Checked.the-variants.{Ok, Lone}
 use Rattle.occurrences.proofs.CollectRules.{joined-append, items-done, items-all, RuleRun, ruleRun, DeclItem, declItem}

@@ -3,9 +3,11 @@ use native.Mathlib.Omega.{arith}
 use Prim.Native.Nat.{_-_}
 use Rattle.ast.specs.Image.{last}
 use Rattle.ast.proofs.Accepted.{sized}
-use Rattle.rows.proofs.Appends.{appended-next}
+use Rattle.rows.proofs.Appends.{appended-next, wrote}
 use Rattle.rows.proofs.Parts.{appended-as}
-use Rattle.bindings.proofs.Calls.{root-ready, plain-of, mode-fits, errors-wrote}
+use Rattle.bindings.proofs.Calls.{root-ready, plain-of, mode-fits}
+use Rattle.bindings.specs.Errors.{errorRows}
+use Rattle.bindings.proofs.Few.{rows-few}
 use borrow.Author.Needs.{needs}
 use Rattle.bindings.proofs.write_rows.Statement.{statement}
 use Rattle.bindings.proofs.write_rows.Tie as tie
@@ -34,8 +36,8 @@ same-length : tie.Need-same-length
 same-length c = search needs
 
 returns : tie.Need-returns
-unfolding last
-returns c = errors-wrote _ _ _ (c .before .before .before .before .before .before .before .before .before .before .before .before .before .before .before .before .before .before .before .before .pre .accepted) (c .before .before .before .before .before .before .before .before .before .before .before .before .before .before .begin .ensures) (c .before .before .before .before .before .before .before .before .before .before .before .before .before .before .before .before .node-count .ensures) (appended-next (appended-as (plain-of _ _ (ap (λ k. k - 1) (c .before .before .before .before .before .before .before .before .before .before .before .before .before .before .before .before .node-count .ensures))) (c .before .before .before .before .before .before .before .before .before .before .walk-module .ensures)) (c .before .before .before .before .before .before .check-mode .ensures)) (c .before .before .finish .ensures)
+unfolding last errorRows
+returns c = wrote (rows-few _ (c .before .before .before .before .before .before .before .before .before .before .before .before .before .before .before .before .before .before .before .before .pre .accepted) _ _) (c .before .before .before .before .before .before .before .before .before .before .before .before .before .before .before .before .node-count .ensures) (c .before .before .before .before .before .before .before .before .before .before .before .before .before .before .begin .ensures) (appended-next (appended-as (plain-of _ _ (ap (λ k. k - 1) (c .before .before .before .before .before .before .before .before .before .before .before .before .before .before .before .before .node-count .ensures))) (c .before .before .before .before .before .before .before .before .before .before .walk-module .ensures)) (c .before .before .before .before .before .before .check-mode .ensures)) (c .before .before .finish .ensures)
 
 pub write-rows-spec : {M : Type 1} → statement M
 write-rows-spec =
