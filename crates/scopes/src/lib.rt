@@ -16,8 +16,9 @@ ghost use Rattle.ordered.specs.Walkers.{inside};
 ghost use Rattle.scopes.specs.Walk.{done, enterName, enter, visit, resolveTree};
 ghost use Rattle.scopes.specs.Lists.{ent, restEnter, restVisit, overList, Entering, Enters, Visits, Signature, Inside, Visit, EnterRun, VisitRun, ListRun, Lent, Stamped};
 ghost use Rattle.scopes.specs.Resolve.{testTable, headed, resolve};
+ghost use Rattle.scopes.specs.Calls.{testRows};
 ghost use Rattle.scopes.specs.Lookup as «lookup-spec»;
-ghost use Rattle.scopes.specs.Answers.{resolvedAnswer, lookedAnswer};
+ghost use Rattle.scopes.specs.Answers.{resolvedAnswer, Resolves, lookedAnswer};
 use ast::NodeId;
 use names::Numbered;
 use table::Found;
@@ -385,28 +386,21 @@ pub fn insert_counts(image: &[u8], table: &mut [u32], w: Walked)
     table::put(table, table::SYMBOLS_PLACE, w.symbols);
 }
 
-// What Resolve hands back: a refusal, a name that is declared twice with its two nodes, or K and Y.
-pub enum Resolved {
-    Refused(u32),
-    Twice(u32, NodeId, NodeId),
-    Scopes(u32, u32),
-}
-
-// Resolve, where 1 to 13 refuse nothing.
-pub fn resolve_into(image: &[u8], table: &mut [u32]) -> Resolved
+// Resolve, where 1 to 13 refuse nothing: where the walk stands after the module, or the name that is declared twice.
+pub fn resolve_into(image: &[u8], table: &mut [u32]) -> Declared
     requires { ⌜ testTable (now image) (now table) ≡ 0 ⌝ }
-    ensures { λ r. ⌜ (resolvedAnswer r ≡ (resolve (now (image .entry)) (now (table .entry))) .answer) × (now (table .exit) ≡ (resolve (now (image .entry)) (now (table .entry))) .table) ⌝ }
+    ensures { λ r. ⌜ Resolves (now (image .entry)) (now (table .entry)) r (now (table .exit)) ⌝ }
 {
     let words = table::words_for(ast::node_count(image));
     rows::clear(table, words);
     match walk_module(image, table) {
         Declared::Done(w) => {
             insert_counts(image, table, w);
-            Resolved::Scopes(w.scopes, w.symbols)
+            Declared::Done(w)
         }
         Declared::Twice(name, first, second) => {
             rows::clear(table, words);
-            Resolved::Twice(name, first, second)
+            Declared::Twice(name, first, second)
         }
     }
 }
@@ -425,6 +419,34 @@ pub fn test_table(image: &[u8], table: &[u32]) -> u32
     0
 }
 
+// The refusals of a call that is lent rows too: 1 to 14.
+pub fn test_rows(image: &[u8], table: &[u32], rows: &[u32]) -> u32
+    ensures { λ r. ⌜ r ≡ testRows (now (image .entry)) (now (table .entry)) (now (rows .entry)) ⌝ }
+{
+    let code = test_table(image, table);
+    if code != 0 {
+        return code;
+    }
+    if rows.len() < rows::words(ast::node_count(image)) {
+        return 14;
+    }
+    0
+}
+
+// What Resolve hands back: a refusal, a name that is declared twice with its two nodes, or K and Y.
+pub enum Resolved {
+    Refused(u32),
+    Twice(u32, NodeId, NodeId),
+    Scopes(u32, u32),
+}
+
+// What a call that writes rows hands back: a refusal, a name that is declared twice with its two nodes, or the count of rows.
+pub enum Rowed {
+    Refused(u32),
+    Twice(u32, NodeId, NodeId),
+    Rows(u32),
+}
+
 // Resolve: fills the lent table with the scopes and symbols of the image.
 pub fn resolve_scopes(image: &[u8], table: &mut [u32]) -> Resolved
     ensures { λ r. ⌜ (resolvedAnswer r ≡ (resolve (now (image .entry)) (now (table .entry))) .answer) × (now (table .exit) ≡ (resolve (now (image .entry)) (now (table .entry))) .table) ⌝ }
@@ -433,7 +455,10 @@ pub fn resolve_scopes(image: &[u8], table: &mut [u32]) -> Resolved
     if refusal != 0 {
         return Resolved::Refused(refusal);
     }
-    resolve_into(image, table)
+    match resolve_into(image, table) {
+        Declared::Done(w) => Resolved::Scopes(w.scopes, w.symbols),
+        Declared::Twice(name, first, second) => Resolved::Twice(name, first, second),
+    }
 }
 
 // What Lookup hands back: a refusal, a symbol number with its node, or none.
