@@ -1,8 +1,8 @@
--- What a reader of rows asks: the image is accepted, and the node is one of its nodes, of a kind.
+-- What a reader of rows asks: the image is accepted, and the node is one of its nodes, of a kind; or some words of a row are such nodes.
 use mathlib.Core.Path.{_≡_}
 use mathlib.Core.List.{List}
-use Prim.Native.Nat.{ℕ, _<_}
-use Rattle.ast.specs.Image.{nodes, kindAt}
+use Prim.Native.Nat.{ℕ, _+_, _<_, _≤_}
+use Rattle.ast.specs.Image.{nodes, kindAt, field}
 use Rattle.ast.specs.Kinds.{Class, Field, Kind, kindOf}
 use Rattle.ast.specs.Tests.{verdict}
 
@@ -10,6 +10,14 @@ pub record Is (img : List ℕ) (kd : Kind) (n : ℕ) : Type 0 where
   pub accepted : verdict img ≡ 0
   pub below : n < nodes img
   pub kind : kindOf (kindAt img n) ≡ kd
+
+-- the count nodes from place j of n's row on are children, of kind k
+pub record Run (img : List ℕ) (k n j count : ℕ) : Type 0 where
+  pub accepted : verdict img ≡ 0
+  pub below : n < nodes img
+  pub lower : (i : ℕ) → i < count → field img n (j + i) < n
+  pub kinds : (i : ℕ) → i < count → kindAt img (field img n (j + i)) ≡ k
+  pub short : j + count ≤ 8192
 
 -- a kind by its class and its fields
 abbrev pub kindBy : Class → List Field → Kind

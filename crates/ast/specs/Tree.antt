@@ -4,7 +4,7 @@ use mathlib.Core.List.{List, [], _∷_}
 use Prim.Native.Nat.{ℕ, zero, suc}
 use lib.Dec.{ltb}
 use Rattle.ast.specs.Image.{nodes, kindAt}
-use Rattle.ast.specs.Kinds.{Class, outer, inner, plain, term, ident, head, headMember, member, branch, match, case, ifVar, definedThen, arg, kindOf}
+use Rattle.ast.specs.Kinds.{Class, outer, inner, plain, term, ident, head, headMember, member, case, ifVar, definedThen, arg, kindOf}
 use Rattle.ast.specs.Rows.{Kid, one, many, kids, shape}
 
 infixr 50 _◂_
@@ -34,8 +34,6 @@ swaps (inner ident) = false
 swaps (inner head) = false
 swaps (inner headMember) = false
 swaps (inner member) = false
-swaps (inner branch) = false
-swaps (inner match) = false
 swaps (inner case) = false
 swaps (inner ifVar) = true
 swaps (inner definedThen) = true

@@ -6,12 +6,13 @@ use mathlib.Core.List.{List, [], _∷_, _++_}
 use Prim.Native.Nat.{ℕ, zero, suc}
 use lib.Dec.{eqb}
 use Rattle.ast.specs.Image.{last, nameOf}
-use Rattle.ast.specs.Kinds.{outer, inner, root, decl, signature, rule, enum, model, plain, term, ident, head, headMember, member, branch, match, case, ifVar, definedThen, arg}
+use Rattle.ast.specs.Kinds.{outer, inner, root, decl, signature, rule, enum, model, plain, term, ident, head, headMember, member, case, ifVar, definedThen, arg}
 use Rattle.ast.specs.Tree.{Tree, node, block, Trees, none, _◂_, treeAt}
 use Rattle.table.specs.Table.{Table, lookup, isKind, isVar, entryAt, exitAt}
 use Rattle.scopes.proofs.Headed.{left, headed-lookup, headed-entry, headed-exit}
-use Rattle.rows.specs.Rows.{Row, row}
-use Rattle.bindings.specs.Errors.{when, asked, sameNode, atEntry, atExit, introduces, introducedRow, definedRow, definedRows, argRow, argRows, listRows, isCtor, appRows, patternRows, rowsOf, rowsSeq, rowsFirst, rowsDefined, declRows, declsRows, plainRows, errorRows, isStrict, strictRows}
+use Rattle.rows.specs.Rows.{Row, row, when}
+use Rattle.bindings.specs.Errors.{sameNode, atEntry, atExit, introduces, introducedRow, definedRow, definedRows, argRow, argRows, listRows, isCtor, appRows, patternRows, rowsOf, rowsSeq, rowsFirst, rowsDefined, declRows, declsRows, plainRows, errorRows, isStrict, strictRows}
+use Rattle.error.specs.Kinds.{asked}
 
 module _ (img : List ℕ) (t u : Table) (looks : (s x : ℕ) → lookup img t s x ≡ lookup img u s x) (enters : (n : ℕ) → entryAt img (t .words) n ≡ entryAt img (u .words) n) (leaves : (n : ℕ) → exitAt img (t .words) n ≡ exitAt img (u .words) n) where
   entry-alike : (n i : ℕ) → atEntry img t n i ≡ atEntry img u n i
@@ -92,8 +93,6 @@ module _ (img : List ℕ) (t u : Table) (looks : (s x : ℕ) → lookup img t s 
     rows-alike (node n k (inner head) (suc x ∷ sh) ts) a o = seq-alike ts a n
     rows-alike (node n k (inner headMember) sh ts) a o = first-alike ts a n
     rows-alike (node n k (inner member) sh ts) a o = first-alike ts a n
-    rows-alike (node n k (inner branch) sh ts) a o = seq-alike ts a n
-    rows-alike (node n k (inner match) sh ts) a o = seq-alike ts a n
     rows-alike (node n k (inner case) sh ts) a o = ap₂ _++_ (pattern-alike ts) (seq-alike ts a n)
     rows-alike (node n k (inner ifVar) sh ts) a o = refl
     rows-alike (node n k (inner definedThen) sh ts) a o = then-alike ts a o n

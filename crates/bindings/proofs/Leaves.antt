@@ -8,8 +8,8 @@ use lib.ListN.{length}
 use borrow.Author.Tests.{eq-eqb, ne-eqb}
 use Rattle.ast.specs.Image.{kindAt}
 use Rattle.table.specs.Table.{Table, isKind}
-use Rattle.rows.specs.Rows.{Row, row}
-use Rattle.bindings.specs.Errors.{when, sameNode, atEntry, atExit, introduces, introducedRow}
+use Rattle.rows.specs.Rows.{Row, row, when}
+use Rattle.bindings.specs.Errors.{sameNode, atEntry, atExit, introduces, introducedRow}
 
 module _ (img : List ℕ) (t : Table) (n i : ℕ) where
   -- introduces, by what lookup gives at the exit

@@ -10,7 +10,7 @@ use lib.Dec.{T, eqb, leb}
 use lib.ListN.{getD, length}
 use borrow.Author.Tests.{eqb-false}
 use Rattle.ast.specs.Image.{nodes, kindAt, field}
-use Rattle.ast.specs.Kinds.{Class, outer, inner, plain, term, ident, head, headMember, member, branch, match, case, ifVar, definedThen, arg, Field, name, optName, child, optChild, list, lists, cases, noChild, Kind, kinds, kindOf}
+use Rattle.ast.specs.Kinds.{Class, outer, inner, plain, term, ident, head, headMember, member, case, ifVar, definedThen, arg, Field, name, optName, child, optChild, list, lists, cases, noChild, Kind, kinds, kindOf}
 use Rattle.ast.specs.Tests.{verdict}
 use Rattle.ast.specs.Tree.{Tree, node, Trees, none, _◂_, swap, swaps, ordered, treeAt}
 use Rattle.ast.specs.Items.{items, blocks}
@@ -20,7 +20,8 @@ use Rattle.ast.proofs.Vars.{every-kind, Each, and-both}
 use Rattle.table.specs.Table.{Table}
 use Rattle.rows.specs.Rows.{Row}
 use Rattle.ordered.proofs.Bools.{not-or, is-false}
-use Rattle.bindings.specs.Errors.{asked, introducedRow, rowsOf, rowsSeq, rowsFirst}
+use Rattle.bindings.specs.Errors.{introducedRow, rowsOf, rowsSeq, rowsFirst}
+use Rattle.error.specs.Kinds.{asked}
 
 -- the kinds from Term to IfAtom, the atoms but DefinedThenAtom, and IfStmt
 abbrev quietKind : ℕ → Bool
@@ -54,8 +55,6 @@ quietClass (inner ident) = true
 quietClass (inner head) = true
 quietClass (inner headMember) = true
 quietClass (inner member) = true
-quietClass (inner branch) = false
-quietClass (inner match) = false
 quietClass (inner case) = false
 quietClass (inner ifVar) = true
 quietClass (inner definedThen) = false
@@ -120,8 +119,6 @@ module _ (img : List ℕ) (t : Table) where
   silent-node n k (inner head) (suc x ∷ sh) ts e q h o = silent-seq ts n h
   silent-node n k (inner headMember) sh ts e q h o = silent-first ts n h
   silent-node n k (inner member) sh ts e q h o = silent-first ts n h
-  silent-node n k (inner branch) sh ts e q h o = absurd q
-  silent-node n k (inner match) sh ts e q h o = absurd q
   silent-node n k (inner case) sh ts e q h o = absurd q
   silent-node n k (inner ifVar) sh ts e q h o = refl
   silent-node n k (inner definedThen) sh ts e q h o = absurd q

@@ -11,7 +11,7 @@ use lib.Dec.{T, eqb, eqb→eq}
 use lib.ListN.{getD}
 use borrow.Author.Tests.{ne-eqb}
 use Rattle.ast.specs.Image.{nodes, kindAt, startAt, opAt, field, last}
-use Rattle.ast.specs.Kinds.{Class, outer, inner, root, decl, plain, term, ident, head, headMember, member, branch, match, case, ifVar, definedThen, arg, Field, name, cases, noChild, Kind, kinds, kindOf}
+use Rattle.ast.specs.Kinds.{Class, outer, inner, root, decl, plain, term, ident, head, headMember, member, case, ifVar, definedThen, arg, Field, name, cases, noChild, Kind, kinds, kindOf}
 use Rattle.ast.specs.Is.{Is, kindBy}
 use Rattle.ast.specs.Rows.{Kid, one, many, ones, numbers, opsFrom, kids, fieldsKids, fieldKids, after}
 use Rattle.ast.specs.Tests.{verdict}
@@ -26,10 +26,11 @@ use Rattle.ast.proofs.Kids.{childKind, kid-admitted, every-pair, parent}
 use Rattle.table.specs.Table.{Table}
 use Rattle.rows.specs.Rows.{Row}
 use Rattle.ordered.proofs.Bools.{not-or, false-true}
-use Rattle.bindings.specs.Errors.{asked, definedRow, rowsOf, rowsSeq, declRows, declsRows, plainRows}
+use Rattle.bindings.specs.Errors.{definedRow, rowsOf, rowsSeq, declRows, declsRows, plainRows}
+use Rattle.error.specs.Kinds.{asked}
 use Rattle.bindings.specs.Checks.{inside, ofPattern}
 use Rattle.bindings.specs.Places.{Stands, Determines, InThen, atom, down}
-use Rattle.bindings.proofs.RowLaws.{rowsAt, declKinds, decl-child, plain-rows, term-rows, member-rows, receiver-rows, head-other, branch-rows, match-rows, case-rows, defined-none, defined-some}
+use Rattle.bindings.proofs.RowLaws.{rowsAt, declKinds, decl-child, plain-rows, term-rows, member-rows, receiver-rows, head-other, case-rows, defined-none, defined-some}
 use Rattle.bindings.proofs.Standing.{thenKind, then-node, kindFor, kinds-for, low-kind, below-is, kids-at, field-zero, is-at}
 
 -- the rows l are among the rows k
@@ -139,14 +140,6 @@ module _ (img : List ℕ) (t : Table) where
   unfolding kindOf ordered
   case-sub {n} o is s = sub-to (sym (case-rows img t false o is)) (λ r m. Memᴰ·append-right (ofPattern img t n) (through-sub false is (λ ts. refl) s r m))
 
-  branch-sub : {n c : ℕ} (o : ℕ) → Is img (kindOf 39) n → Stands img n c → Sub (rowsAt img t false n c) (rowsAt img t false o n)
-  unfolding kindOf ordered
-  branch-sub o is s = sub-to (sym (branch-rows img t false o is)) (through-sub false is (λ ts. refl) s)
-
-  match-sub : {n c : ℕ} (o : ℕ) → Is img (kindOf 40) n → Stands img n c → Sub (rowsAt img t false n c) (rowsAt img t false o n)
-  unfolding kindOf ordered
-  match-sub o is s = sub-to (sym (match-rows img t false o is)) (through-sub false is (λ ts. refl) s)
-
   plain-sub : {n c : ℕ} (a : Bool) (fs : List Field) (o : ℕ) → Is img (kindBy (inner plain) fs) n → asked (kindAt img n) a ≡ a → Stands img n c → Sub (rowsAt img t a n c) (rowsAt img t a o n)
   unfolding ordered
   plain-sub {n} a fs o is e s =
@@ -229,7 +222,7 @@ module _ (img : List ℕ) (t : Table) (accepted : verdict img ≡ 0) where
         in-rule e r m = up .0 (subst (λ (y : ℕ). T (declKind y)) (sym e) tt) r (rule-sub img t (is-at img t accepted low e) s r m)
 
         forty : T (eqb k 40) → Sub (rowsAt img t false p n) (plainRows img t)
-        forty q = let e = eqb→eq k 40 q in to 40 e tt (λ o. match-sub img t o (is-at img t accepted low e) s)
+        forty q = let e = eqb→eq k 40 q in to 40 e tt (λ o. plain-sub img t false _ o (is-at img t accepted low e) (ap (λ (x : ℕ). asked x false) e) s)
 
         go : T (eqb k 6 || (eqb k 35 || (eqb k 36 || (eqb k 38 || (eqb k 39 || eqb k 40))))) → Sub (rowsAt img t false p n) (plainRows img t)
         go q =
@@ -237,7 +230,7 @@ module _ (img : List ℕ) (t : Table) (accepted : verdict img ≡ 0) where
             (λ q1. ⊎-elim (λ e. to 35 e tt (λ o. case-sub img t o (is-at img t accepted low e) s))
             (λ q2. ⊎-elim (λ e. to 36 e tt (λ o. plain-sub img t false _ o (is-at img t accepted low e) (ap (λ (x : ℕ). asked x false) e) s))
             (λ q3. ⊎-elim (λ e. to 38 e tt (λ o. plain-sub img t false _ o (is-at img t accepted low e) (ap (λ (x : ℕ). asked x false) e) s))
-            (λ q4. ⊎-elim (λ e. to 39 e tt (λ o. branch-sub img t o (is-at img t accepted low e) s)) forty (either k 39 _ q4))
+            (λ q4. ⊎-elim (λ e. to 39 e tt (λ o. plain-sub img t false _ o (is-at img t accepted low e) (ap (λ (x : ℕ). asked x false) e) s)) forty (either k 39 _ q4))
             (either k 38 _ q3)) (either k 36 _ q2)) (either k 35 _ q1)) (either k 6 _ q)
 
   pub ups : (m n : ℕ) → nodes img ≤ n + m → n < nodes img → Up n
@@ -268,8 +261,6 @@ thenClass (inner ident) = true
 thenClass (inner head) = true
 thenClass (inner headMember) = true
 thenClass (inner member) = true
-thenClass (inner branch) = false
-thenClass (inner match) = false
 thenClass (inner case) = false
 thenClass (inner ifVar) = false
 thenClass (inner definedThen) = true
@@ -407,8 +398,6 @@ module _ (img : List ℕ) (t : Table) (accepted : verdict img ≡ 0) where
         by (inner head) h2 e = head-goes (eqb→eq _ _ (kind-is (inner head) e))
         by (inner headMember) h2 e = receiver-goes (eqb→eq _ _ (kind-is (inner headMember) e))
         by (inner member) h2 e = member-goes (eqb→eq _ _ (kind-is (inner member) e))
-        by (inner branch) h2 e = absurd h2
-        by (inner match) h2 e = absurd h2
         by (inner case) h2 e = absurd h2
         by (inner ifVar) h2 e = absurd h2
         by (inner definedThen) h2 e = defined-goes (eqb→eq _ _ (kind-is (inner definedThen) e))

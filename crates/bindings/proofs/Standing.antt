@@ -11,7 +11,7 @@ use lib.Dec.{T, eqb, eqb→eq, leb}
 use lib.ListN.{getD}
 use borrow.Author.Tests.{ne-eqb, eqb-true, eqb-false}
 use Rattle.ast.specs.Image.{nodes, kindAt, startAt, opAt, field, last}
-use Rattle.ast.specs.Kinds.{Class, outer, inner, root, decl, rule, model, plain, term, ident, head, headMember, member, branch, match, case, ifVar, definedThen, arg, Field, name, optName, child, list, cases, noChild, Kind, kinds, kindOf}
+use Rattle.ast.specs.Kinds.{Class, outer, inner, root, decl, rule, model, plain, term, ident, head, headMember, member, case, ifVar, definedThen, arg, Field, name, optName, child, list, cases, noChild, Kind, kinds, kindOf}
 use Rattle.ast.specs.Is.{Is, kindBy}
 use Rattle.ast.specs.Rows.{Kid, one, many, numbers, kids, kidsTo, after, fieldsKids, fieldKids, fieldsAt}
 use Rattle.ast.specs.Tests.{is, times, verdict}
@@ -27,10 +27,11 @@ use Rattle.ast.proofs.Kids.{childKind, kid-admitted, every-pair}
 use Rattle.table.specs.Table.{Table, isVar, isKind}
 use Rattle.rows.specs.Rows.{Row}
 use Rattle.ordered.proofs.Bools.{not-or, is-true, false-true, not-equal, and-true, true-is}
-use Rattle.bindings.specs.Errors.{asked, atEntry, atExit, introduces, introducedRow, isCtor, argRow, argRows, definedRow, rowsOf, rowsSeq, declRows, plainRows}
+use Rattle.bindings.specs.Errors.{atEntry, atExit, introduces, introducedRow, isCtor, argRow, argRows, definedRow, rowsOf, rowsSeq, declRows, plainRows}
+use Rattle.error.specs.Kinds.{asked}
 use Rattle.bindings.specs.Checks.{inside, listed, declared, ofPattern, ofArgs}
 use Rattle.bindings.specs.Places.{Node, Stands, InThen, atom, down}
-use Rattle.bindings.proofs.RowLaws.{rowsAt, declKinds, kids-of, plain-rows, term-rows, ident-rows, member-rows, receiver-rows, head-ident, head-other, branch-rows, match-rows, case-rows, defined-none, defined-some, case-inside, arg-none, arg-ident, defined-ident, defined-wild, ctor-ident, ctor-none, decl-child, decl-none, rule-rows, model-rows, module-rows}
+use Rattle.bindings.proofs.RowLaws.{rowsAt, declKinds, kids-of, plain-rows, term-rows, ident-rows, member-rows, receiver-rows, head-ident, head-other, case-rows, defined-none, defined-some, case-inside, arg-none, arg-ident, defined-ident, defined-wild, ctor-ident, ctor-none, decl-child, decl-none, rule-rows, model-rows, module-rows}
 use Rattle.bindings.proofs.Bodies.{atomKinds, case-pattern, no-pattern, applied, applied-yes, applied-no, Applied, case-whole, Defined, then-some}
 use Rattle.bindings.proofs.Fine.{Fine, FineAt, fine-as, fine-none, fine-no, fine-cons, fine-swap, fine-first, fine-rest, fine-block, at-node, at-row, items-fine, args-fine, decls-fine}
 
@@ -48,8 +49,6 @@ goesThrough (inner ident) = false
 goesThrough (inner head) = false
 goesThrough (inner headMember) = false
 goesThrough (inner member) = false
-goesThrough (inner branch) = true
-goesThrough (inner match) = true
 goesThrough (inner case) = true
 goesThrough (inner ifVar) = false
 goesThrough (inner definedThen) = false
@@ -82,8 +81,6 @@ kindFor (inner ident) k = eqb k 13
 kindFor (inner head) k = eqb k 15
 kindFor (inner headMember) k = eqb k 16
 kindFor (inner member) k = eqb k 17
-kindFor (inner branch) k = eqb k 39
-kindFor (inner match) k = eqb k 40
 kindFor (inner case) k = eqb k 35
 kindFor (inner ifVar) k = eqb k 33
 kindFor (inner definedThen) k = eqb k 34
@@ -620,20 +617,6 @@ module _ (img : List ℕ) (t : Table) (accepted : verdict img ≡ 0) where
         (fine-cons img t (pattern-fine n (record { below = low; kind = e }))
         (items-fine img t false n (field img n 1) 2 (λ i k. child-fine n low ih false ((fields-of img is) .1 .0 i k) tt (λ z. absurd (false-true z)))))))
 
-    branch-fine : kindAt img n ≡ 39 → Claim n
-    unfolding kindOf ordered
-    branch-fine e a w ord o =
-        fine-as img t (sym (branch-rows img t a o (is-at low e)))
-        (through-fine n low ih a (is-at low e) (λ ts. refl) tt (λ z. omega arith)
-        (λ c s z. absurd (subst (λ (k : ℕ). T (thenKind k)) e (then-node img accepted (w z) .1))))
-
-    match-fine : kindAt img n ≡ 40 → Claim n
-    unfolding kindOf ordered
-    match-fine e a w ord o =
-        fine-as img t (sym (match-rows img t a o (is-at low e)))
-        (through-fine n low ih a (is-at low e) (λ ts. refl) tt (λ z. omega arith)
-        (λ c s z. absurd (subst (λ (k : ℕ). T (thenKind k)) e (then-node img accepted (w z) .1))))
-
     -- a node of a class without rows
     bare-fine : {kd : Kind} → Is img kd n → ((k : ℕ) (sh : List ℕ) (ts : Trees) (a : Bool) (o : ℕ) → rowsOf img t a o (node n k (kd .class) sh ts) ≡ []) → Claim n
     unfolding nodeOf
@@ -664,8 +647,6 @@ module _ (img : List ℕ) (t : Table) (accepted : verdict img ≡ 0) where
         go (inner head) e = head-fine n low ih (eqb→eq _ _ (kind-is (inner head) e))
         go (inner headMember) e = receiver-fine n low ih (eqb→eq _ _ (kind-is (inner headMember) e))
         go (inner member) e = member-fine n low ih (eqb→eq _ _ (kind-is (inner member) e))
-        go (inner branch) e = branch-fine (eqb→eq _ _ (kind-is (inner branch) e))
-        go (inner match) e = match-fine (eqb→eq _ _ (kind-is (inner match) e))
         go (inner case) e = case-fine (eqb→eq _ _ (kind-is (inner case) e))
         go (inner ifVar) e = bare-fine (is-by (inner ifVar) e) (λ k2 sh ts a o. refl)
         go (inner definedThen) e = λ a w ord o. absurd (not-equal {k = k} 34 (and-both (not (eqb k 13)) (not (eqb k 34)) ord .1) (eqb→eq _ _ (kind-is (inner definedThen) e)))

@@ -4,16 +4,16 @@ use mathlib.Core.Bool.{Bool, true, false}
 use mathlib.Core.List.{List, [], _∷_, _++_}
 use Prim.Native.Nat.{ℕ, _+_, _<_, _≤_, _^_}
 use lib.ListN.{length, set, replicate}
-use Rattle.ast.specs.Image.{nodes, kindAt, field}
+use Rattle.ast.specs.Image.{nodes, field}
 use Rattle.ast.specs.Kinds.{Kind, kindOf}
 use Rattle.ast.specs.Tests.{verdict}
-use Rattle.ast.specs.Is.{Is}
+use Rattle.ast.specs.Is.{Is, Run}
 use Rattle.ast.specs.Tree.{treeAt}
 use Rattle.ast.specs.Items.{items, below}
 use Rattle.table.specs.Table.{Table}
 use Rattle.table.specs.Rows.{Sorted}
 use Rattle.rows.specs.Rows.{Row, rowsLength, written}
-use Rattle.bindings.specs.Errors.{rowsOf, rowsSeq, patternRows, argRows, declsRows, repeated, repeatedTo, strictRows, isStrict}
+use Rattle.bindings.specs.Errors.{rowsSeq, patternRows, argRows, declsRows, repeated, repeatedTo, strictRows, isStrict}
 
 -- the symbol rows of the table stand by rising scope, and the count has room for the rows l
 pub record Room (img : List ℕ) (t : Table) (l : List Row) (count : ℕ) : Type 0 where
@@ -31,17 +31,9 @@ pub record PlainVariable (img : List ℕ) (t : Table) (n : ℕ) (l : List Row) (
   pub plain : field img n 0 ≤ 1
   pub room : Room img t l count
 
--- the c nodes that stand in the row of n from place j on are children, of kind k
-pub record Run (img : List ℕ) (k n c j : ℕ) : Type 0 where
-  pub accepted : verdict img ≡ 0
-  pub below : n < nodes img
-  pub short : j + c ≤ 8192
-  pub lower : (i : ℕ) → i < c → field img n (j + i) < n
-  pub kinds : (i : ℕ) → i < c → kindAt img (field img n (j + i)) ≡ k
-
--- what a check of them asks
-pub record Runs (img : List ℕ) (t : Table) (k n c j : ℕ) (l : List Row) (count : ℕ) : Type 0 where
-  pub run : Run img k n c j
+-- the same of a run of children
+pub record ReadyRun (img : List ℕ) (t : Table) (k n j c : ℕ) (l : List Row) (count : ℕ) : Type 0 where
+  pub run : Run img k n j c
   pub room : Room img t l count
 
 module _ (img : List ℕ) (t : Table) where

@@ -6,36 +6,24 @@ use Prim.Native.Nat.{ℕ, zero, suc, _+_}
 use lib.Dec.{leb, eqb}
 use lib.ListN.{length}
 use Rattle.ast.specs.Image.{nodes, last, kindAt, startAt, field, nameOf}
-use Rattle.ast.specs.Kinds.{Class, outer, inner, root, decl, signature, rule, enum, model, plain, term, ident, head, headMember, member, branch, match, case, ifVar, definedThen, arg}
+use Rattle.ast.specs.Kinds.{Class, outer, inner, root, decl, signature, rule, enum, model, plain, term, ident, head, headMember, member, case, ifVar, definedThen, arg}
 use Rattle.ast.specs.Tests.{_▸_, need}
 use Rattle.ast.specs.Tree.{Tree, node, block, Trees, none, _◂_, treeAt}
 use Rattle.ast.specs.Rows.{opsFrom}
 use Rattle.ast.specs.Answer.{Answer, refused, twice as twiceAnswer, result}
-use Rattle.error.specs.Kinds.{introducedInThen, definedNotNew, patternNotFresh, repeatedArgument}
+use Rattle.error.specs.Kinds.{introducedInThen, definedNotNew, patternNotFresh, repeatedArgument, asked}
 use Rattle.table.specs.Table.{Table, lookup, isKind, isVar, entryAt, exitAt}
 use Rattle.table.specs.State.{Exit}
 use Rattle.scopes.specs.Walk.{Listed, done, twice}
 use Rattle.scopes.specs.Resolve.{zeroed, walked, headed}
 use Rattle.scopes.specs.Twice.{among}
-use Rattle.rows.specs.Rows.{Row, row, written}
+use Rattle.rows.specs.Rows.{Row, row, when, written}
 use Rattle.scopes.specs.Rows.{testRows, Outcome}
-
-unfoldable pub when : Bool → Row → List Row
-when true w = w ∷ []
-when false w = []
 
 unfoldable pub sameNode : Option ℕ → Option ℕ → Bool
 sameNode nothing o = false
 sameNode (some a) nothing = false
 sameNode (some a) (some b) = eqb a b
-
--- below a then-atom rows of number 1 are asked for, and not below Dom, Cod or a predicate's receiver
-unfoldable pub asked : ℕ → Bool → Bool
-asked k a =
-    elim (eqb k 29) [
-      | true ↦ true
-      | false ↦ elim (eqb k 18 || (eqb k 19 || eqb k 26)) [ true ↦ false | false ↦ a ]
-    ]
 
 module _ (img : List ℕ) (t : Table) where
   -- what a name is at a node's entry, and at its exit
@@ -128,8 +116,6 @@ module _ (img : List ℕ) (t : Table) where
     rowsOf a o (node n k (inner head) (suc x ∷ sh) ts) = rowsSeq a n ts
     rowsOf a o (node n k (inner headMember) sh ts) = rowsFirst a n ts
     rowsOf a o (node n k (inner member) sh ts) = rowsFirst a n ts
-    rowsOf a o (node n k (inner branch) sh ts) = rowsSeq a n ts
-    rowsOf a o (node n k (inner match) sh ts) = rowsSeq a n ts
     rowsOf a o (node n k (inner case) sh ts) = patternRows ts ++ rowsSeq a n ts
     rowsOf a o (node n k (inner ifVar) sh ts) = []
     rowsOf a o (node n k (inner definedThen) sh ts) = rowsDefined a o n ts

@@ -13,9 +13,9 @@ ghost use Rattle.ast.specs.Tree.{treeAt};
 ghost use Rattle.table.specs.Table as «table-spec»;
 ghost use Rattle.table.specs.Rows.{Sorted};
 ghost use Rattle.table.specs.Values.{tableOf, optionOf};
-ghost use Rattle.rows.specs.Rows.{row, Appended};
-ghost use Rattle.bindings.specs.Errors.{when, sameNode, atEntry, atExit, introduces, introducedRow, definedRow, argRow, isCtor, rowsOf, declRows, repeatedIn, repeatedTo, strictRows, errorRows, testErrors, errors};
-ghost use Rattle.bindings.specs.Checks.{Room, Ready, Runs, PlainVariable, inside, listed, declared, ofPattern, ofCase, ofArgs, marked, MarkedOne, Marks, ofMode, Filled, Wrote};
+ghost use Rattle.rows.specs.Rows.{row, Appended, when};
+ghost use Rattle.bindings.specs.Errors.{sameNode, atEntry, atExit, introduces, introducedRow, definedRow, argRow, isCtor, rowsOf, declRows, repeatedIn, repeatedTo, strictRows, errorRows, testErrors, errors};
+ghost use Rattle.bindings.specs.Checks.{Room, Ready, ReadyRun, PlainVariable, inside, listed, declared, ofPattern, ofCase, ofArgs, marked, MarkedOne, Marks, ofMode, Filled, Wrote};
 ghost use Rattle.bindings.specs.Answers.{checkedAnswer};
 use ast::NodeId;
 use error::ErrorKind;
@@ -387,7 +387,7 @@ fn walk_stmt_block(
     first: usize,
     len: usize,
 ) -> u32
-    requires { ⌜ Runs (now image) (tableOf w (now table)) 36 (node .0) len first (listed (now image) (tableOf w (now table)) false (node .0) len first) count ⌝ }
+    requires { ⌜ ReadyRun (now image) (tableOf w (now table)) 36 (node .0) first len (listed (now image) (tableOf w (now table)) false (node .0) len first) count ⌝ }
     ensures { λ r. ⌜ Appended («image-spec».nodes (now (image .entry))) (listed (now (image .entry)) (tableOf w (now (table .entry))) false (node .0) len first) count (now (rows .entry)) r (now (rows .exit)) ⌝ }
 {
     let mut i = 0;
@@ -497,7 +497,7 @@ fn walk_decls(
     first: usize,
     len: usize,
 ) -> u32
-    requires { ⌜ Runs (now image) (tableOf w (now table)) 1 (node .0) len first (declared (now image) (tableOf w (now table)) (node .0) len first) count ⌝ }
+    requires { ⌜ ReadyRun (now image) (tableOf w (now table)) 1 (node .0) first len (declared (now image) (tableOf w (now table)) (node .0) len first) count ⌝ }
     ensures { λ r. ⌜ Appended («image-spec».nodes (now (image .entry))) (declared (now (image .entry)) (tableOf w (now (table .entry))) (node .0) len first) count (now (rows .entry)) r (now (rows .exit)) ⌝ }
 {
     let mut i = 0;

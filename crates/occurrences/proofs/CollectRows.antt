@@ -8,7 +8,7 @@ use native.Mathlib.Omega.{arith}
 use lib.Dec.{eqb}
 use lib.ListN.{getD}
 use Rattle.ast.specs.Image.{kindAt, field}
-use Rattle.ast.specs.Kinds.{Class, outer, inner, plain, term, ident, head, headMember, member, branch, match, case, ifVar, definedThen, arg, Field, name, child, list, cases, noChild, Kind, kindOf}
+use Rattle.ast.specs.Kinds.{Class, outer, inner, plain, term, ident, head, headMember, member, case, ifVar, definedThen, arg, Field, name, child, list, cases, noChild, Kind, kindOf}
 use Rattle.ast.specs.Tree.{Tree, node, block, Trees, none, _◂_, swap, ordered, treeAt}
 use Rattle.ast.specs.Items.{items, blocks, below}
 use Rattle.ast.specs.Is.{Is, kindBy}
@@ -29,8 +29,6 @@ bare (inner ident) = false
 bare (inner head) = true
 bare (inner headMember) = true
 bare (inner member) = true
-bare (inner branch) = true
-bare (inner match) = true
 bare (inner case) = true
 bare (inner ifVar) = true
 bare (inner definedThen) = true
@@ -45,8 +43,6 @@ threads (inner ident) = false
 threads (inner head) = true
 threads (inner headMember) = false
 threads (inner member) = false
-threads (inner branch) = true
-threads (inner match) = true
 threads (inner case) = true
 threads (inner ifVar) = true
 threads (inner definedThen) = false
@@ -64,8 +60,6 @@ owner-class (inner ident) n k sh ts b o p = never b
 owner-class (inner head) n k sh ts b o p = refl
 owner-class (inner headMember) n k sh ts b o p = refl
 owner-class (inner member) n k sh ts b o p = refl
-owner-class (inner branch) n k sh ts b o p = refl
-owner-class (inner match) n k sh ts b o p = refl
 owner-class (inner case) n k sh ts b o p = refl
 owner-class (inner ifVar) n k sh ts b o p = refl
 owner-class (inner definedThen) n k sh ts b o p = refl
@@ -80,8 +74,6 @@ threads-class (inner ident) n k sh ts b o = never b
 threads-class (inner head) n k sh ts b o = refl
 threads-class (inner headMember) n k sh ts b o = never b
 threads-class (inner member) n k sh ts b o = never b
-threads-class (inner branch) n k sh ts b o = refl
-threads-class (inner match) n k sh ts b o = refl
 threads-class (inner case) n k sh ts b o = refl
 threads-class (inner ifVar) n k sh ts b o = refl
 threads-class (inner definedThen) n k sh ts b o = never b

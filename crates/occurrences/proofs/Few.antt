@@ -10,7 +10,7 @@ use lib.Dec.{eqb, leb}
 use lib.ListN.{length, length-append}
 use Rattle.ast.specs.Declarations.{orElse}
 use Rattle.ast.specs.Image.{nodes, kindAt, nameOf, last}
-use Rattle.ast.specs.Kinds.{outer, inner, root, decl, signature, rule, enum, model, plain, term, ident, head, headMember, member, branch, match, case, ifVar, definedThen, arg}
+use Rattle.ast.specs.Kinds.{outer, inner, root, decl, signature, rule, enum, model, plain, term, ident, head, headMember, member, case, ifVar, definedThen, arg}
 use Rattle.ast.specs.Tests.{times, verdict}
 use Rattle.ast.specs.Tree.{Tree, node, block, Trees, none, _◂_, treeAt}
 use Rattle.ast.proofs.Accepted.{sized}
@@ -37,8 +37,6 @@ mutual
   spots-few o (node n k (inner head) sh ts) = let a = seq-few n ts in omega arith
   spots-few o (node n k (inner headMember) sh ts) = let a = first-few n ts in omega arith
   spots-few o (node n k (inner member) sh ts) = let a = first-few n ts in omega arith
-  spots-few o (node n k (inner branch) sh ts) = let a = seq-few n ts in omega arith
-  spots-few o (node n k (inner match) sh ts) = let a = seq-few n ts in omega arith
   spots-few o (node n k (inner case) sh ts) = let a = seq-few n ts in omega arith
   spots-few o (node n k (inner ifVar) sh ts) = let a = seq-few n ts in omega arith
   spots-few o (node n k (inner definedThen) sh ts) = let a = back-few n ts in omega arith
@@ -91,8 +89,6 @@ module _ {P : ℕ → Type 0} where
     owners-of o (node n k (inner head) sh ts) h (cons b a) = owners-seq n ts b a
     owners-of o (node n k (inner headMember) sh ts) h (cons b a) = owners-first n ts b a
     owners-of o (node n k (inner member) sh ts) h (cons b a) = owners-first n ts b a
-    owners-of o (node n k (inner branch) sh ts) h (cons b a) = owners-seq n ts b a
-    owners-of o (node n k (inner match) sh ts) h (cons b a) = owners-seq n ts b a
     owners-of o (node n k (inner case) sh ts) h (cons b a) = owners-seq n ts b a
     owners-of o (node n k (inner ifVar) sh ts) h (cons b a) = owners-seq n ts b a
     owners-of o (node n k (inner definedThen) sh ts) h (cons b a) = owners-back n ts b a

@@ -7,11 +7,11 @@ use mathlib.Core.Option.{Option, none as nothing, some}
 use Prim.Native.Nat.{ℕ, zero, suc, _+_, _<_, _≤_, _^_}
 use lib.Dec.{leb}
 use lib.ListN.{length, getD, set, replicate}
-use Rattle.ast.specs.Image.{nodes, kindAt, field}
+use Rattle.ast.specs.Image.{nodes}
 use Rattle.ast.specs.Kinds.{Kind}
 use Rattle.ast.specs.Tree.{treeAt}
 use Rattle.ast.specs.Items.{items}
-use Rattle.ast.specs.Is.{Is}
+use Rattle.ast.specs.Is.{Is, Run}
 use Rattle.ast.specs.Scan.{bump, claimAll}
 use Rattle.ast.specs.Tests.{verdict}
 use Rattle.table.specs.Table.{Table}
@@ -65,13 +65,9 @@ pub record Ready (img : List ℕ) (t : Table) (kd : Kind) (n c : ℕ) : Type 0 w
   pub is : Is img kd n
   pub room : Room img t (rowsIn img t n) c
 
--- the same of count nodes of kind k from place j of n's row on
-pub record Run (img : List ℕ) (t : Table) (k n j count c : ℕ) : Type 0 where
-  pub accepted : verdict img ≡ 0
-  pub below : n < nodes img
-  pub lower : (i : ℕ) → i < count → field img n (j + i) < n
-  pub kinds : (i : ℕ) → i < count → kindAt img (field img n (j + i)) ≡ k
-  pub short : j + count ≤ 8192
+-- the same of a run of children
+pub record ReadyRun (img : List ℕ) (t : Table) (k n j count c : ℕ) : Type 0 where
+  pub run : Run img k n j count
   pub room : Room img t (rowsAt img t n count j) c
 
 -- what the collector of a declaration asks: room for the rows of its rules in an array of N words, after the first c
@@ -80,13 +76,9 @@ pub record Listing (img : List ℕ) (t : Table) (kd : Kind) (n c : ℕ) : Type 0
   pub sorted : Sorted (nodes img) (t .symbols) (t .words)
   pub few : c + length (joined (listsIn img t n)) ≤ nodes img
 
--- the same of count declarations from place j of n's row on
+-- the same of a run of declarations
 pub record ListingRun (img : List ℕ) (t : Table) (n j count c : ℕ) : Type 0 where
-  pub accepted : verdict img ≡ 0
-  pub below : n < nodes img
-  pub lower : (i : ℕ) → i < count → field img n (j + i) < n
-  pub kinds : (i : ℕ) → i < count → kindAt img (field img n (j + i)) ≡ 1
-  pub short : j + count ≤ 8192
+  pub run : Run img 1 n j count
   pub sorted : Sorted (nodes img) (t .symbols) (t .words)
   pub few : c + length (joined (listsAt img t n count j)) ≤ nodes img
 

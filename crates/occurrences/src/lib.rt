@@ -13,7 +13,7 @@ ghost use Rattle.ast.specs.Rules.{moduleRules};
 ghost use Rattle.occurrences.specs.Answers.{listedAnswer, checkedAnswer};
 ghost use Rattle.occurrences.specs.Occurrences as «occurrences-spec»;
 ghost use Rattle.occurrences.specs.Occurrences.{found, occurrenceRows, lone, rowsByRule};
-ghost use Rattle.occurrences.specs.Collect.{sought, spot, identRows, rowsIn, rowsAt, Room, Ready, Run, joined, listsIn, listsAt, Listing, ListingRun, Whole, Nodes, readRows, under, recount, recounted, loneOf, Scratch, Searched};
+ghost use Rattle.occurrences.specs.Collect.{sought, spot, identRows, rowsIn, rowsAt, Room, Ready, ReadyRun, joined, listsIn, listsAt, Listing, ListingRun, Whole, Nodes, readRows, under, recount, recounted, loneOf, Scratch, Searched};
 use ast::NodeId;
 use scopes::Resolved;
 use table::Found;
@@ -290,7 +290,7 @@ fn collect_stmts(
     first: usize,
     size: usize,
 ) -> u32
-    requires { ⌜ Run (now image) (sought (now table) symbols) 36 (node .0) first size count ⌝ }
+    requires { ⌜ ReadyRun (now image) (sought (now table) symbols) 36 (node .0) first size count ⌝ }
     ensures { λ r. ⌜ Appended («image-spec».nodes (now (image .entry))) (rowsAt (now (image .entry)) (sought (now (table .entry)) symbols) (node .0) size first) count (now (rows .entry)) r (now (rows .exit)) ⌝ }
 {
     let mut i = 0;

@@ -6,7 +6,7 @@ use lib.ListN.{length}
 use Prim.Native.Nat.{ℕ, zero, suc, _+_, _<_, _≤_}
 use native.Mathlib.Omega.{arith}
 use Rattle.ast.specs.Image.{nodes, nameOf}
-use Rattle.ast.specs.Kinds.{outer, inner, plain, term, ident, head, headMember, member, branch, match, case, ifVar, definedThen, arg}
+use Rattle.ast.specs.Kinds.{outer, inner, plain, term, ident, head, headMember, member, case, ifVar, definedThen, arg}
 use Rattle.ast.specs.Tree.{Tree, node, block, Trees, none, _◂_}
 use Rattle.table.specs.Layout.{allOnes}
 use Rattle.table.specs.Rows.{scopeOf, Sorted}
@@ -108,8 +108,6 @@ module _ (img : List ℕ) where
     walk-grows r (node n k (inner head) sh ts) q e = marked-grows (q .0) (e .scope) (seq-grows (headRole img sh) ts (q .1) e)
     walk-grows r (node n k (inner member) sh ts) q e = marked-grows (q .0) (e .scope) (first-grows names ts (q .1) e)
     walk-grows r (node n k (inner headMember) sh ts) q e = unmarked-grows (q .0) (first-grows names ts (q .1) e)
-    walk-grows r (node n k (inner branch) sh ts) q e = marked-grows (q .0) (e .scope) (seq-grows occurs ts (q .1) e)
-    walk-grows r (node n k (inner match) sh ts) q e = marked-grows (q .0) (e .scope) (seq-grows occurs ts (q .1) e)
     walk-grows r (node n k (inner case) sh ts) q e = marked-grows (q .0) (e .scope) (back-grows (e .scope) (seq-grows occurs ts (q .1) e))
     walk-grows r (node n k (inner ifVar) sh ts) q e = marked-grows (q .0) (e .scope) (first-grows declares ts (q .1) e)
     walk-grows r (node n k (inner definedThen) sh ts) q e = marked-grows (q .0) (e .scope) (first-grows (defines (e .scope)) ts (q .1) e)

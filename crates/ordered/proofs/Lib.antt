@@ -7,6 +7,5 @@ pub mod Atoms
 pub mod Stmts
 pub mod Args
 pub mod Bools
-pub mod Blocks
 pub mod Moves
 pub mod Agreed

@@ -6,7 +6,7 @@ use Prim.Native.Nat.{ℕ, zero, suc, _+_, _≤_, _<_}
 use native.Mathlib.Omega.{arith}
 use lib.ListN.{length, length-append}
 use Rattle.ast.specs.Image.{nameOf}
-use Rattle.ast.specs.Kinds.{outer, inner, plain, term, ident, head, headMember, member, branch, match, case, ifVar, definedThen, arg}
+use Rattle.ast.specs.Kinds.{outer, inner, plain, term, ident, head, headMember, member, case, ifVar, definedThen, arg}
 use Rattle.ast.specs.Tree.{Tree, node, block, Trees, none, _◂_}
 use Rattle.table.specs.State.{Exit, introduce, childScope, ownSymbol, marked, unmarked, back}
 use Rattle.table.specs.Table.{lookup, isKind, isValue, mark, newScope, newSymbol}
@@ -91,8 +91,6 @@ module _ (img : List ℕ) where
     walk-within r (node n k (inner head) sh ts) e = in-marked n (e .scope) (one-less (seq-within (headRole img sh) ts e))
     walk-within r (node n k (inner member) sh ts) e = in-marked n (e .scope) (one-less (first-within names ts e))
     walk-within r (node n k (inner headMember) sh ts) e = in-unmarked n (one-less (first-within names ts e))
-    walk-within r (node n k (inner branch) sh ts) e = in-marked n (e .scope) (one-less (seq-within occurs ts e))
-    walk-within r (node n k (inner match) sh ts) e = in-marked n (e .scope) (one-less (seq-within occurs ts e))
     walk-within r (node n k (inner case) sh ts) e = in-marked n (e .scope) (one-less (in-back (seq-within occurs ts e)))
     walk-within r (node n k (inner ifVar) sh ts) e = in-marked n (e .scope) (one-less (first-within declares ts e))
     walk-within r (node n k (inner definedThen) sh ts) e = in-marked n (e .scope) (one-less (first-within (defines (e .scope)) ts e))

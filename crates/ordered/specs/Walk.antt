@@ -3,7 +3,7 @@ use mathlib.Core.Bool.{Bool, true, false}
 use mathlib.Core.List.{List, [], _∷_}
 use Prim.Native.Nat.{ℕ, zero, suc}
 use Rattle.ast.specs.Image.{nameOf}
-use Rattle.ast.specs.Kinds.{Class, outer, inner, Inner, plain, term, ident, head, headMember, member, branch, match, case, ifVar, definedThen, arg}
+use Rattle.ast.specs.Kinds.{Class, outer, inner, Inner, plain, term, ident, head, headMember, member, case, ifVar, definedThen, arg}
 use Rattle.ast.specs.Tree.{Tree, node, block, Trees, none, _◂_}
 use Rattle.table.specs.Table.{lookup, isKind, isValue}
 use Rattle.table.specs.State.{Exit, introduce, marked, unmarked, back}
@@ -45,8 +45,6 @@ module _ (img : List ℕ) where
     walk r (node n k (inner head) sh ts) e = marked img n (e .scope) (walkSeq (headRole sh) ts e)
     walk r (node n k (inner member) sh ts) e = marked img n (e .scope) (walkFirst names ts e)
     walk r (node n k (inner headMember) sh ts) e = unmarked img n (walkFirst names ts e)
-    walk r (node n k (inner branch) sh ts) e = marked img n (e .scope) (walkSeq occurs ts e)
-    walk r (node n k (inner match) sh ts) e = marked img n (e .scope) (walkSeq occurs ts e)
     walk r (node n k (inner case) sh ts) e = marked img n (e .scope) (back img (e .scope) (walkSeq occurs ts e))
     walk r (node n k (inner ifVar) sh ts) e = marked img n (e .scope) (walkFirst declares ts e)
     walk r (node n k (inner definedThen) sh ts) e = marked img n (e .scope) (walkFirst (defines (e .scope)) ts e)

@@ -1,14 +1,12 @@
 -- What the walkers' contracts say: the walk over the tree of a node, over the children of a node that wraps an enum, over
 -- what is left of a list; and what a walker asks before it starts.
-use mathlib.Core.Path.{_≡_}
 use mathlib.Core.List.{List}
 use Prim.Native.Nat.{ℕ, _+_, _-_, _<_, _≤_, _^_}
-use Rattle.ast.specs.Image.{nodes, kindAt, field}
+use Rattle.ast.specs.Image.{nodes}
 use Rattle.ast.specs.Kinds.{Kind, kindOf}
 use Rattle.ast.specs.Tree.{treeAt}
 use Rattle.ast.specs.Items.{items, below}
-use Rattle.ast.specs.Is.{Is}
-use Rattle.ast.specs.Tests.{verdict}
+use Rattle.ast.specs.Is.{Is, Run}
 use Rattle.table.specs.Table.{Table}
 use Rattle.table.specs.Rows.{Sorted}
 use Rattle.table.specs.State.{Exit}
@@ -51,11 +49,7 @@ pub record Variable (img : List ℕ) (b n : ℕ) (e : Exit) : Type 0 where
   pub is : Is img (kindOf 12) n
   pub room : Room img (walk img (defines b) (treeAt img n) e)
 
--- the same of count items of kind k from place j of n's row on
-pub record Run (img : List ℕ) (k n j count : ℕ) (e : Exit) : Type 0 where
-  pub accepted : verdict img ≡ 0
-  pub below : n < nodes img
-  pub lower : (i : ℕ) → i < count → field img n (j + i) < n
-  pub kinds : (i : ℕ) → i < count → kindAt img (field img n (j + i)) ≡ k
-  pub short : j + count ≤ 8192
+-- the same of a run of children
+pub record ReadyRun (img : List ℕ) (k n j count : ℕ) (e : Exit) : Type 0 where
+  pub run : Run img k n j count
   pub room : Room img (rest img occurs n j count 0 e)

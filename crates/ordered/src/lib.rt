@@ -11,7 +11,7 @@ ghost use Rattle.table.specs.Table as «table-spec»;
 ghost use Rattle.table.specs.Rows.{Sorted};
 ghost use Rattle.table.specs.Values.{exitOf, optionOf};
 ghost use Rattle.ordered.specs.Walk.{occurs, declares, defines, names, walk, walkSeq, walkIdent, headRole};
-ghost use Rattle.ordered.specs.Walkers.{over, inside, rest, Room, Ready, Variable, Run};
+ghost use Rattle.ordered.specs.Walkers.{over, inside, rest, Room, Ready, Variable, ReadyRun};
 use ast::NodeId;
 use table::Found;
 use table::ScopeId;
@@ -409,7 +409,7 @@ pub fn walk_stmt_block(
     first: usize,
     count: usize,
 ) -> Walked
-    requires { ⌜ Run (now image) 36 (node .0) first count (exitOf at (now table)) ⌝ }
+    requires { ⌜ ReadyRun (now image) 36 (node .0) first count (exitOf at (now table)) ⌝ }
     ensures { λ r. ⌜ exitOf r (now (table .exit)) ≡ rest (now (image .entry)) occurs (node .0) first count 0 (exitOf at (now (table .entry))) ⌝ }
 {
     let mut done = 0;
@@ -488,7 +488,7 @@ pub fn walk_match(image: &[u8], table: &mut [u32], at: Walked, id: NodeId) -> Wa
 
 // Each case from the scope after the matched term.
 pub fn walk_cases(image: &[u8], table: &mut [u32], at: Walked, id: NodeId) -> Walked
-    requires { ⌜ Run (now image) 35 (id .0) 2 («image-spec».field (now image) (id .0) 1) (exitOf at (now table)) ⌝ }
+    requires { ⌜ ReadyRun (now image) 35 (id .0) 2 («image-spec».field (now image) (id .0) 1) (exitOf at (now table)) ⌝ }
     ensures { λ r. ⌜ exitOf r (now (table .exit)) ≡ rest (now (image .entry)) occurs (id .0) 2 («image-spec».field (now (image .entry)) (id .0) 1) 0 (exitOf at (now (table .entry))) ⌝ }
 {
     let count = ast::wide(ast::field(image, id, 1));
@@ -535,7 +535,7 @@ pub fn walk_arg_decl(image: &[u8], table: &mut [u32], at: Walked, id: NodeId) ->
 }
 
 pub fn walk_args(image: &[u8], table: &mut [u32], at: Walked, node: NodeId, count: usize) -> Walked
-    requires { ⌜ Run (now image) 10 (node .0) 1 count (exitOf at (now table)) ⌝ }
+    requires { ⌜ ReadyRun (now image) 10 (node .0) 1 count (exitOf at (now table)) ⌝ }
     ensures { λ r. ⌜ exitOf r (now (table .exit)) ≡ rest (now (image .entry)) occurs (node .0) 1 count 0 (exitOf at (now (table .entry))) ⌝ }
 {
     let mut i = 0;

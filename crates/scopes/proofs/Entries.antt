@@ -28,7 +28,7 @@ use Rattle.ast.specs.declared.NodeId.{NodeId}
 use Rattle.ordered.specs.Size.{size}
 use Rattle.ordered.proofs.Kept.{past, mark-past, mark-length, symbol-past}
 use Rattle.scopes.specs.Walk.{Listed, done, twice, enterName, enterRule, andThen, enter, enterAll, visit}
-use Rattle.scopes.specs.Lists.{listedOf, ent, ents, vis, restEnter, Seen, Entering, Enters, Signature, Lists, Stamped}
+use Rattle.scopes.specs.Lists.{listedOf, ent, ents, vis, restEnter, Seen, Entering, Enters, Signature, Stamped}
 use Rattle.scopes.specs.declared.Declared.{Declared}
 use Rattle.scopes.specs.declared.Declared.the-variants.{Done, Twice}
 use Rattle.scopes.proofs.Adds.{named, Went, done-same, twice-done, name-in, enter-in}
@@ -355,11 +355,6 @@ module _ (img : List ℕ) where
 
       named-as : {us vs : List ℕ} {r : Declared} (w : Walked) → r ≡ Done w → Enters img (enterName img n f) (f .table .words) r us vs → enterName img n f ≡ done (exitOf w vs)
       named-as {us} {vs} {r} w d h = sym (h .same) ∙ ap (λ (o : Declared). listedOf o vs) d
-
-  -- an item of a list
-  pub item-is : {k n j count i c : ℕ} → Lists img k n j count → i < count → c ≡ field img n (j + i) → Is img (kindOf k) c
-  item-is {k} {n} {j} {count} {i} p l q =
-      subst (Is img (kindOf k)) (sym q) (record { accepted = p .accepted; below = (let u = p .below in let v = p .lower i l in omega arith); kind = ap kindOf (p .kinds i l) })
 
   -- a Decl: what its declaration is -----------------------------------------------------------------------------------------
   abbrev pub declKinds : List ℕ

@@ -10,7 +10,7 @@ use native.Mathlib.Nat.{add-zero}
 use lib.Dec.{T, eqb, leb, leb→le, eqb→eq, T-not}
 use borrow.Author.Tests.{le-leb}
 use Rattle.ast.specs.Image.{nodes, kindAt, startAt, opAt, field}
-use Rattle.ast.specs.Kinds.{Class, outer, inner, root, decl, signature, rule, enum, model, plain, term, ident, head, headMember, member, branch, match, case, ifVar, definedThen, arg, Kind, kinds, kindOf}
+use Rattle.ast.specs.Kinds.{Class, outer, inner, root, decl, signature, rule, enum, model, plain, term, ident, head, headMember, member, case, ifVar, definedThen, arg, Kind, kinds, kindOf}
 use Rattle.ast.specs.Rows.{after, fieldShape, fieldsShape, fieldsAt, shape}
 use Rattle.ast.specs.Tests.{verdict}
 use Rattle.ast.specs.Tree.{Tree, node, block, classAt, treeAt}
@@ -40,8 +40,6 @@ allowed (inner ident) k = eqb k 13
 allowed (inner head) k = true
 allowed (inner headMember) k = true
 allowed (inner member) k = true
-allowed (inner branch) k = true
-allowed (inner match) k = true
 allowed (inner case) k = true
 allowed (inner ifVar) k = true
 allowed (inner definedThen) k = true
@@ -110,8 +108,6 @@ module _ (img : List ℕ) (n : ℕ) (below : n < nodes img) where
   class-symbol (inner head) t e = absurd (false-true e)
   class-symbol (inner headMember) t e = absurd (false-true e)
   class-symbol (inner member) t e = absurd (false-true e)
-  class-symbol (inner branch) t e = absurd (false-true e)
-  class-symbol (inner match) t e = absurd (false-true e)
   class-symbol (inner case) t e = absurd (false-true e)
   class-symbol (inner ifVar) t e = absurd (false-true e)
   class-symbol (inner definedThen) t e = absurd (false-true e)

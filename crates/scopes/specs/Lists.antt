@@ -5,9 +5,9 @@ use mathlib.Core.Bool.{Bool, true, false}
 use mathlib.Core.List.{List}
 use Prim.Native.Nat.{ℕ, suc, _+_, _-_, _<_, _≤_}
 use lib.ListN.{length, getD, set, drop}
-use Rattle.ast.specs.Image.{nodes, kindAt, field, nameOf}
 use Rattle.ast.specs.Declarations.{declared, declaredAll}
-use Rattle.ast.specs.Is.{Is}
+use Rattle.ast.specs.Image.{nodes, kindAt, nameOf}
+use Rattle.ast.specs.Is.{Is, Run}
 use Rattle.ast.specs.Items.{items}
 use Rattle.ast.specs.Kinds.{outer, inner, root, decl, signature, rule, enum, model, Kind, kindOf}
 use Rattle.ast.specs.Tests.{verdict}
@@ -115,27 +115,19 @@ module _ (img : List ℕ) where
     pub is : Is img kd n
     pub fits : Fits (size (treeAt img n)) (vis (treeAt img n)) e
 
-  -- count items of kind k from place j of n's row on
-  pub record Lists (k n j count : ℕ) : Type 0 where
-    pub accepted : verdict img ≡ 0
-    pub below : n < nodes img
-    pub lower : (i : ℕ) → i < count → field img n (j + i) < n
-    pub kinds : (i : ℕ) → i < count → kindAt img (field img n (j + i)) ≡ k
-    pub short : j + count ≤ 8192
-
-  -- what entering the names of such a list asks
+  -- what entering the names of a list asks
   pub record EnterRun (seen : List ℕ) (n j count : ℕ) (e : Exit) : Type 0 where
-    pub lists : Lists 1 n j count
+    pub run : Run img 1 n j count
     pub entering : Entering seen (ents (items img n count j)) e
 
-  -- what visiting the declarations of such a list asks
+  -- what visiting the declarations of a list asks
   pub record VisitRun (k n j count : ℕ) (e : Exit) : Type 0 where
-    pub lists : Lists k n j count
+    pub run : Run img k n j count
     pub fits : Fits (sizes (items img n count j)) (viss (items img n count j)) e
 
   -- what the whole list asks: the walk stands in the newest scope, which has no row yet
   pub record ListRun (n j count : ℕ) (e : Exit) : Type 0 where
-    pub lists : Lists 1 n j count
+    pub run : Run img 1 n j count
     pub fits : Fits (sizes (items img n count j)) (ents (items img n count j) + viss (items img n count j)) e
     pub newest : suc (e .scope) ≡ e .table .scopes
     pub fresh : (j : ℕ) → j < e .table .symbols → scopeOf (nodes img) (e .table .words) j < e .scope

@@ -4,7 +4,6 @@ ghost use Prim.Native.Nat.{ℕ, suc, _+_, _*_, _-_, _<_, _≤_, _^_};
 ghost use mathlib.Core.List.{[], _∷_};
 ghost use mathlib.Core.Option.{some};
 ghost use lib.ListN.{length, drop};
-ghost use lib.Seq.{slice};
 ghost use Rattle.ast.specs.Image as «image-spec»;
 ghost use Rattle.ast.specs.Tests as «tests-spec»;
 ghost use Rattle.ast.specs.Is.{Is, kindBy};
@@ -18,8 +17,9 @@ ghost use Rattle.scopes.specs.Walk.{done, enterName, enter, visit, resol
 ghost use Rattle.scopes.specs.Lists.{ent, restEnter, restVisit, overList, Entering, Enters, Visits, Signature, Inside, Visit, EnterRun, VisitRun, ListRun, Lent, Stamped};
 ghost use Rattle.scopes.specs.Resolve.{testTable, headed, resolve};
 ghost use Rattle.scopes.specs.Lookup as «lookup-spec»;
-ghost use Rattle.scopes.specs.Answers.{resolvedAnswer, lookedAnswer, numberIn};
+ghost use Rattle.scopes.specs.Answers.{resolvedAnswer, lookedAnswer};
 use ast::NodeId;
+use names::Numbered;
 use table::Found;
 use table::ScopeId;
 use table::Walked;
@@ -415,7 +415,7 @@ pub fn resolve_into(image: &[u8], table: &mut [u32]) -> Resolved
 pub fn test_table(image: &[u8], table: &[u32]) -> u32
     ensures { λ r. ⌜ r ≡ testTable (now (image .entry)) (now (table .entry)) ⌝ }
 {
-    let code = tests::verdict(image);
+    let code = names::verdict(image);
     if code != 0 {
         return code;
     }
@@ -461,51 +461,6 @@ fn test_lookup(image: &[u8], table: &[u32], scope: ScopeId) -> u32
     17
 }
 
-// The number of a name, or none.
-pub enum Numbered {
-    At(u32),
-    Nothing,
-}
-
-// The bytes of the image from `from` up to `to` are those of the name.
-fn spells(image: &[u8], from: usize, to: usize, name: &[u8]) -> bool
-    requires { ⌜ (from ≤ to) × (to ≤ length (now image)) ⌝ }
-    ensures { λ r. ⌜ r ≡ «tests-spec».same (slice from to (now (image .entry))) (now (name .entry)) ⌝ }
-{
-    if name.len() != to - from {
-        return false;
-    }
-    let mut i = 0;
-    while i < name.len() {
-        if image[from + i] != name[i] {
-            return false;
-        }
-        i += 1;
-    }
-    true
-}
-
-// The number of the name with these bytes.
-fn number_of(image: &[u8], name: &[u8]) -> Numbered
-    requires { ⌜ «tests-spec».verdict (now image) ≡ 0 ⌝ }
-    ensures { λ r. ⌜ numberIn r ≡ «lookup-spec».numberOf (now (image .entry)) (now (name .entry)) ⌝ }
-{
-    let s = ast::sizes_of(image);
-    let mut i = 0u32;
-    let mut start = 0u32;
-    while i < s.names {
-        let p = ast::span_of(image, s, i, start);
-        let from = p.from;
-        let to = p.to;
-        if spells(image, from, to, name) {
-            return Numbered::At(i);
-        }
-        start = p.end;
-        i += 1;
-    }
-    Numbered::Nothing
-}
-
 // The symbol of a name number, from a scope of a sound table on upwards.
 fn lookup_number(image: &[u8], table: &[u32], scope: ScopeId, name: u32) -> Looked
     ensures { λ r. ⌜ lookedAnswer r ≡ «lookup-spec».symbolAnswer (now (image .entry)) («lookup-spec».foundBy (now (image .entry)) (now (table .entry)) (scope .0) (some name)) ⌝ }
@@ -524,7 +479,7 @@ pub fn lookup(image: &[u8], table: &[u32], scope: ScopeId, name: &[u8]) -> Looke
     if code != 0 {
         return Looked::Refused(code);
     }
-    match number_of(image, name) {
+    match names::number_of(image, name) {
         Numbered::At(x) => lookup_number(image, table, scope, x),
         Numbered::Nothing => Looked::Nothing,
     }

@@ -8,7 +8,7 @@ use native.Mathlib.Decide.{decLt}
 use native.Mathlib.Omega.{arith}
 use Rattle.ast.specs.Declarations.{orElse}
 use Rattle.ast.specs.Image.{nodes, last}
-use Rattle.ast.specs.Kinds.{outer, inner, root, decl, signature, rule, enum, model, plain, term, ident, head, headMember, member, branch, match, case, ifVar, definedThen, arg}
+use Rattle.ast.specs.Kinds.{outer, inner, root, decl, signature, rule, enum, model, plain, term, ident, head, headMember, member, case, ifVar, definedThen, arg}
 use Rattle.ast.specs.Tests.{is, times, verdict}
 use Rattle.ast.specs.Tree.{Tree, node, block, Trees, none, _◂_, treeAt}
 use Rattle.ast.proofs.Count.{nodesOf, nodesAll, is-same, times-append, once, nothing-else}
@@ -52,8 +52,6 @@ module _ (v : ℕ) where
     numbers-once (node n k (inner head) sh ts) = after-own n (numbersSeq ts) (nodesAll ts) (numbersSeq-once ts)
     numbers-once (node n k (inner headMember) sh ts) = after-own n (numbersSeq ts) (nodesAll ts) (numbersSeq-once ts)
     numbers-once (node n k (inner member) sh ts) = after-own n (numbersSeq ts) (nodesAll ts) (numbersSeq-once ts)
-    numbers-once (node n k (inner branch) sh ts) = after-own n (numbersSeq ts) (nodesAll ts) (numbersSeq-once ts)
-    numbers-once (node n k (inner match) sh ts) = after-own n (numbersSeq ts) (nodesAll ts) (numbersSeq-once ts)
     numbers-once (node n k (inner case) sh ts) = after-own n (numbersSeq ts) (nodesAll ts) (numbersSeq-once ts)
     numbers-once (node n k (inner ifVar) sh ts) = after-own n (numbersSeq ts) (nodesAll ts) (numbersSeq-once ts)
     numbers-once (node n k (inner definedThen) sh ts) = after-own n (numbersSeq ts) (nodesAll ts) (numbersSeq-once ts)

@@ -16,11 +16,13 @@ use Rattle.ordered.specs.Walk.{walkIdent, headRole, walkArg, walk, walkSeq, wal
 use Rattle.scopes.specs.Walk.{enterName, enterRule, andThen, resolveTree, enter, enterAll, visit, visitAll}
 use Rattle.scopes.specs.Resolve.{testTable, zeroed, walked, headed, outcomeOf, resolve}
 use Rattle.table.specs.Sound.{hasName, isSymbol, parentBelow, rowSound, testSound}
-use Rattle.scopes.specs.Lookup.{numberFrom, numberOf, testLookup, symbolAnswer, foundBy, lookupCall}
-use Rattle.rows.specs.Rows.{lefts, rights, filled, written}
+use Rattle.names.specs.Number.{numberFrom, numberOf}
+use Rattle.scopes.specs.Lookup.{testLookup, symbolAnswer, foundBy, lookupCall}
+use Rattle.rows.specs.Rows.{lefts, rights, filled, written, when}
 use Rattle.scopes.specs.Rows.{testRows}
 use Rattle.scopes.specs.Twice.{among, repeats, someRepeats, declaredTwice}
-use Rattle.bindings.specs.Errors.{when, sameNode, asked as asksFor, introduces, introducedRow, definedRow, definedRows, argRow, argRows, listRows, isCtor, appRows, patternRows, plainRows, argsOf, repeated, repeatedIn, repeatedTo, strictFrom, strictRows, isStrict, errorRows, testErrors, errorsOf, errors, rowsOf, rowsSeq, rowsFirst, rowsDefined, declRows, declsRows}
+use Rattle.bindings.specs.Errors.{sameNode, introduces, introducedRow, definedRow, definedRows, argRow, argRows, listRows, isCtor, appRows, patternRows, plainRows, argsOf, repeated, repeatedIn, repeatedTo, strictFrom, strictRows, isStrict, errorRows, testErrors, errorsOf, errors, rowsOf, rowsSeq, rowsFirst, rowsDefined, declRows, declsRows}
+use Rattle.error.specs.Kinds.{asked as asksFor}
 use Rattle.sight.specs.Sight.{add, opened, headSort, rulePlaces, outerConst, place, placeSeq, placeThen, placeFirst}
 use Rattle.occurrences.specs.Spots.{ruleSpots, spots, spotsSeq, spotsBack, spotsFirst}
 use Rattle.ast.specs.Declarations.{ruleNode, declared, declaredAll, modelLists, modelListsAll, moduleLists, earliest}

@@ -13,10 +13,11 @@ use Rattle.table.specs.State.{childScope, ownSymbol, introduce, marked, unmarke
 use Rattle.ordered.specs.Walk.{walkIdent, headRole, walkArg, walk, walkSeq, walkFirst}
 use Rattle.scopes.specs.Walk.{enterName, enterRule, andThen, resolveTree, enter, enterAll, visit, visitAll}
 use Rattle.scopes.specs.Resolve.{testTable, zeroed, walked, headed, outcomeOf, resolve}
-use Rattle.rows.specs.Rows.{lefts, rights, filled, written}
+use Rattle.rows.specs.Rows.{lefts, rights, filled, written, when}
 use Rattle.scopes.specs.Rows.{testRows}
 use Rattle.scopes.specs.Twice.{among}
-use Rattle.bindings.specs.Errors.{when, sameNode, asked, introduces, introducedRow, definedRow, definedRows, argRow, argRows, listRows, isCtor, appRows, patternRows, plainRows, argsOf, repeated, repeatedIn, repeatedTo, strictFrom, strictRows, isStrict, errorRows, testErrors, errorsOf, errors, rowsOf, rowsSeq, rowsFirst, rowsDefined, declRows, declsRows}
+use Rattle.bindings.specs.Errors.{sameNode, introduces, introducedRow, definedRow, definedRows, argRow, argRows, listRows, isCtor, appRows, patternRows, plainRows, argsOf, repeated, repeatedIn, repeatedTo, strictFrom, strictRows, isStrict, errorRows, testErrors, errorsOf, errors, rowsOf, rowsSeq, rowsFirst, rowsDefined, declRows, declsRows}
+use Rattle.error.specs.Kinds.{asked}
 use Rattle.sight.specs.Sight.{add, opened, headSort, rulePlaces, outerConst, place, placeSeq, placeThen, placeFirst}
 use Rattle.occurrences.specs.Spots.{ruleSpots, spots, spotsSeq, spotsBack, spotsFirst}
 use Rattle.ast.specs.Declarations.{ruleNode, declared, declaredAll, earliest}

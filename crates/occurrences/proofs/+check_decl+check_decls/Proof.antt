@@ -98,10 +98,10 @@ check-decls-loop-holds : (t : ℕ) → check-decls-lts.Need-loop-holds (check-de
 check-decls-loop-holds t c = checks-start _ _ (c .before .before .before .before .pre .1 .0)
 
 check-decls-add-field : (t : ℕ) → check-decls-lts.Need-add-field (check-decls-claims t) (check-decls-at t) check-decls.Post check-decls-Inv-loop check-decls-μ-loop
-check-decls-add-field t c = let s = c .before .before .before .before .before .before .pre .1 .0 .short in omega arith
+check-decls-add-field t c = let s = c .before .before .before .before .before .before .pre .1 .0 .run .short in omega arith
 
 check-decls-field-requires : (t : ℕ) → check-decls-lts.Need-field-requires (check-decls-claims t) (check-decls-at t) check-decls.Post check-decls-Inv-loop check-decls-μ-loop
-check-decls-field-requires t c κs = let s = c .before .before .before .before .before .before .pre .1 .0 .short in omega arith
+check-decls-field-requires t c κs = let s = c .before .before .before .before .before .before .pre .1 .0 .run .short in omega arith
 
 check-decls-check-decl-requires : (t : ℕ) → check-decls-lts.Need-check-decl-requires (check-decls-claims t) (check-decls-at t) check-decls.Post check-decls-Inv-loop check-decls-μ-loop
 check-decls-check-decl-requires t c κs = let o = checks-item _ _ (c .before .before .before .before .before .before .before .before .before .pre .1 .0) (c .before .before .before .before .loop .inv) (c .before .before .before .loop-test .taken) (c .before .before .field .ensures) in (let l = o .low in omega arith, (o .listing, checks-scratch _ _ (c .before .before .before .before .before .before .before .before .before .pre .1 .1) (c .before .before .before .before .loop .inv)))

@@ -102,10 +102,10 @@ collect-decls-loop-holds : (t : ℕ) → collect-decls-lts.Need-loop-holds (coll
 collect-decls-loop-holds t c = (omega arith, decls-start _ _ (c .before .before .before .pre .1))
 
 collect-decls-add-field : (t : ℕ) → collect-decls-lts.Need-add-field (collect-decls-claims t) (collect-decls-at t) collect-decls.Post collect-decls-Inv-loop collect-decls-μ-loop
-collect-decls-add-field t c = let s = c .before .before .before .before .before .pre .1 .short in omega arith
+collect-decls-add-field t c = let s = c .before .before .before .before .before .pre .1 .run .short in omega arith
 
 collect-decls-field-requires : (t : ℕ) → collect-decls-lts.Need-field-requires (collect-decls-claims t) (collect-decls-at t) collect-decls.Post collect-decls-Inv-loop collect-decls-μ-loop
-collect-decls-field-requires t c κs = let s = c .before .before .before .before .before .pre .1 .short in omega arith
+collect-decls-field-requires t c κs = let s = c .before .before .before .before .before .pre .1 .run .short in omega arith
 
 collect-decls-collect-decl-requires : (t : ℕ) → collect-decls-lts.Need-collect-decl-requires (collect-decls-claims t) (collect-decls-at t) collect-decls.Post collect-decls-Inv-loop collect-decls-μ-loop
 collect-decls-collect-decl-requires t c κs = let o = decls-item _ _ (c .before .before .before .before .before .before .before .pre .1) (omega arith) (c .before .field .ensures) (c .before .before .before .loop .inv .1) in (let l = o .low in omega arith, o .listing)

@@ -19,10 +19,10 @@ loop-holds : tie.Need-loop-holds Inv-loop μ-loop
 loop-holds c = record { within = omega arith; long = refl; left = refl }
 
 add-field : tie.Need-add-field Inv-loop μ-loop
-add-field c = let b = c .before .before .before .before .pre .short in omega arith
+add-field c = let b = c .before .before .before .before .pre .run .short in omega arith
 
 field-requires : tie.Need-field-requires Inv-loop μ-loop
-field-requires c κs = let b = c .before .before .before .before .pre .short in omega arith
+field-requires c κs = let b = c .before .before .before .before .pre .run .short in omega arith
 
 walk-arg-decl-requires : tie.Need-walk-arg-decl-requires Inv-loop μ-loop
 walk-arg-decl-requires c κs = (runItem _ (c .before .before .before .before .before .before .pre) (c .before .before .loop-test .taken) (c .before .field .ensures) (c .before .before .before .loop .inv .left)) .ready
