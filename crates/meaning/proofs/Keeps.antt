@@ -1,6 +1,6 @@
 -- What later steps keep of a table: lookups at the scopes that were there, entries and exits of the nodes already left.
 use mathlib.Core.Path.{_≡_, refl, _∙_}
-use mathlib.Core.Logic.{inl}
+use mathlib.Core.Logic.{inl, inr}
 use mathlib.Core.List.{List, _++_}
 use mathlib.Core.Option.{Option}
 use Prim.Native.Nat.{ℕ, _≤_, _<_}
@@ -94,13 +94,11 @@ module _ (img : List ℕ) where
       → entryAt img (e′ .table .words) m ≡ entryAt img (e .table .words) m
   unfolding marked ownSymbol
   enters-entry lists.stay sm m l f = refl
-  enters-entry (lists.next {ns = ns} {ms = ms} v u) sm m l f =
-      enters-entry u (λ n j. sm n (in-right n ns ms j)) m l (λ j. f (in-right m ns ms j))
-      ∙ enters-entry v (λ n j. sm n (in-left n ns ms j)) m l (λ j. f (in-left m ns ms j))
-  enters-entry (lists.marks {e = e} n) sm m l f =
+  enters-entry (lists.marks {e = e} n v) sm m l f =
       let k = sm n (inl refl) in
-      mark-word img n (e .scope) (e .scope) (e .table) (entryPlace N m) (λ q. f (inl (omega arith))) (omega arith)
-  enters-entry (lists.names {e = e} n v) sm m l f = symbol-word img (e .scope) n (e .table) (entryPlace N m) (omega arith) (omega arith)
+      enters-entry v (λ i j. sm i (inr j)) m l (λ j. f (inr j))
+      ∙ mark-word img n (e .scope) (e .scope) (e .table) (entryPlace N m) (λ q. f (inl (omega arith))) (omega arith)
+  enters-entry (lists.names {e = e} n h v) sm m l f = enters-entry v sm m l f ∙ symbol-word img (e .scope) n (e .table) (entryPlace N m) (omega arith) (omega arith)
 
   -- from t to t′, where the nodes ns were marked
   pub record Onward (ns : List ℕ) (t t′ : Table) : Type 0 where

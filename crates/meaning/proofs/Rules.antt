@@ -21,14 +21,14 @@ use Rattle.ordered.proofs.Agreed.{lookup-agree}
 use Rattle.ordered.proofs.Kept.{mark-kept, scope-kept, mark-word, scope-word}
 use Rattle.ordered.proofs.Moves.{numbersSeq}
 use Rattle.scopes.specs.Resolve.{zeroed, walked}
-use Rattle.scopes.specs.Walk.{done, enterAll, visitAll, resolveTree}
+use Rattle.scopes.specs.Walk.{done, recordedAll, enterAll, visitAll, resolveTree}
 use Rattle.scopes.proofs.Adds.{and-inv}
 use Rattle.scopes.proofs.Resolving.{none-kept, walk-ended, zeroed-long}
 use Rattle.ast.specs.Rules.{Rule, saysAll, rulesAll, moduleRules}
 use Rattle.sight.specs.Sight.{In}
 use Rattle.sight.proofs.Counting.{module-small, module-distinct, rules-are}
 use Rattle.sight.proofs.Frame.{Bounds, lookup-child, lookup-root, mark-parent, mark-exit, child-parent, child-parent-other, child-empty, child-exit}
-use Rattle.sight.proofs.Lists.{enteredAll, visitedAll, moduleNumbers, Decls, stays, Enters, Entered, entering, entersAll, Visits, idle, after, walks, ruled, nested, visitsAll}
+use Rattle.sight.proofs.Lists.{visitedAll, moduleNumbers, Decls, stays, Enters, Entered, entering, entersAll, Visits, idle, after, walks, ruled, nested, visitsAll}
 use Rattle.sight.proofs.Members.{in-left, in-right, in-split, Distinct, distinct-right}
 use Rattle.sight.proofs.Verdict.{root-of}
 use Rattle.meaning.specs.Meaning.{Env}
@@ -218,7 +218,7 @@ resolve-tells img n k c sh ts ws e q size b d sm di =
     let t₀ : Table = record { words = ws; scopes = 0; symbols = 0 } in
     let t₁ : Table = newScope img allOnes t₀ in
     let so : Kept img t₀ = none-kept img ws size in
-    let es = enteredAll ts in
+    let es = recordedAll ts in
     let ns = visitedAll ts in
     let D = saysAll img ts in
     let n<N = sm n (inl refl) in

@@ -1,5 +1,6 @@
 pub mod Lookups
 pub mod Adds
+pub mod Entering
 pub mod Clashes
 pub mod Namings
 pub mod Moves
