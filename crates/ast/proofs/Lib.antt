@@ -14,3 +14,4 @@ pub mod Scans
 pub mod Runs
 pub mod Kids
 pub mod Declarations
+pub mod Bools

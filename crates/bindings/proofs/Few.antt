@@ -22,7 +22,7 @@ use Rattle.ast.proofs.Count.{nodesOf, sumOf, sumTo, is-same, is-other, times-su
 use Rattle.scopes.specs.Twice.{among}
 use Rattle.table.specs.Table.{Table}
 use Rattle.rows.specs.Rows.{Row, row, rights, when}
-use Rattle.ordered.proofs.Bools.{false-true}
+use Rattle.ast.proofs.Bools.{false-true}
 use Rattle.bindings.specs.Errors.{argsOf, repeated, repeatedIn, repeatedTo, strictFrom, strictRows, isStrict, plainRows, errorRows}
 use Rattle.bindings.specs.Places.{Unnamed, Repeated}
 use Rattle.bindings.proofs.Leaves.{when-true}

@@ -19,7 +19,7 @@ use Rattle.ast.proofs.Accepted.{formed}
 use Rattle.ast.proofs.Vars.{every-kind, Each, and-both}
 use Rattle.table.specs.Table.{Table}
 use Rattle.rows.specs.Rows.{Row}
-use Rattle.ordered.proofs.Bools.{not-or, is-false}
+use Rattle.ast.proofs.Bools.{not-or, is-false}
 use Rattle.bindings.specs.Errors.{introducedRow, rowsOf, rowsSeq, rowsFirst}
 use Rattle.error.specs.Kinds.{asked}
 

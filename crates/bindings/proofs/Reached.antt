@@ -25,7 +25,7 @@ use Rattle.ast.proofs.Vars.{every-kind}
 use Rattle.ast.proofs.Kids.{childKind, kid-admitted, every-pair, parent}
 use Rattle.table.specs.Table.{Table}
 use Rattle.rows.specs.Rows.{Row}
-use Rattle.ordered.proofs.Bools.{not-or, false-true}
+use Rattle.ast.proofs.Bools.{not-or, false-true}
 use Rattle.bindings.specs.Errors.{definedRow, rowsOf, rowsSeq, declRows, declsRows, plainRows}
 use Rattle.error.specs.Kinds.{asked}
 use Rattle.bindings.specs.Checks.{inside, ofPattern}

@@ -24,10 +24,10 @@ use Rattle.ast.proofs.Unfold.{All, nil, cons, All-split, treeAt-is}
 use Rattle.ast.proofs.Vars.{every-kind, Each, and-both}
 use Rattle.ast.proofs.Count.{is-same, times-append, parents}
 use Rattle.ast.proofs.Kids.{childKind, kid-admitted, every-pair}
-use Rattle.table.specs.Table.{Table, isVar, isKind}
+use Rattle.table.specs.Table.{Table, isVar, isKind, atEntry, atExit}
 use Rattle.rows.specs.Rows.{Row}
-use Rattle.ordered.proofs.Bools.{not-or, is-true, false-true, not-equal, and-true, true-is}
-use Rattle.bindings.specs.Errors.{atEntry, atExit, introduces, introducedRow, isCtor, argRow, argRows, definedRow, rowsOf, rowsSeq, declRows, plainRows}
+use Rattle.ast.proofs.Bools.{not-or, is-true, false-true, not-equal, and-true, true-is}
+use Rattle.bindings.specs.Errors.{introduces, introducedRow, isCtor, argRow, argRows, definedRow, rowsOf, rowsSeq, declRows, plainRows}
 use Rattle.error.specs.Kinds.{asked}
 use Rattle.bindings.specs.Checks.{inside, listed, declared, ofPattern, ofArgs}
 use Rattle.bindings.specs.Places.{Node, Stands, InThen, atom, down}

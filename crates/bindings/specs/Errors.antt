@@ -5,20 +5,17 @@ use mathlib.Core.Option.{Option, none as nothing, some}
 use Prim.Native.Nat.{ℕ, zero, suc, _+_}
 use lib.Dec.{leb, eqb}
 use lib.ListN.{length}
-use Rattle.ast.specs.Image.{nodes, last, kindAt, startAt, field, nameOf}
+use Rattle.ast.specs.Image.{nodes, last, kindAt, startAt, field}
 use Rattle.ast.specs.Kinds.{Class, outer, inner, root, decl, signature, rule, enum, model, plain, term, ident, head, headMember, member, case, ifVar, definedThen, arg}
 use Rattle.ast.specs.Tests.{_▸_, need}
 use Rattle.ast.specs.Tree.{Tree, node, block, Trees, none, _◂_, treeAt}
 use Rattle.ast.specs.Rows.{opsFrom}
-use Rattle.ast.specs.Answer.{Answer, refused, twice as twiceAnswer, result}
 use Rattle.error.specs.Kinds.{introducedInThen, definedNotNew, patternNotFresh, repeatedArgument, asked}
-use Rattle.table.specs.Table.{Table, lookup, isKind, isVar, entryAt, exitAt}
-use Rattle.table.specs.State.{Exit}
-use Rattle.scopes.specs.Walk.{Listed, done, twice}
-use Rattle.scopes.specs.Resolve.{zeroed, walked, headed}
+use Rattle.table.specs.Table.{Table, isKind, isVar, atEntry, atExit}
+use Rattle.rows.specs.Rows.{Row, row}
 use Rattle.scopes.specs.Twice.{among}
-use Rattle.rows.specs.Rows.{Row, row, when, written}
-use Rattle.scopes.specs.Rows.{testRows, Outcome}
+use Rattle.scopes.specs.Calls.{testRows, RowsOutcome, rowsCall}
+use Rattle.rows.specs.Rows.{when}
 
 unfoldable pub sameNode : Option ℕ → Option ℕ → Bool
 sameNode nothing o = false
@@ -26,17 +23,10 @@ sameNode (some a) nothing = false
 sameNode (some a) (some b) = eqb a b
 
 module _ (img : List ℕ) (t : Table) where
-  -- what a name is at a node's entry, and at its exit
-  abbrev pub atEntry : ℕ → ℕ → Option ℕ
-  atEntry n i = lookup img t (entryAt img (t .words) n) (nameOf img i)
-
-  abbrev pub atExit : ℕ → ℕ → Option ℕ
-  atExit n i = lookup img t (exitAt img (t .words) n) (nameOf img i)
-
   -- the term n, of the IdentTerm i, introduces its name: it is a Var at the exit, and not that one at the entry
   unfoldable pub introduces : ℕ → ℕ → Bool
   unfolding sameNode
-  introduces n i = isVar img (atExit n i) && not (sameNode (atExit n i) (atEntry n i))
+  introduces n i = isVar img (atExit img t n i) && not (sameNode (atExit img t n i) (atEntry img t n i))
 
   -- row 1
   unfoldable pub introducedRow : Bool → ℕ → ℕ → List Row
@@ -49,7 +39,7 @@ module _ (img : List ℕ) (t : Table) where
   definedRow at (block ts) = []
   definedRow at (node n k c sh none) = []
   definedRow at (node n k c sh (block ts ◂ us)) = []
-  definedRow at (node n k c sh (node i l d sh2 ts ◂ us)) = when (isVar img (atEntry at i)) (row definedNotNew n)
+  definedRow at (node n k c sh (node i l d sh2 ts ◂ us)) = when (isVar img (atEntry img t at i)) (row definedNotNew n)
 
   unfoldable pub definedRows : ℕ → Trees → List Row
   unfolding definedRow
@@ -64,7 +54,7 @@ module _ (img : List ℕ) (t : Table) where
   argRow (node n k c (suc x ∷ sh) ts) = []
   argRow (node n k c (zero ∷ sh) none) = []
   argRow (node n k c (zero ∷ sh) (block ts ◂ us)) = []
-  argRow (node n k c (zero ∷ sh) (node i l d sh2 ts ◂ us)) = when (isVar img (atEntry n i)) (row patternNotFresh n)
+  argRow (node n k c (zero ∷ sh) (node i l d sh2 ts ◂ us)) = when (isVar img (atEntry img t n i)) (row patternNotFresh n)
 
   unfoldable pub argRows : Trees → List Row
   unfolding argRow
@@ -85,7 +75,7 @@ module _ (img : List ℕ) (t : Table) where
   isCtor (node n k c (suc x ∷ sh) ts) = false
   isCtor (node n k c (zero ∷ sh) none) = false
   isCtor (node n k c (zero ∷ sh) (block ts ◂ us)) = false
-  isCtor (node n k c (zero ∷ sh) (node i l d sh2 ts ◂ us)) = isKind img 9 (atExit n i)
+  isCtor (node n k c (zero ∷ sh) (node i l d sh2 ts ◂ us)) = isKind img 9 (atExit img t n i)
 
   unfoldable pub appRows : Trees → List Row
   unfolding isCtor listRows
@@ -203,21 +193,8 @@ module _ (img : List ℕ) where
 
   -- the refusals: 1 to 15
   unfoldable pub testErrors : List ℕ → List ℕ → ℕ → ℕ
-  unfolding testRows
   testErrors tab rows mode = testRows img tab rows ▸ need 15 (leb mode 2)
 
-  unfoldable pub errorsOf : List ℕ → List ℕ → ℕ → Listed → Outcome
-  unfolding errorRows headed zeroed written
-  errorsOf tab rows mode (done e) =
-      let l = errorRows (e .table) mode in
-      record { answer = result 0 (length l); table = headed img (e .table); rows = written (nodes img) l rows }
-  errorsOf tab rows mode (twice x a b) = record { answer = twiceAnswer x a b; table = zeroed img tab; rows = rows }
-
   -- document 01's Errors
-  unfoldable pub errors : List ℕ → List ℕ → ℕ → Outcome
-  unfolding testErrors errorsOf walked
-  errors tab rows mode =
-      elim (testErrors tab rows mode) [
-        | zero ↦ errorsOf tab rows mode (walked img tab)
-        | suc r ↦ record { answer = refused (suc r); table = tab; rows = rows }
-      ]
+  unfoldable pub errors : List ℕ → List ℕ → ℕ → RowsOutcome
+  errors tab rows mode = rowsCall img tab rows (testErrors tab rows mode) (λ t. errorRows t mode)

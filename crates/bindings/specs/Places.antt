@@ -5,8 +5,8 @@ use mathlib.Core.List.{List, [], _∷_, _++_, List·Memᴰ}
 use Prim.Native.Nat.{ℕ, suc, _+_, _<_}
 use Rattle.ast.specs.Image.{nodes, kindAt, field}
 use Rattle.ast.specs.Rows.{numbers, kids}
-use Rattle.table.specs.Table.{Table, isKind, isVar}
-use Rattle.bindings.specs.Errors.{atEntry, atExit, introduces, argsOf}
+use Rattle.table.specs.Table.{Table, isKind, isVar, atEntry, atExit}
+use Rattle.bindings.specs.Errors.{introduces, argsOf}
 
 module _ (img : List ℕ) where
   -- a node of kind k

@@ -13,44 +13,17 @@ ghost use Rattle.ast.specs.Tree.{treeAt};
 ghost use Rattle.table.specs.Table as «table-spec»;
 ghost use Rattle.table.specs.Rows.{Sorted};
 ghost use Rattle.table.specs.Values.{tableOf, optionOf};
-ghost use Rattle.rows.specs.Rows.{row, Appended, when};
-ghost use Rattle.bindings.specs.Errors.{sameNode, atEntry, atExit, introduces, introducedRow, definedRow, argRow, isCtor, rowsOf, declRows, repeatedIn, repeatedTo, strictRows, errorRows, testErrors, errors};
-ghost use Rattle.bindings.specs.Checks.{Room, Ready, ReadyRun, PlainVariable, inside, listed, declared, ofPattern, ofCase, ofArgs, marked, MarkedOne, Marks, ofMode, Filled, Wrote};
-ghost use Rattle.bindings.specs.Answers.{checkedAnswer};
+ghost use Rattle.rows.specs.Rows.{row, Appended, Wrote, when};
+ghost use Rattle.scopes.specs.Answers.{rowedAnswer};
+ghost use Rattle.bindings.specs.Errors.{sameNode, introduces, introducedRow, definedRow, argRow, isCtor, rowsOf, declRows, repeatedIn, repeatedTo, strictRows, errorRows, testErrors, errors};
+ghost use Rattle.bindings.specs.Checks.{Room, Ready, PlainVariable, inside, listed, declared, ofPattern, ofCase, ofArgs, marked, MarkedOne, Marks, ofMode, Filled, ReadyRun};
 use ast::NodeId;
 use error::ErrorKind;
-use scopes::Resolved;
+use scopes::Declared;
+use scopes::Rowed;
 use table::Found;
 use table::ScopeId;
 use table::Walked;
-
-fn is_kind(image: &[u8], found: Found, kind: u32) -> bool
-    ensures { λ r. ⌜ r ≡ «table-spec».isKind (now (image .entry)) kind (optionOf found) ⌝ }
-{
-    match found {
-        Found::At(node) => ast::kind_at(image, node) == kind,
-        Found::Nothing => false,
-    }
-}
-
-// What the name of an IdentTerm is at a node's entry, and at its exit.
-fn at_entry(image: &[u8], table: &[u32], w: Walked, node: NodeId, id: NodeId) -> Found
-    requires { ⌜ Sorted («image-spec».nodes (now image)) (w .symbols) (now table) ⌝ }
-    ensures { λ r. ⌜ optionOf r ≡ atEntry (now (image .entry)) (tableOf w (now (table .entry))) (node .0) (id .0) ⌝ }
-{
-    let scope = table::entry_of(image, table, node);
-    let symbols = w.symbols;
-    table::seek(image, table, symbols, scope, ast::name_of(image, id))
-}
-
-fn at_exit(image: &[u8], table: &[u32], w: Walked, node: NodeId, id: NodeId) -> Found
-    requires { ⌜ Sorted («image-spec».nodes (now image)) (w .symbols) (now table) ⌝ }
-    ensures { λ r. ⌜ optionOf r ≡ atExit (now (image .entry)) (tableOf w (now (table .entry))) (node .0) (id .0) ⌝ }
-{
-    let scope = table::exit_of(image, table, node);
-    let symbols = w.symbols;
-    table::seek(image, table, symbols, scope, ast::name_of(image, id))
-}
 
 fn binding_visible_before(
     image: &[u8],
@@ -61,9 +34,10 @@ fn binding_visible_before(
     binding: NodeId,
 ) -> bool
     requires { ⌜ Sorted («image-spec».nodes (now image)) (w .symbols) (now table) ⌝ }
-    ensures { λ r. ⌜ r ≡ sameNode (some (binding .0)) (atEntry (now (image .entry)) (tableOf w (now (table .entry))) (term .0) (id .0)) ⌝ }
+    ensures { λ r. ⌜ r ≡ sameNode (some (binding .0)) («table-spec».atEntry (now (image .entry)) (tableOf w (now (table .entry))) (term .0) (id .0)) ⌝ }
 {
-    match at_entry(image, table, w, term, id) {
+    let symbols = w.symbols;
+    match table::at_entry(image, table, symbols, term, id) {
         Found::At(node) => binding.0 == node.0,
         Found::Nothing => false,
     }
@@ -74,13 +48,13 @@ fn is_introduced(image: &[u8], table: &[u32], w: Walked, term: NodeId, id: NodeI
     requires { ⌜ Sorted («image-spec».nodes (now image)) (w .symbols) (now table) ⌝ }
     ensures { λ r. ⌜ r ≡ introduces (now (image .entry)) (tableOf w (now (table .entry))) (term .0) (id .0) ⌝ }
 {
-    match at_exit(image, table, w, term, id) {
-        Found::At(binding) => {
-            if ast::kind_at(image, binding) == 13 {
-                return !binding_visible_before(image, table, w, term, id, binding);
-            }
-            false
-        }
+    let symbols = w.symbols;
+    let found = table::at_exit(image, table, symbols, term, id);
+    if !table::is_var(image, found) {
+        return false;
+    }
+    match found {
+        Found::At(binding) => !binding_visible_before(image, table, w, term, id, binding),
         Found::Nothing => false,
     }
 }
@@ -241,8 +215,9 @@ fn check_then_defined_var(
         return count;
     }
     let id = NodeId(ast::field(image, var, 1));
-    let found = at_entry(image, table, w, atom, id);
-    let test = is_kind(image, found, 13);
+    let symbols = w.symbols;
+    let found = table::at_entry(image, table, symbols, atom, id);
+    let test = table::is_var(image, found);
     let number = error::row_number(ErrorKind::ThenDefinedVarNotNew);
     put_if(image, rows, count, test, number, var)
 }
@@ -301,8 +276,9 @@ fn is_ctor_head(image: &[u8], table: &[u32], w: Walked, head: NodeId) -> bool
         return false;
     }
     let id = NodeId(ast::field(image, head, 1));
-    let found = at_exit(image, table, w, head, id);
-    is_kind(image, found, 9)
+    let symbols = w.symbols;
+    let found = table::at_exit(image, table, symbols, head, id);
+    table::is_kind(image, found, 9)
 }
 
 // Row 3, at an ident argument that is a Var at its own entry. (The Rust asks for a Var at the exit first: what is one at
@@ -322,8 +298,9 @@ fn check_pattern_arg(
         return count;
     }
     let id = NodeId(ast::field(image, arg, 1));
-    let found = at_entry(image, table, w, arg, id);
-    let test = is_kind(image, found, 13);
+    let symbols = w.symbols;
+    let found = table::at_entry(image, table, symbols, arg, id);
+    let test = table::is_var(image, found);
     let number = error::row_number(ErrorKind::MatchPatternArgVarIsNotFresh);
     put_if(image, rows, count, test, number, arg)
 }
@@ -643,23 +620,19 @@ fn write_rows(image: &[u8], table: &[u32], w: Walked, rows: &mut [u32], mode: u3
     ensures { λ r. ⌜ Wrote («image-spec».nodes (now (image .entry))) (errorRows (now (image .entry)) (tableOf w (now (table .entry))) mode) (now (rows .entry)) r (now (rows .exit)) ⌝ }
 {
     let n = ast::node_count(image);
-    rows::clear(rows, 1 + 2 * ast::wide(n));
+    rows::begin(rows, n);
     let plain = walk_module(image, table, w, rows, 0, NodeId(n - 1));
     let count = check_mode(image, rows, plain, mode);
-    table::put(rows, 0, count);
-    count
+    rows::finish(rows, count)
 }
 
 // The refusals of Errors: 1 to 15.
 fn test_errors(image: &[u8], table: &[u32], rows: &[u32], mode: u32) -> u32
     ensures { λ r. ⌜ r ≡ testErrors (now (image .entry)) (now (table .entry)) (now (rows .entry)) mode ⌝ }
 {
-    let code = scopes::test_table(image, table);
+    let code = scopes::test_rows(image, table, rows);
     if code != 0 {
         return code;
-    }
-    if rows.len() < 1 + 2 * ast::wide(ast::node_count(image)) {
-        return 14;
     }
     if 2 < mode {
         return 15;
@@ -667,31 +640,16 @@ fn test_errors(image: &[u8], table: &[u32], rows: &[u32], mode: u32) -> u32
     0
 }
 
-// What Errors hands back: a refusal, a name that is declared twice with its two nodes, or the count of rows.
-pub enum Checked {
-    Refused(u32),
-    Twice(u32, NodeId, NodeId),
-    Rows(u32),
-}
-
 // Errors: resolves, then writes the error rows. Mode 0, the default, and 1 are plain, 2 is strict.
-pub fn check_bindings(image: &[u8], table: &mut [u32], rows: &mut [u32], mode: u32) -> Checked
-    ensures { λ r. ⌜ errors (now (image .entry)) (now (table .entry)) (now (rows .entry)) mode ≡ record { answer = checkedAnswer r; table = now (table .exit); rows = now (rows .exit) } ⌝ }
+pub fn check_bindings(image: &[u8], table: &mut [u32], rows: &mut [u32], mode: u32) -> Rowed
+    ensures { λ r. ⌜ errors (now (image .entry)) (now (table .entry)) (now (rows .entry)) mode ≡ record { answer = rowedAnswer r; table = now (table .exit); rows = now (rows .exit) } ⌝ }
 {
     let code = test_errors(image, table, rows, mode);
     if code != 0 {
-        return Checked::Refused(code);
+        return Rowed::Refused(code);
     }
     match scopes::resolve_into(image, table) {
-        Resolved::Refused(number) => Checked::Refused(number),
-        Resolved::Twice(name, first, second) => Checked::Twice(name, first, second),
-        Resolved::Scopes(scopes, symbols) => {
-            let w = Walked {
-                scopes,
-                symbols,
-                scope: ScopeId(0),
-            };
-            Checked::Rows(write_rows(image, table, w, rows, mode))
-        }
+        Declared::Done(w) => Rowed::Rows(write_rows(image, table, w, rows, mode)),
+        Declared::Twice(name, first, second) => Rowed::Twice(name, first, second),
     }
 }

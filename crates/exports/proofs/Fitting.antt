@@ -14,16 +14,16 @@ use Rattle.ast.specs.Tests.{need, verdict}
 use Rattle.ast.proofs.Accepted.{both, needed, ran, sized}
 use Rattle.rows.specs.Rows.{Row}
 use Rattle.table.specs.Rows.{nodeAt}
-use Rattle.table.specs.Sound.{symbolsIn, scopesIn, parentBelow, rowSound, testSound}
+use Rattle.sound.specs.Sound.{symbolsIn, scopesIn, parentBelow, rowSound, testSound}
 use Rattle.table.specs.State.{Exit}
-use Rattle.table.specs.Table.{Table, symbolOf, lookup}
-use Rattle.names.specs.Number.{numberOf}
+use Rattle.table.specs.Table.{symbolOf, lookup}
 use Rattle.scopes.specs.Lookup.{testLookup, symbolAnswer, foundBy, lookupCall}
+use Rattle.names.specs.Number.{numberOf}
 use Rattle.scopes.specs.Resolve.{testTable, walked, resolve}
 use Rattle.scopes.specs.Resolve as resolving
 use Rattle.scopes.specs.Rows.{testRows, Outcome}
 use Rattle.scopes.specs.Walk.{Listed, done, twice}
-use Rattle.ordered.proofs.Bools.{true-is}
+use Rattle.ast.proofs.Bools.{true-is}
 use Rattle.scopes.proofs.Namings.{symbol-below}
 use Rattle.scopes.proofs.Resolving.{Ways, refuses, stops, fills, ways, refuses-outcome, stops-outcome, fills-outcome, walked-ended, table-accepted}
 use Rattle.bindings.specs.Errors.{errorRows, testErrors, errorsOf, errors}

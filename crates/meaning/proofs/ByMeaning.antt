@@ -16,7 +16,7 @@ use Rattle.scopes.proofs.Declaring.{twice-exactly}
 use Rattle.scopes.proofs.Headed.{left, headed-lookup, headed-entry, headed-exit}
 use Rattle.scopes.proofs.Resolving.{table-accepted, fills-outcome, own-counts}
 use Rattle.sight.specs.Sight.{In}
-use Rattle.table.specs.Sound.{scopesIn, symbolsIn}
+use Rattle.sound.specs.Sound.{scopesIn, symbolsIn}
 use Rattle.table.specs.State.{Exit}
 use Rattle.table.specs.Table.{Table, lookup}
 use Rattle.bindings.specs.Checks.{ofMode}

@@ -17,14 +17,14 @@ use Rattle.ast.specs.Tree.{Tree, node, block, Trees, none, _◂_}
 use Rattle.ast.proofs.Accepted.{formed, last-below}
 use Rattle.ast.proofs.Unfold.{treeOf}
 use Rattle.ast.proofs.Vars.{and-both, Everywhere, EverywhereAll}
-use Rattle.ordered.proofs.Bools.{not-equal}
+use Rattle.ast.proofs.Bools.{not-equal}
 use Rattle.rows.specs.Rows.{Row, row, when}
 use Rattle.error.specs.Kinds.{introducedInThen, definedNotNew, patternNotFresh, asked}
 use Rattle.scopes.specs.Resolve.{walked}
 use Rattle.scopes.specs.Walk.{done}
 use Rattle.table.specs.State.{Exit}
-use Rattle.table.specs.Table.{Table, lookup, isVar, entryAt}
-use Rattle.bindings.specs.Errors.{sameNode, atEntry, atExit, introduces, introducedRow, definedRow, definedRows, argRow, argRows, listRows, isCtor, appRows, patternRows, rowsOf, rowsSeq, rowsFirst, rowsDefined, declRows, declsRows, plainRows}
+use Rattle.table.specs.Table.{Table, lookup, isVar, entryAt, atEntry, atExit}
+use Rattle.bindings.specs.Errors.{sameNode, introduces, introducedRow, definedRow, definedRows, argRow, argRows, listRows, isCtor, appRows, patternRows, rowsOf, rowsSeq, rowsFirst, rowsDefined, declRows, declsRows, plainRows}
 use Rattle.ast.specs.Rules.{Rule, saysAll, rules, rulesAll, rulesOf, moduleRules}
 use Rattle.sight.specs.Sight.{In}
 use Rattle.sight.proofs.Lists.{Decl, Decls}

@@ -14,7 +14,7 @@ use Rattle.ast.specs.Items.{items, blocks, below}
 use Rattle.ast.specs.Is.{Is, kindBy}
 use Rattle.ast.proofs.Row.{append, append-none, allKids, shapes, nodeOf}
 use Rattle.ast.proofs.Shapes.{tree-of, items-more, caseKids, case-kids, case-one}
-use Rattle.table.specs.Table.{Table}
+use Rattle.table.specs.Table.{Table, isVar}
 use Rattle.rows.specs.Rows.{Row, row}
 use Rattle.occurrences.specs.Spots.{Spot, spots, spotsSeq, spotsBack, spotsFirst}
 use Rattle.occurrences.specs.Occurrences.{listed, found, rowsFor}
@@ -95,17 +95,14 @@ module _ (img : List ℕ) (t : Table) where
   rows-append (s ∷ l) k = ap (listed img t (s .node) (found img t s)) (rows-append l k) ∙ listed-append (s .node) (found img t s) (rowsFor img t l) (rowsFor img t k)
 
   -- an ident: its row if lookup gives a Var, else none
-  pub ident-var : (n i b : ℕ) → found img t (spot n i) ≡ some b → kindAt img b ≡ 13 → identRows img t n i ≡ row n b ∷ []
+  pub ident-var : (n i b : ℕ) → found img t (spot n i) ≡ some b → isVar img (some b) ≡ true → identRows img t n i ≡ row n b ∷ []
   unfolding rowsFor listed
-  ident-var n i b e q = ap (λ (o : Option ℕ). listed img t n o []) e ∙ ap (λ (x : ℕ). elim (eqb x 13) as (λ _. List Row) [ true ↦ row n b ∷ [] | false ↦ [] ]) q
+  ident-var n i b e q = ap (λ (o : Option ℕ). listed img t n o []) e ∙ ap (λ (x : Bool). elim x as (λ _. List Row) [ true ↦ row n b ∷ [] | false ↦ [] ]) q
 
-  pub ident-other : (n i b : ℕ) → found img t (spot n i) ≡ some b → eqb (kindAt img b) 13 ≡ false → identRows img t n i ≡ []
+  pub ident-other : (n i : ℕ) (o : Option ℕ) → found img t (spot n i) ≡ o → isVar img o ≡ false → identRows img t n i ≡ []
   unfolding rowsFor listed
-  ident-other n i b e q = ap (λ (o : Option ℕ). listed img t n o []) e ∙ ap (λ (x : Bool). elim x as (λ _. List Row) [ true ↦ row n b ∷ [] | false ↦ [] ]) q
-
-  pub ident-none : (n i : ℕ) → found img t (spot n i) ≡ nothing → identRows img t n i ≡ []
-  unfolding rowsFor listed
-  ident-none n i e = ap (λ (o : Option ℕ). listed img t n o []) e
+  ident-other n i nothing e q = ap (λ (o : Option ℕ). listed img t n o []) e
+  ident-other n i (some b) e q = ap (λ (o : Option ℕ). listed img t n o []) e ∙ ap (λ (x : Bool). elim x as (λ _. List Row) [ true ↦ row n b ∷ [] | false ↦ [] ]) q
 
   pub ident-rows : {i : ℕ} → Is img (kindOf 13) i → (n : ℕ) → rowsFor img t (spots n (treeAt img i)) ≡ identRows img t n i
   unfolding spots nodeOf kindOf

@@ -9,13 +9,13 @@ use native.Mathlib.Omega.{arith}
 use native.Mathlib.Nat.{sub-zero, add-zero, eq-or-lt-of-le}
 use lib.Dec.{eqb}
 use lib.ListN.{length, getD, length-append}
-use Rattle.ast.specs.Image.{nodes, kindAt, field}
+use Rattle.ast.specs.Image.{nodes, field}
 use Rattle.ast.specs.Kinds.{Class, inner, plain, term, head, headMember, member, case, name, child, list, cases, noChild, Kind, kindOf}
 use Rattle.ast.specs.Tree.{Trees, ordered, treeAt}
 use Rattle.ast.specs.Is.{Is, kindBy}
 use Rattle.ast.proofs.Row.{Child, FormedFields, next}
 use Rattle.ast.proofs.Shapes.{termKinds, headKinds, one-more, row, child-is, case-child, case-last, run-item, run-list, run-tail}
-use Rattle.table.specs.Table.{Table}
+use Rattle.table.specs.Table.{Table, isVar}
 use Rattle.rows.specs.Rows.{Row, row as rowOf, putRows, Appended}
 use Rattle.rows.proofs.Parts.{appended-as as appended-to, Left, left-start, left-next, left-end}
 use Rattle.ast.proofs.Blocks.{BlocksFrom, blocks-from, blocks-place as place-of-blocks, NextBlock, next-block}
@@ -245,11 +245,11 @@ module _ (img : List ℕ) (t : Table) where
       (record { run = record { run = run-list img (p .is) refl; room = room-as w (p .room) }; whole = w ∙ run-start n 1 (field img n 0) })
 
   -- an ident's row, written by one that knows the number of nodes as N
-  pub ident-put : (n i : ℕ) {b N c r : ℕ} {ws vs : List ℕ} → found img t (spot n i) ≡ some b → kindAt img b ≡ 13 → N ≡ nodes img → Appended N (rowOf n b ∷ []) c ws r vs
+  pub ident-put : (n i : ℕ) {b N c r : ℕ} {ws vs : List ℕ} → found img t (spot n i) ≡ some b → isVar img (some b) ≡ true → N ≡ nodes img → Appended N (rowOf n b ∷ []) c ws r vs
       → Appended (nodes img) (identRows img t n i) c ws r vs
   ident-put n i {b} {N} {c} {r} {ws} {vs} e k q a = appended-as (ident-var img t n i b e k) (subst (λ (x : ℕ). Appended x (rowOf n b ∷ []) c ws r vs) q a)
 
-  pub ident-fits : (n i : ℕ) {b c : ℕ} → found img t (spot n i) ≡ some b → kindAt img b ≡ 13 → Room img t (identRows img t n i) c → c + 1 < 2 ^ 32
+  pub ident-fits : (n i : ℕ) {b c : ℕ} → found img t (spot n i) ≡ some b → isVar img (some b) ≡ true → Room img t (identRows img t n i) c → c + 1 < 2 ^ 32
   ident-fits n i {b} e k p = (room-as (ident-var img t n i b e k) p) .fits
 
   -- type and predicate expressions: the receiver of a member, else nothing

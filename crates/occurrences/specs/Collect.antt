@@ -23,10 +23,6 @@ use Rattle.occurrences.specs.Occurrences.{rowsFor, occurrenceRows, lone,
 use Rattle.occurrences.specs.declared.Checked.{Checked}
 use Rattle.occurrences.specs.declared.Checked.the-variants.{Ok, Lone}
 
--- a table as lookup reads it: the words and the count of symbols
-abbrev pub sought : List ℕ → ℕ → Table
-sought ws y = record { words = ws; scopes = 0; symbols = y }
-
 abbrev pub spot : ℕ → ℕ → Spot
 spot n i = record { node = n; ident = i }
 
@@ -87,11 +83,6 @@ pub record Whole (img : List ℕ) (t : Table) : Type 0 where
   pub accepted : verdict img ≡ 0
   pub sorted : Sorted (nodes img) (t .symbols) (t .words)
   pub few : length (occurrenceRows img t) ≤ nodes img
-
--- the c rows from the i-th on, as the words have them
-unfoldable pub readRows : (N : ℕ) → List ℕ → (c i : ℕ) → List Row
-readRows N ws zero i = []
-readRows N ws (suc c) i = row (getD ws (1 + i) 0) (getD ws (1 + N + i) 0) ∷ readRows N ws c (i + 1)
 
 -- the first row whose binding is counted under two times
 unfoldable pub under : List ℕ → List Row → Option Row

@@ -56,7 +56,7 @@ pub fn walk_names(image: &[u8], table: &mut [u32], at: Walked, node: NodeId) -> 
     w
 }
 
-// A term, whose last place is its own.
+// A term: what it holds, then its own two places.
 pub fn walk_term(image: &[u8], table: &mut [u32], at: Walked, term: NodeId) -> Walked
     requires { ⌜ Ready (now image) (kindOf 12) (term .0) (exitOf at (now table)) ⌝ }
     ensures { λ r. ⌜ exitOf r (now (table .exit)) ≡ over (now (image .entry)) (term .0) (exitOf at (now (table .entry))) ⌝ }
@@ -230,23 +230,13 @@ pub fn walk_pred_atom(image: &[u8], table: &mut [u32], at: Walked, id: NodeId) -
     table::leave(image, table, id, at, after_args)
 }
 
-// A Var.
-pub fn is_var(image: &[u8], found: Found) -> bool
-    ensures { λ r. ⌜ r ≡ «table-spec».isKind (now (image .entry)) 13 (optionOf found) ⌝ }
-{
-    match found {
-        Found::At(node) => ast::kind_at(image, node) == 13,
-        Found::Nothing => false,
-    }
-}
-
 // The name is a Var in the scope.
 pub fn lookup_var(image: &[u8], table: &[u32], symbols: u32, scope: ScopeId, name: u32) -> bool
     requires { ⌜ Sorted («image-spec».nodes (now image)) symbols (now table) ⌝ }
-    ensures { λ r. ⌜ r ≡ «table-spec».isKind (now (image .entry)) 13 («table-spec».climb (now (image .entry)) (suc (scope .0)) (now (table .entry)) symbols (scope .0) name) ⌝ }
+    ensures { λ r. ⌜ r ≡ «table-spec».isVar (now (image .entry)) («table-spec».climb (now (image .entry)) (suc (scope .0)) (now (table .entry)) symbols (scope .0) name) ⌝ }
 {
     let found = table::seek(image, table, symbols, scope, name);
-    is_var(image, found)
+    table::is_var(image, found)
 }
 
 // The ident introduced, unless lookup from the scope `before` gives a Var.

@@ -9,7 +9,7 @@ use lib.ListN.{length, length-append}
 use Rattle.ast.specs.Declarations.{ruleNode, declared, declaredAll}
 use Rattle.ast.specs.Image.{nodes, nameOf}
 use Rattle.ast.specs.Kinds.{outer, inner, root, decl, signature, rule, enum, model}
-use Rattle.ast.specs.Tree.{Tree, node, block, Trees, none, _◂_}
+use Rattle.ast.specs.Tree.{Tree, node, block, Trees, none, _◂_, size, sizes}
 use Rattle.ast.proofs.Small.{Small, Smalls}
 use Rattle.ast.proofs.Unfold.{All, nil, cons, All-append}
 use Rattle.table.specs.Rows.{scopeOf}
@@ -20,7 +20,6 @@ use Rattle.ordered.specs.Walkers.{Few}
 use Rattle.ordered.proofs.Grows.{seq-grows}
 use Rattle.ordered.specs.Kept.{Kept}
 use Rattle.ordered.proofs.Kept.{past, mark-kept, scope-kept, symbol-kept, mark-past, scope-past, symbol-past, mark-length, scope-length, symbol-length, mark-rows, scope-rows}
-use Rattle.ordered.specs.Size.{size, sizes}
 use Rattle.ordered.proofs.Size.{seq-within}
 use Rattle.scopes.specs.Walk.{Listed, done, twice, recorded, recordedAll, enterName, andThen, enterNames, markAll, enter, enterAll, visit, visitAll}
 use Rattle.scopes.specs.Lists.{ent, ents, vis, viss, Fits}

@@ -14,7 +14,7 @@ use Rattle.ast.specs.Image.{nodes, kindAt, field, nameOf}
 use Rattle.ast.specs.Is.{Is, kindBy}
 use Rattle.ast.specs.Items.{items, below}
 use Rattle.ast.specs.Kinds.{Class, outer, decl, signature, Field, name, child, noChild, Kind, kindOf}
-use Rattle.ast.specs.Tree.{Tree, node, Trees, none, _◂_, ordered, treeAt}
+use Rattle.ast.specs.Tree.{Tree, node, Trees, none, _◂_, ordered, treeAt, size}
 use Rattle.ast.proofs.Accepted.{sized}
 use Rattle.ast.proofs.Row.{append, append-none, Child, FormedFields, next, nodeOf}
 use Rattle.ast.proofs.Shapes.{row, tree-of, child-is, case-kids, case-one, case-child, case-last, items-more}
@@ -25,7 +25,6 @@ use Rattle.table.specs.Table.{find, findFrom, mark}
 use Rattle.table.specs.Values.{exitOf}
 use Rattle.table.specs.declared.Walked.{Walked}
 use Rattle.ast.specs.declared.NodeId.{NodeId}
-use Rattle.ordered.specs.Size.{size}
 use Rattle.ordered.proofs.Kept.{past, mark-past, mark-length, symbol-past}
 use Rattle.scopes.specs.Walk.{Listed, done, twice, recorded, enterName, andThen, enterNames, markAll, enter, enterAll, visit}
 use Rattle.scopes.specs.Lists.{listedOf, ent, ents, vis, restEnter, Seen, Entering, Enters, Signature, Stamped}

@@ -19,9 +19,9 @@ use Rattle.ast.proofs.Accepted.{formed}
 use Rattle.ast.proofs.Small.{Small, Smalls}
 use Rattle.ast.proofs.Unfold.{All, nil, cons, All-append, treeAt-is}
 use Rattle.ast.proofs.Vars.{Everywhere, EverywhereAll, everywhere, every-kind, and-both}
-use Rattle.table.specs.Sound.{hasName, isSymbol}
-use Rattle.table.proofs.Sounds.{named-yes, symbol-out, symbol-rule, symbol-arg, symbol-var, symbol-decl}
-use Rattle.ordered.proofs.Bools.{true-not-false, false-true}
+use Rattle.sound.specs.Sound.{hasName, isSymbol}
+use Rattle.sound.proofs.Sounds.{named-yes, symbol-out, symbol-rule, symbol-arg, symbol-var, symbol-decl}
+use Rattle.ast.proofs.Bools.{true-not-false, false-true}
 use Rattle.ordered.proofs.Moves.{namedBy, enters}
 
 -- the kinds of these classes

@@ -8,7 +8,7 @@ use Rattle.ast.specs.Image.{nodes, field}
 use Rattle.ast.specs.Is.{Is, kindBy}
 use Rattle.ast.specs.Items.{items, below}
 use Rattle.ast.specs.Kinds.{outer, signature, Field, name, child, list, Kind, kindOf}
-use Rattle.ast.specs.Tree.{Tree, node, block, Trees, none, treeAt}
+use Rattle.ast.specs.Tree.{Tree, node, block, Trees, none, treeAt, size, sizes}
 use Rattle.ast.proofs.Accepted.{sized}
 use Rattle.ast.proofs.Row.{append, append-none, Child, FormedFields, next, nodeOf}
 use Rattle.ast.proofs.Shapes.{row, tree-of, child-is, items-more, run-item, run-tail}
@@ -23,7 +23,6 @@ use Rattle.ordered.specs.Walkers.{over, inside, rest, Few, Room, Ready, ReadyRu
 use Rattle.ordered.proofs.Grows.{Grows, seq-grows}
 use Rattle.ordered.proofs.Kept.{past}
 use Rattle.ordered.proofs.Lists.{rest-start}
-use Rattle.ordered.specs.Size.{size, sizes}
 use Rattle.ordered.proofs.Size.{seq-within}
 use Rattle.ordered.proofs.Steps.{room-below, tree-grows}
 use Rattle.scopes.specs.Walk.{Listed, done, twice, andThen, enterAll, visit, visitAll}

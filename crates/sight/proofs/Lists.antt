@@ -15,7 +15,7 @@ use Rattle.ast.proofs.Declarations.{orElse-none, orElse-assoc, earliest-append}
 use Rattle.ast.proofs.Unfold.{All, nil, cons, All-append}
 use Rattle.table.specs.Rows.{parentAt}
 use Rattle.table.specs.State.{Exit, childScope, ownSymbol, marked, back}
-use Rattle.table.specs.Table.{Table, find, isKind, exitAt}
+use Rattle.table.specs.Table.{Table, find, isKind, entryAt, exitAt}
 use Rattle.table.proofs.Frames.{find-mark}
 use Rattle.ordered.specs.Walk.{occurs, walkSeq}
 use Rattle.scopes.specs.Walk.{done, recordedAll, enterName, andThen, enterNames, markAll, enterAll, visit, visitAll}
@@ -25,7 +25,7 @@ use Rattle.ordered.proofs.Moves.{numbersSeq}
 use Rattle.scopes.proofs.Adds.{named, done-same, twice-done, and-inv}
 use Rattle.sight.specs.Sight.{In}
 use Rattle.ast.specs.Rules.{Rule, saysAll, rules, rulesAll}
-use Rattle.sight.proofs.Frame.{name-find-other, name-find, name-parent, name-exit, mark-parent, mark-exit}
+use Rattle.sight.proofs.Frame.{name-find-other, name-find, name-parent, name-exit, name-entry, mark-parent, mark-exit, mark-entry}
 use Rattle.sight.proofs.Steps.{Bodies}
 
 -- the nodes that visiting marks
@@ -155,6 +155,7 @@ module _ (img : List ℕ) where
     pub here : (x : ℕ) → find img t′ s x ≡ orElse (find img t s x) (earliest (nameOf img) ds x)
     pub parents : (r : ℕ) → r < nodes img → parentAt (nodes img) (t′ .words) r ≡ parentAt (nodes img) (t .words) r
     pub exits : (m : ℕ) → m < nodes img → (In m ns → ⊥) → exitAt img (t′ .words) m ≡ exitAt img (t .words) m
+    pub entries : (m : ℕ) → m < nodes img → (In m ns → ⊥) → entryAt img (t′ .words) m ≡ entryAt img (t .words) m
     pub novar : (x : ℕ) → isKind img 13 (earliest (nameOf img) ds x) ≡ false
 
   pub entering : {ns ds : List ℕ} {e e′ : Exit} → Enters ns ds e e′ → e′ .table .symbols ≤ nodes img → ((n : ℕ) → In n ns → n < nodes img)
@@ -167,6 +168,7 @@ module _ (img : List ℕ) where
         here = λ x. sym (orElse-none (find img (e .table) (e .scope) x));
         parents = λ r l. refl;
         exits = λ m l f. refl;
+        entries = λ m l f. refl;
         novar = λ x. refl;
       }
   entering (marks {ns = ns} {ds = ds} {e = e} {e′ = e′} n v) b sm so i =
@@ -180,6 +182,7 @@ module _ (img : List ℕ) where
         here = λ x. f .here x ∙ ap (λ o. orElse o (earliest (nameOf img) ds x)) (find-mark img n s s t l s x);
         parents = λ r k. f .parents r k ∙ mark-parent img n s s t l r;
         exits = λ m k h. f .exits m k (λ j. h (inr j)) ∙ mark-exit img n s s t l m k (λ q. h (inl q));
+        entries = λ m k h. f .entries m k (λ j. h (inr j)) ∙ mark-entry img n s s t l m k (λ q. h (inl q));
         novar = f .novar;
       }
   entering (names {ns = ns} {ds = ds} {e = e} {e′ = e′} n h v) b sm so i =
@@ -196,6 +199,7 @@ module _ (img : List ℕ) where
             ∙ ap (orElse (find img t s x)) (sym (earliest-append (nameOf img) (n ∷ []) ds x));
         parents = λ r k. f .parents r k ∙ name-parent img s n t so (omega arith) r k;
         exits = λ m k j. f .exits m k j ∙ name-exit img s n t so (omega arith) m k;
+        entries = λ m k j. f .entries m k j ∙ name-entry img s n t so (omega arith) m k;
         novar = λ x. ap (isKind img 13) (earliest-append (nameOf img) (n ∷ []) ds x) ∙ kind-orElse (earliest (nameOf img) (n ∷ []) x) (earliest (nameOf img) ds x) (kind-own n x h) (f .novar x);
       }
 

@@ -10,7 +10,7 @@ use Rattle.table.specs.State.{Exit}
 use Rattle.scopes.specs.Resolve.{Outcome, testTable, walked, outcomeOf, resolve}
 use Rattle.scopes.specs.Twice.{declaredTwice}
 use Rattle.scopes.specs.Walk.{Listed, done, twice}
-use Rattle.ordered.proofs.Bools.{true-not-false}
+use Rattle.ast.proofs.Bools.{true-not-false}
 
 -- "twice" is given exactly if some module or model list declares one name twice
 abbrev pub TwiceExactly : List ℕ → List ℕ → Type 0

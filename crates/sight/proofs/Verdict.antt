@@ -19,7 +19,7 @@ use Rattle.ast.proofs.Formed.{Child, Items, Formed, FormedBlocks, FormedField, 
 use Rattle.ast.proofs.Unfold.{All, nil, cons, All-append, All-split, All-map, numbers-append, numbers-ones, kids-below, treeAt-is}
 use Rattle.ast.proofs.Shapes.{termKinds, headKinds}
 use Rattle.ast.proofs.Vars.{PlainVar, named, wildcard, Each, AfterFirst, PlainAt, every-kind, vars-at, and-both}
-use Rattle.ordered.proofs.Bools.{is-false}
+use Rattle.ast.proofs.Bools.{is-false}
 use Rattle.sight.proofs.Steps.{IdentOnly, VarTerm, VarTerms, Idents, Body, Bodies, Members, Defines}
 use Rattle.sight.proofs.Lists.{NoVar, Decl, Decls}
 

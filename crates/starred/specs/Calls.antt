@@ -15,10 +15,10 @@ use Rattle.table.specs.State.{childScope, ownSymbol, introduce, marked, unmarke
 use Rattle.ordered.specs.Walk.{walkIdent, headRole, walkArg, walk, walkSeq, walkFirst}
 use Rattle.scopes.specs.Walk.{recorded, recordedAll, enterName, andThen, enterNames, markAll, enterAll, visit, visitAll, resolveTree}
 use Rattle.scopes.specs.Resolve.{testTable, zeroed, walked, headed, outcomeOf, resolve}
-use Rattle.table.specs.Sound.{hasName, isSymbol, parentBelow, rowSound, testSound}
-use Rattle.names.specs.Number.{numberFrom, numberOf}
+use Rattle.sound.specs.Sound.{hasName, isSymbol, parentBelow, rowSound, testSound}
 use Rattle.scopes.specs.Lookup.{testLookup, symbolAnswer, foundBy, lookupCall}
 use Rattle.rows.specs.Rows.{lefts, rights, filled, written, when}
+use Rattle.names.specs.Number.{numberFrom, numberOf}
 use Rattle.scopes.specs.Rows.{testRows}
 use Rattle.scopes.specs.Twice.{among, repeats, someRepeats, declaredTwice}
 use Rattle.bindings.specs.Errors.{sameNode, introduces, introducedRow, definedRow, definedRows, argRow, argRows, listRows, isCtor, appRows, patternRows, plainRows, argsOf, repeated, repeatedIn, repeatedTo, strictFrom, strictRows, isStrict, errorRows, testErrors, errorsOf, errors, rowsOf, rowsSeq, rowsFirst, rowsDefined, declRows, declsRows}

@@ -2,7 +2,6 @@ use mathlib.Core.Path.{_≡_, refl, sym, ap, subst, _∙_}
 use native.Mathlib.Omega.{arith}
 use Prim.Native.Nat.{ℕ, _+_, _*_, _-_, _≤_}
 use lib.ListN.{length}
-use Rattle.occurrences.specs.Collect.{sought}
 use Rattle.occurrences.proofs.CollectRules.{declared, decl-none, modelRun}
 use Rattle.occurrences.proofs.CollectLone.{searched-as, searched-nothing, ChecksLeft, checks-start, checks-item, checks-scratch, checks-next, checks-found, checks-end}
 use Prim.Native.Nat.{_<_}
@@ -20,6 +19,7 @@ use Rattle.occurrences.proofs.check_rule.Reads as check-rule-reads
 use Rattle.occurrences.proofs.+check_decl+check_decls.{statement}
 use Rattle.occurrences.proofs.+check_decl+check_decls.Tie.{close}
 use borrow.Author.Needs.{needs}
+use Rattle.table.specs.Values.{sought}
 
 abbrev μ-check-decl : Measures 4 check-decl-kinds.ps ℕ
 μ-check-decl κs a = 2 * a .1 .1 .1 .1 .1 .0 .0

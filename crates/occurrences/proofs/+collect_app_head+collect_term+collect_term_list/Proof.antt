@@ -6,7 +6,7 @@ use Rattle.ast.specs.Kinds.{kindOf}
 use Rattle.ast.proofs.Shapes.{term-last, head-last}
 use Rattle.rows.proofs.Appends.{appended-next}
 use Rattle.rows.proofs.Parts.{appended-no, Left, left-start, left-next, left-end}
-use Rattle.occurrences.specs.Collect.{sought, rowsIn, rowsAt}
+use Rattle.occurrences.specs.Collect.{rowsIn, rowsAt}
 use Rattle.occurrences.proofs.CollectRows.{bare, items-none}
 use Rattle.occurrences.proofs.CollectSteps.{appended-as, term-ident, term-app, term-comp, term-inner, term-wild, head-ident, head-member, head-term, listRun, item}
 use Prim.Native.Nat.{ℕ, _<_}
@@ -27,6 +27,7 @@ use Rattle.occurrences.proofs.collect_ident.Reads as collect-ident-read
 use Rattle.occurrences.proofs.+collect_app_head+collect_term+collect_term_list.{statement}
 use Rattle.occurrences.proofs.+collect_app_head+collect_term+collect_term_list.Tie.{close}
 use borrow.Author.Needs.{needs}
+use Rattle.table.specs.Values.{sought}
 
 abbrev μ-collect-app-head : Measures 3 collect-app-head-kinds.ps ℕ
 μ-collect-app-head κs a = a .1 .1 .1 .1 .1 .0 .0

@@ -6,7 +6,7 @@ use Rattle.ast.specs.Kinds.{inner, plain, kindOf}
 use Rattle.ast.proofs.Shapes.{case-last}
 use Rattle.rows.proofs.Appends.{appended-next}
 use Rattle.rows.proofs.Parts.{Left, left-start, left-next, left-end}
-use Rattle.occurrences.specs.Collect.{sought, rowsIn, rowsAt}
+use Rattle.occurrences.specs.Collect.{rowsIn, rowsAt}
 use Rattle.occurrences.proofs.CollectRows.{bare, items-none}
 use Rattle.occurrences.proofs.CollectSteps.{appended-as, under, one, plain-sub, stmtKinds, item, run-start, matchCase, matchOf, BlocksLeft, blocks-start, blocks-place, blockOf, blocks-end}
 use Prim.Native.Nat.{ℕ, _<_}
@@ -35,6 +35,7 @@ use Rattle.occurrences.proofs.collect_then_atom.Reads as collect-then-a
 use Rattle.occurrences.proofs.+collect_branch+collect_case+collect_match+collect_stmt+collect_stmts.{statement}
 use Rattle.occurrences.proofs.+collect_branch+collect_case+collect_match+collect_stmt+collect_stmts.Tie.{close}
 use borrow.Author.Needs.{needs}
+use Rattle.table.specs.Values.{sought}
 
 abbrev μ-collect-branch : Measures 3 collect-branch-kinds.ps ℕ
 μ-collect-branch κs a = 3 * a .1 .1 .1 .1 .1 .0 .0 + 2

@@ -3,7 +3,7 @@ use native.Mathlib.Omega.{arith}
 use Prim.Native.Nat.{ℕ, _+_, _*_, _-_, _≤_}
 use Rattle.ast.specs.Image.{nodes}
 use Rattle.rows.proofs.Parts.{Left, appended-no}
-use Rattle.occurrences.specs.Collect.{sought, joined, listsAt}
+use Rattle.occurrences.specs.Collect.{joined, listsAt}
 use Rattle.occurrences.proofs.CollectRules.{declared, decl-none, modelRun, decls-start, decls-item, decls-next, decls-end}
 use Rattle.occurrences.proofs.CollectSteps.{appended-as}
 use Prim.Native.Nat.{_<_}
@@ -21,6 +21,7 @@ use Rattle.occurrences.proofs.collect_rule.Reads as collect-rule-reads
 use Rattle.occurrences.proofs.+collect_decl+collect_decls.{statement}
 use Rattle.occurrences.proofs.+collect_decl+collect_decls.Tie.{close}
 use borrow.Author.Needs.{needs}
+use Rattle.table.specs.Values.{sought}
 
 abbrev μ-collect-decl : Measures 3 collect-decl-kinds.ps ℕ
 μ-collect-decl κs a = 2 * a .1 .1 .1 .1 .1 .0 .0
