@@ -11,10 +11,7 @@ pub mod RowNames
 pub mod Acceptance
 pub mod Words
 pub mod Scans
-pub mod Fields
-pub mod Parts
 pub mod Runs
-pub mod Whole
-pub mod Names
 pub mod Kids
+pub mod Declarations
 pub mod Bools

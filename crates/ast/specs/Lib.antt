@@ -7,7 +7,6 @@ pub mod Location
 pub mod Is
 pub mod Tests
 pub mod Scan
-pub mod Parts
-pub mod Names
 pub mod Answer
+pub mod Declarations
 pub mod Rules

@@ -3,7 +3,7 @@ use mathlib.Core.Path.{_≡_}
 use mathlib.Core.List.{List, [], _∷_}
 use Prim.Native.Nat.{ℕ, zero, suc, _+_, _-_, _*_, _<_, _≤_}
 use lib.ListN.{length, getD, set}
-use Rattle.ast.specs.Image.{nodes, operands, names, bytes}
+use Rattle.ast.specs.Image.{nodes, operands, names, bytes, nameStart, nameEnd}
 use Rattle.ast.specs.Kinds.{Field}
 use Rattle.ast.specs.Rows.{numbers, after, afterFields, fieldKids, fieldsKids, rowEnd, kids}
 use Rattle.ast.specs.Tests.{testField, testFields, testNode}
@@ -25,6 +25,11 @@ pub record Within (img : List ℕ) (s : Sizes) : Type 0 where
   pub called : s .names ≤ 1024
   pub long : s .bytes ≤ 8192
   pub exact : length img ≡ 16 + 8 * s .nodes + 4 * s .operands + 4 * s .names + s .bytes
+
+-- name ends rise strictly from above 0, and the last is B
+pub record Rises (img : List ℕ) : Type 0 where
+  pub rises : (i : ℕ) → i < names img → nameStart img i < nameEnd img i
+  pub ends : nameStart img (names img) ≡ bytes img
 
 -- p is a place where a test in the row of the node n may stand
 pub record Place (img : List ℕ) (s : Sizes) (n p : ℕ) : Type 0 where

@@ -19,7 +19,8 @@ use Rattle.table.specs.Table.{Table}
 use Rattle.table.specs.Rows.{Sorted}
 use Rattle.rows.specs.Rows.{Row, Appended}
 use Rattle.rows.proofs.Parts.{Left, left-room}
-use Rattle.bindings.specs.Errors.{asked, introducedRow, rowsOf, rowsSeq}
+use Rattle.bindings.specs.Errors.{introducedRow, rowsOf, rowsSeq}
+use Rattle.error.specs.Kinds.{asked}
 use Rattle.bindings.specs.Checks.{Room, inside, listed}
 use Rattle.bindings.proofs.RowLaws.{rowsAt, plain-rows, term-rows, ident-rows, member-rows, receiver-rows, head-ident, head-other, one-inside, two-inside, case-inside, list-inside}
 use Rattle.bindings.proofs.Quiet.{quiet}

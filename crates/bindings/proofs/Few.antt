@@ -21,9 +21,9 @@ use Rattle.ast.proofs.Shapes.{row as fields-of}
 use Rattle.ast.proofs.Count.{nodesOf, sumOf, sumTo, is-same, is-other, times-sum, times-append, sumTo-add, sumTo-ones, whole, once, nothing-else}
 use Rattle.scopes.specs.Twice.{among}
 use Rattle.table.specs.Table.{Table}
-use Rattle.rows.specs.Rows.{Row, row, rights}
+use Rattle.rows.specs.Rows.{Row, row, rights, when}
 use Rattle.ast.proofs.Bools.{false-true}
-use Rattle.bindings.specs.Errors.{when, argsOf, repeated, repeatedIn, repeatedTo, strictFrom, strictRows, isStrict, plainRows, errorRows}
+use Rattle.bindings.specs.Errors.{argsOf, repeated, repeatedIn, repeatedTo, strictFrom, strictRows, isStrict, plainRows, errorRows}
 use Rattle.bindings.specs.Places.{Unnamed, Repeated}
 use Rattle.bindings.proofs.Leaves.{when-true}
 use Rattle.bindings.proofs.Reached.{ops-mem}

@@ -6,8 +6,8 @@ use mathlib.Core.List.{List, [], _∷_}
 use Prim.Native.Nat.{ℕ, _+_, _<_, _^_}
 use lib.ListN.{length}
 use Rattle.table.specs.Table.{Table, atEntry, atExit, isVar}
-use Rattle.rows.specs.Rows.{Row, row}
-use Rattle.bindings.specs.Errors.{when, sameNode, introduces, introducedRow}
+use Rattle.rows.specs.Rows.{Row, row, when}
+use Rattle.bindings.specs.Errors.{sameNode, introduces, introducedRow}
 
 module _ (img : List ℕ) (t : Table) (n i : ℕ) where
   -- introduces, by what lookup gives at the exit

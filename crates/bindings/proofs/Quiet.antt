@@ -20,7 +20,8 @@ use Rattle.ast.proofs.Vars.{every-kind, Each, and-both}
 use Rattle.table.specs.Table.{Table}
 use Rattle.rows.specs.Rows.{Row}
 use Rattle.ast.proofs.Bools.{not-or, is-false}
-use Rattle.bindings.specs.Errors.{asked, introducedRow, rowsOf, rowsSeq, rowsFirst}
+use Rattle.bindings.specs.Errors.{introducedRow, rowsOf, rowsSeq, rowsFirst}
+use Rattle.error.specs.Kinds.{asked}
 
 -- the kinds from Term to IfAtom, the atoms but DefinedThenAtom, and IfStmt
 abbrev quietKind : ℕ → Bool

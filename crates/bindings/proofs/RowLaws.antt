@@ -15,8 +15,9 @@ use Rattle.ast.specs.Items.{items, blocks, below}
 use Rattle.ast.proofs.Row.{append-none, Child, FormedFields, append, next, shapes, allKids, nodeOf}
 use Rattle.ast.proofs.Shapes.{row as fields-of, tree-of, child-is, case-kids, case-one, case-child, case-last, term-last, termKinds, headKinds}
 use Rattle.table.specs.Table.{Table, isKind, isVar, atEntry, atExit}
-use Rattle.rows.specs.Rows.{Row, row}
-use Rattle.bindings.specs.Errors.{when, asked, introducedRow, argRow, isCtor, appRows, listRows, argRows, definedRow, definedRows, patternRows, rowsOf, rowsSeq, rowsDefined, declRows, declsRows}
+use Rattle.rows.specs.Rows.{Row, row, when}
+use Rattle.bindings.specs.Errors.{introducedRow, argRow, isCtor, appRows, listRows, argRows, definedRow, definedRows, patternRows, rowsOf, rowsSeq, rowsDefined, declRows, declsRows}
+use Rattle.error.specs.Kinds.{asked}
 use Rattle.bindings.specs.Checks.{inside, listed, declared, ofPattern, ofArgs}
 
 -- the kinds of the children of a Decl's cases

@@ -15,8 +15,9 @@ use Rattle.ast.specs.Tests.{verdict}
 use Rattle.ast.specs.Tree.{treeAt}
 use Rattle.ast.specs.Items.{items}
 use Rattle.table.specs.Table.{Table}
-use Rattle.rows.specs.Rows.{Row, row}
-use Rattle.bindings.specs.Errors.{when, asked, argRow, argRows, plainRows}
+use Rattle.rows.specs.Rows.{Row, row, when}
+use Rattle.bindings.specs.Errors.{argRow, argRows, plainRows}
+use Rattle.error.specs.Kinds.{asked}
 use Rattle.bindings.specs.Places.{Node, Introduced, NotNew, NotFresh}
 use Rattle.bindings.proofs.Leaves.{when-true, introduced-is}
 use Rattle.bindings.proofs.RowLaws.{plain-rows, term-rows, case-rows, defined-some, defined-ident, arg-ident, args-inside, ctor-ident}

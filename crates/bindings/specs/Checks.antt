@@ -12,7 +12,7 @@ use Rattle.ast.specs.Tree.{treeAt}
 use Rattle.ast.specs.Items.{items, below}
 use Rattle.table.specs.Table.{Table}
 use Rattle.table.specs.Rows.{Sorted}
-use Rattle.rows.specs.Rows.{Row, rowsLength, written}
+use Rattle.rows.specs.Rows.{Row, rowsLength}
 use Rattle.bindings.specs.Errors.{rowsSeq, patternRows, argRows, declsRows, repeated, repeatedTo, strictRows, isStrict}
 
 -- the symbol rows of the table stand by rising scope, and the count has room for the rows l
@@ -85,8 +85,3 @@ pub record Filled (img : List ℕ) (t : Table) (rows : List ℕ) : Type 0 where
   pub accepted : verdict img ≡ 0
   pub rising : Sorted (nodes img) (t .symbols) (t .words)
   pub long : rowsLength (nodes img) ≤ length rows
-
--- the rows l are written, and their count is handed back
-pub record Wrote (N : ℕ) (l : List Row) (old : List ℕ) (r : ℕ) (new : List ℕ) : Type 0 where
-  pub count : r ≡ length l
-  pub words : new ≡ written N l old

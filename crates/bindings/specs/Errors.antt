@@ -10,32 +10,17 @@ use Rattle.ast.specs.Kinds.{Class, outer, inner, root, decl, signature, rule, e
 use Rattle.ast.specs.Tests.{_▸_, need}
 use Rattle.ast.specs.Tree.{Tree, node, block, Trees, none, _◂_, treeAt}
 use Rattle.ast.specs.Rows.{opsFrom}
-use Rattle.ast.specs.Answer.{Answer, refused, twice as twiceAnswer, result}
-use Rattle.error.specs.Kinds.{introducedInThen, definedNotNew, patternNotFresh, repeatedArgument}
+use Rattle.error.specs.Kinds.{introducedInThen, definedNotNew, patternNotFresh, repeatedArgument, asked}
 use Rattle.table.specs.Table.{Table, isKind, isVar, atEntry, atExit}
-use Rattle.table.specs.State.{Exit}
-use Rattle.scopes.specs.Walk.{Listed, done, twice}
-use Rattle.scopes.specs.Resolve.{zeroed, walked, headed}
+use Rattle.rows.specs.Rows.{Row, row}
 use Rattle.scopes.specs.Twice.{among}
-use Rattle.rows.specs.Rows.{Row, row, written}
-use Rattle.scopes.specs.Rows.{testRows, Outcome}
-
-unfoldable pub when : Bool → Row → List Row
-when true w = w ∷ []
-when false w = []
+use Rattle.scopes.specs.Calls.{testRows, RowsOutcome, rowsCall}
+use Rattle.rows.specs.Rows.{when}
 
 unfoldable pub sameNode : Option ℕ → Option ℕ → Bool
 sameNode nothing o = false
 sameNode (some a) nothing = false
 sameNode (some a) (some b) = eqb a b
-
--- below a then-atom rows of number 1 are asked for, and not below Dom, Cod or a predicate's receiver
-unfoldable pub asked : ℕ → Bool → Bool
-asked k a =
-    elim (eqb k 29) [
-      | true ↦ true
-      | false ↦ elim (eqb k 18 || (eqb k 19 || eqb k 26)) [ true ↦ false | false ↦ a ]
-    ]
 
 module _ (img : List ℕ) (t : Table) where
   -- the term n, of the IdentTerm i, introduces its name: it is a Var at the exit, and not that one at the entry
@@ -208,21 +193,8 @@ module _ (img : List ℕ) where
 
   -- the refusals: 1 to 15
   unfoldable pub testErrors : List ℕ → List ℕ → ℕ → ℕ
-  unfolding testRows
   testErrors tab rows mode = testRows img tab rows ▸ need 15 (leb mode 2)
 
-  unfoldable pub errorsOf : List ℕ → List ℕ → ℕ → Listed → Outcome
-  unfolding errorRows headed zeroed written
-  errorsOf tab rows mode (done e) =
-      let l = errorRows (e .table) mode in
-      record { answer = result 0 (length l); table = headed img (e .table); rows = written (nodes img) l rows }
-  errorsOf tab rows mode (twice x a b) = record { answer = twiceAnswer x a b; table = zeroed img tab; rows = rows }
-
   -- document 01's Errors
-  unfoldable pub errors : List ℕ → List ℕ → ℕ → Outcome
-  unfolding testErrors errorsOf walked
-  errors tab rows mode =
-      elim (testErrors tab rows mode) [
-        | zero ↦ errorsOf tab rows mode (walked img tab)
-        | suc r ↦ record { answer = refused (suc r); table = tab; rows = rows }
-      ]
+  unfoldable pub errors : List ℕ → List ℕ → ℕ → RowsOutcome
+  errors tab rows mode = rowsCall img tab rows (testErrors tab rows mode) (λ t. errorRows t mode)

@@ -1,4 +1,3 @@
 pub mod Errors
 pub mod Checks
 pub mod Places
-pub mod Answers

@@ -14,10 +14,11 @@ use Rattle.ast.specs.Tests.{need, verdict}
 use Rattle.ast.proofs.Accepted.{both, needed, ran, sized}
 use Rattle.rows.specs.Rows.{Row}
 use Rattle.table.specs.Rows.{nodeAt}
-use Rattle.table.specs.Sound.{symbolsIn, scopesIn, parentBelow, rowSound, testSound}
+use Rattle.sound.specs.Sound.{symbolsIn, scopesIn, parentBelow, rowSound, testSound}
 use Rattle.table.specs.State.{Exit}
 use Rattle.table.specs.Table.{symbolOf, lookup}
-use Rattle.scopes.specs.Lookup.{numberOf, testLookup, symbolAnswer, foundBy, lookupCall}
+use Rattle.scopes.specs.Lookup.{testLookup, symbolAnswer, foundBy, lookupCall}
+use Rattle.names.specs.Number.{numberOf}
 use Rattle.scopes.specs.Resolve.{testTable, walked, resolve}
 use Rattle.scopes.specs.Resolve as resolving
 use Rattle.scopes.specs.Rows.{testRows, Outcome}

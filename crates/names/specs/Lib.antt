@@ -1,1 +1,3 @@
+pub mod Names
 pub mod Name
+pub mod Number

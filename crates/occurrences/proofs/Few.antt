@@ -8,6 +8,7 @@ use native.Mathlib.Omega.{arith}
 use native.Mathlib.Decide.{decLt}
 use lib.Dec.{eqb, leb}
 use lib.ListN.{length, length-append}
+use Rattle.ast.specs.Declarations.{orElse}
 use Rattle.ast.specs.Image.{nodes, kindAt, nameOf, last}
 use Rattle.ast.specs.Kinds.{outer, inner, root, decl, signature, rule, enum, model, plain, term, ident, head, headMember, member, case, ifVar, definedThen, arg}
 use Rattle.ast.specs.Tests.{times, verdict}
@@ -18,7 +19,7 @@ use Rattle.ast.proofs.Unfold.{All, nil, cons, All-append, All-split}
 use Rattle.table.specs.Table.{Table, lookup, exitAt}
 use Rattle.rows.specs.Rows.{Row, row}
 use Rattle.occurrences.specs.Spots.{Spot, spots, spotsSeq, spotsBack, spotsFirst, ruleSpots}
-use Rattle.ast.specs.Rules.{Rule, orElse, saysAll, rules, rulesAll, rulesOf, moduleRules}
+use Rattle.ast.specs.Rules.{Rule, saysAll, rules, rulesAll, rulesOf, moduleRules}
 use Rattle.occurrences.specs.Occurrences.{found, listed, rowsFor, ruleRows, allRows, occurrenceRows, loneIn, lone, rowsByRule, timesBound}
 use Rattle.occurrences.specs.Collect.{Nodes}
 use Rattle.occurrences.proofs.CollectLone.{climb-low}

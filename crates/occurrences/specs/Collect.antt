@@ -84,11 +84,6 @@ pub record Whole (img : List ℕ) (t : Table) : Type 0 where
   pub sorted : Sorted (nodes img) (t .symbols) (t .words)
   pub few : length (occurrenceRows img t) ≤ nodes img
 
--- the c rows from the i-th on, as the words have them
-unfoldable pub readRows : (N : ℕ) → List ℕ → (c i : ℕ) → List Row
-readRows N ws zero i = []
-readRows N ws (suc c) i = row (getD ws (1 + i) 0) (getD ws (1 + N + i) 0) ∷ readRows N ws c (i + 1)
-
 -- the first row whose binding is counted under two times
 unfoldable pub under : List ℕ → List Row → Option Row
 under us [] = nothing

@@ -56,7 +56,7 @@ pub fn walk_names(image: &[u8], table: &mut [u32], at: Walked, node: NodeId) -> 
     w
 }
 
-// A term, whose last place is its own.
+// A term: what it holds, then its own two places.
 pub fn walk_term(image: &[u8], table: &mut [u32], at: Walked, term: NodeId) -> Walked
     requires { ⌜ Ready (now image) (kindOf 12) (term .0) (exitOf at (now table)) ⌝ }
     ensures { λ r. ⌜ exitOf r (now (table .exit)) ≡ over (now (image .entry)) (term .0) (exitOf at (now (table .entry))) ⌝ }

@@ -5,7 +5,8 @@ use mathlib.Core.List.{List, [], _∷_}
 use mathlib.Core.Option.{Option, none as nothing, some}
 use Prim.Native.Nat.{ℕ, zero, suc, _+_, _<_, _≤_}
 use native.Mathlib.Omega.{arith}
-use lib.ListN.{length}
+use lib.ListN.{length, length-append}
+use Rattle.ast.specs.Declarations.{ruleNode, declared, declaredAll}
 use Rattle.ast.specs.Image.{nodes, nameOf}
 use Rattle.ast.specs.Kinds.{outer, inner, root, decl, signature, rule, enum, model}
 use Rattle.ast.specs.Tree.{Tree, node, block, Trees, none, _◂_, size, sizes}
@@ -22,8 +23,14 @@ use Rattle.ordered.proofs.Size.{seq-within}
 use Rattle.scopes.specs.Walk.{Listed, done, twice, enterName, enterRule, andThen, enter, enterAll, visit, visitAll}
 use Rattle.scopes.specs.Lists.{ent, ents, vis, viss, Fits}
 
+rule-one : (sh : List ℕ) (n : ℕ) → length (ruleNode sh n) ≤ 1
+unfolding ruleNode
+rule-one [] n = omega arith
+rule-one (zero ∷ sh) n = omega arith
+rule-one (suc c ∷ sh) n = omega arith
+
 mutual
-  unfolding vis ent size
+  unfolding vis declared size
 
   pub adds : (u : Tree) → ent u + vis u ≤ size u
   adds (block ts) = omega arith
@@ -31,13 +38,13 @@ mutual
   adds (node n k (outer root) sh ts) = omega arith
   adds (node n k (outer decl) sh ts) = let h = addss ts in omega arith
   adds (node n k (outer signature) sh ts) = omega arith
-  adds (node n k (outer rule) sh ts) = omega arith
+  adds (node n k (outer rule) sh ts) = let h = rule-one sh n in omega arith
   adds (node n k (outer enum) sh ts) = let h = addss ts in omega arith
   adds (node n k (outer model) sh ts) = let h = addss ts in omega arith
 
   pub addss : (us : Trees) → ents us + viss us ≤ sizes us
   addss none = omega arith
-  addss (u ◂ us) = let h = adds u in let k = addss us in omega arith
+  addss (u ◂ us) = let h = adds u in let k = addss us in let q = length-append (declared u) (declaredAll us) in omega arith
 
 -- what a walk keeps of its table
 abbrev pub KeptAt : List ℕ → Exit → Type 0
@@ -152,10 +159,10 @@ module _ (img : List ℕ) where
   unfolding enterName named
   name-in n e = named-in n e (find img (e .table) (e .scope) (nameOf img n))
 
-  rule-in : (sh : List ℕ) (n : ℕ) (e : Exit) → In img (Newest img) 0 1 e (enterRule img sh n e)
-  unfolding enterRule
-  rule-in [] n e = wide (omega arith) (omega arith) (stay e)
-  rule-in (zero ∷ sh) n e = wide (omega arith) (omega arith) (stay e)
+  rule-in : (sh : List ℕ) (n : ℕ) (e : Exit) → In img (Newest img) 0 (length (ruleNode sh n)) e (enterRule img sh n e)
+  unfolding enterRule ruleNode
+  rule-in [] n e = stay e
+  rule-in (zero ∷ sh) n e = stay e
   rule-in (suc c ∷ sh) n e = name-in n e
 
   -- marks change no count and no row
@@ -178,7 +185,7 @@ module _ (img : List ℕ) where
       }
 
   mutual
-    unfolding enter ent Small
+    unfolding enter declared Small
 
     pub enter-in : (u : Tree) → Small (nodes img) u → (e : Exit) → In img (Newest img) 0 (ent u) e (enter img u e)
     enter-in (block ts) q e = stay e
@@ -188,12 +195,15 @@ module _ (img : List ℕ) where
     enter-in (node n k (outer signature) sh ts) q e = from-marked (q .0) (e .scope) e (name-in n (marked img n (e .scope) e))
     enter-in (node n k (outer rule) sh ts) q e = from-marked (q .0) (e .scope) e (rule-in sh n (marked img n (e .scope) e))
     enter-in (node n k (outer enum) sh ts) q e =
-        from-marked (q .0) (e .scope) e (and-in (enterName img n (marked img n (e .scope) e)) (enterAll img ts) (name-in n (marked img n (e .scope) e)) (λ f. enterAll-in ts (q .1) f))
+        from-marked (q .0) (e .scope) e
+        (wide (omega arith) (omega arith) (and-in (enterName img n (marked img n (e .scope) e)) (enterAll img ts) (name-in n (marked img n (e .scope) e)) (λ f. enterAll-in ts (q .1) f)))
     enter-in (node n k (outer model) sh ts) q e = name-in n e
 
     pub enterAll-in : (us : Trees) → Smalls (nodes img) us → (e : Exit) → In img (Newest img) 0 (ents us) e (enterAll img us e)
     enterAll-in none q e = stay e
-    enterAll-in (u ◂ us) q e = and-in (enter img u e) (enterAll img us) (enter-in u (q .0) e) (λ f. enterAll-in us (q .1) f)
+    enterAll-in (u ◂ us) q e =
+        wide (omega arith) (let z = length-append (declared u) (declaredAll us) in omega arith)
+        (and-in (enter img u e) (enterAll img us) (enter-in u (q .0) e) (λ f. enterAll-in us (q .1) f))
 
   walked-in : (ts : Trees) → Smalls (nodes img) ts → (e : Exit) → Went img (KeptAt img) (sizes ts) (sizes ts) e (back img (e .scope) (walkSeq img occurs ts e))
   walked-in ts q e =

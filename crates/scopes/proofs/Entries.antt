@@ -7,8 +7,9 @@ use Prim.Native.Nat.{ℕ, zero, suc, _+_, _-_, _<_, _≤_}
 use native.Mathlib.Omega.{arith}
 use native.Mathlib.Nat.{sub-zero, add-zero}
 use lib.Dec.{eqb}
-use lib.ListN.{length, getD, set, drop}
+use lib.ListN.{length, getD, set, drop, length-append}
 use lib.Seq.{getD-set-same}
+use Rattle.ast.specs.Declarations.{ruleNode, declared, declaredAll}
 use Rattle.ast.specs.Image.{nodes, kindAt, field, nameOf}
 use Rattle.ast.specs.Is.{Is, kindBy}
 use Rattle.ast.specs.Items.{items, below}
@@ -159,46 +160,44 @@ module _ (img : List ℕ) where
   signed is = record { accepted = is .accepted; below = is .below; class = ap (λ (k : Kind). k .class) (is .kind) }
 
   pub sig-enter : {n : ℕ} (e : Exit) → Signature img n → (enter img (treeAt img n) e ≡ enterName img n (marked img n (e .scope) e)) × (ent (treeAt img n) ≡ 1)
-  unfolding enter ent nodeOf
+  unfolding enter declared nodeOf
   sig-enter {n} e s =
       let is : Is img (kindBy (outer signature) ((kindOf (kindAt img n)) .fields)) n = record { accepted = s .accepted; below = s .below; kind = ap (λ (c : Class). kindBy c ((kindOf (kindAt img n)) .fields)) (s .class) } in
       subst (λ (u : Tree). (enter img u e ≡ enterName img n (marked img n (e .scope) e)) × (ent u ≡ 1)) (sym (tree-of img is)) (refl, refl)
 
   pub model-enter : {n : ℕ} (e : Exit) → Is img (kindOf 8) n → (enter img (treeAt img n) e ≡ enterName img n e) × (ent (treeAt img n) ≡ 1)
-  unfolding enter ent nodeOf kindOf
+  unfolding enter declared nodeOf kindOf
   model-enter {n} e is = subst (λ (u : Tree). (enter img u e ≡ enterName img n e) × (ent u ≡ 1)) (sym (tree-of img is)) (refl, refl)
 
-  ruled : ℕ → ℕ → Exit → Listed
-  ruled n x e = enterRule img (elim x [ zero ↦ 0 | suc m ↦ 1 ] ∷ field img n 1 ∷ []) n e
+  -- the shape of a rule's row, by the word of its name
+  abbrev ruleShape : ℕ → ℕ → List ℕ
+  ruleShape n x = elim x [ zero ↦ 0 | suc m ↦ 1 ] ∷ field img n 1 ∷ []
 
-  rule-enter : {n : ℕ} (e : Exit) → Is img (kindOf 6) n → (enter img (treeAt img n) e ≡ ruled n (field img n 0) (marked img n (e .scope) e)) × (ent (treeAt img n) ≡ 1)
-  unfolding enter ent nodeOf kindOf ruled
-  rule-enter {n} e is = subst (λ (u : Tree). (enter img u e ≡ ruled n (field img n 0) (marked img n (e .scope) e)) × (ent u ≡ 1)) (sym (tree-of img is)) (refl, refl)
-
-  ruled-none : (n : ℕ) (e : Exit) → ruled n 0 e ≡ done e
-  unfolding ruled enterRule
-  ruled-none n e = refl
-
-  ruled-some : (n m : ℕ) (e : Exit) → ruled n (suc m) e ≡ enterName img n e
-  unfolding ruled enterRule
-  ruled-some n m e = refl
+  rule-enter : {n : ℕ} (e : Exit) → Is img (kindOf 6) n
+      → (enter img (treeAt img n) e ≡ enterRule img (ruleShape n (field img n 0)) n (marked img n (e .scope) e)) × (declared (treeAt img n) ≡ ruleNode (ruleShape n (field img n 0)) n)
+  unfolding enter declared nodeOf kindOf
+  rule-enter {n} e is =
+      subst (λ (u : Tree). (enter img u e ≡ enterRule img (ruleShape n (field img n 0)) n (marked img n (e .scope) e)) × (declared u ≡ ruleNode (ruleShape n (field img n 0)) n))
+      (sym (tree-of img is)) (refl, refl)
 
   pub rule-unnamed : {n : ℕ} (e : Exit) → Is img (kindOf 6) n → field img n 0 ≡ 0 → enter img (treeAt img n) e ≡ done (marked img n (e .scope) e)
-  rule-unnamed {n} e is z = (rule-enter e is) .0 ∙ ap (λ (x : ℕ). ruled n x (marked img n (e .scope) e)) z ∙ ruled-none n _
+  unfolding enterRule
+  rule-unnamed {n} e is z = (rule-enter e is) .0 ∙ ap (λ (x : ℕ). enterRule img (ruleShape n x) n (marked img n (e .scope) e)) z
 
-  pub rule-named : {n : ℕ} (e : Exit) → Is img (kindOf 6) n → (field img n 0 ≡ 0 → ⊥) → enter img (treeAt img n) e ≡ enterName img n (marked img n (e .scope) e)
-  rule-named {n} e is z = (rule-enter e is) .0 ∙ go (field img n 0) z
+  pub rule-named : {n : ℕ} (e : Exit) → Is img (kindOf 6) n → (field img n 0 ≡ 0 → ⊥) → (enter img (treeAt img n) e ≡ enterName img n (marked img n (e .scope) e)) × (ent (treeAt img n) ≡ 1)
+  unfolding enterRule ruleNode
+  rule-named {n} e is z = let r = rule-enter e is in let g = go (field img n 0) z in (r .0 ∙ g .0, ap length (r .1) ∙ g .1)
     where
-      go : (x : ℕ) → (x ≡ 0 → ⊥) → ruled n x (marked img n (e .scope) e) ≡ enterName img n (marked img n (e .scope) e)
+      go : (x : ℕ) → (x ≡ 0 → ⊥) → (enterRule img (ruleShape n x) n (marked img n (e .scope) e) ≡ enterName img n (marked img n (e .scope) e)) × (length (ruleNode (ruleShape n x) n) ≡ 1)
       go zero y = absurd (y refl)
-      go (suc m) y = ruled-some n m _
+      go (suc m) y = (refl, refl)
+
+  pub rule-entering : {seen : List ℕ} {n : ℕ} {e : Exit} → Is img (kindOf 6) n → (field img n 0 ≡ 0 → ⊥) → Entering img seen (ent (treeAt img n)) e → Entering img seen 1 e
+  rule-entering {e = e} is z p = entering-less (let q = (rule-named e is z) .1 in omega arith) p
 
   -- how many names they may add
   abbrev nowhere : Exit
   nowhere = record { scope = 0; table = record { words = []; scopes = 0; symbols = 0 } }
-
-  pub rule-ent : {n : ℕ} → Is img (kindOf 6) n → ent (treeAt img n) ≡ 1
-  rule-ent is = (rule-enter nowhere is) .1
 
   pub model-ent : {n : ℕ} → Is img (kindOf 8) n → ent (treeAt img n) ≡ 1
   model-ent is = (model-enter nowhere is) .1
@@ -231,8 +230,8 @@ module _ (img : List ℕ) where
   enter-start n j count e = ap (λ (us : Trees). enterAll img us e) (same-items n j count)
 
   ents-more : (n j count i : ℕ) → i < count → ents (items img n (count - i) (j + i)) ≡ ent (treeAt img (field img n (j + i))) + ents (items img n (count - (i + 1)) (j + (i + 1)))
-  unfolding ent
-  ents-more n j count i h = ap ents (items-more img n j count i h)
+  unfolding declared
+  ents-more n j count i h = ap ents (items-more img n j count i h) ∙ length-append (declared (treeAt img (field img n (j + i)))) (declaredAll (items img n (count - (i + 1)) (j + (i + 1))))
 
   -- a loop over the items: after i of them it stands at f
   pub record EnterLeft (seen : List ℕ) (n j count i : ℕ) (e f : Exit) : Type 0 where
@@ -293,16 +292,17 @@ module _ (img : List ℕ) where
       subst (Is img (kindBy (outer signature) (name ∷ child 11 ∷ []))) (sym q) (child-is img is h)
 
   enum-enter : {n : ℕ} (e : Exit) → Is img (kindOf 7) n
-      → (enter img (treeAt img n) e ≡ andThen img (enterName img n (marked img n (e .scope) e)) (λ f. enterAll img (append (items img n (field img n 1) 2) none) f)) × (ent (treeAt img n) ≡ 1 + ents (append (items img n (field img n 1) 2) none))
-  unfolding enter ent nodeOf kindOf
+      → (enter img (treeAt img n) e ≡ andThen img (enterName img n (marked img n (e .scope) e)) (λ f. enterAll img (append (items img n (field img n 1) 2) none) f)) × (ent (treeAt img n) ≡ suc (ents (append (items img n (field img n 1) 2) none)))
+  unfolding enter declared nodeOf kindOf
   enum-enter {n} e is =
-      subst (λ (u : Tree). (enter img u e ≡ andThen img (enterName img n (marked img n (e .scope) e)) (λ f. enterAll img (append (items img n (field img n 1) 2) none) f)) × (ent u ≡ 1 + ents (append (items img n (field img n 1) 2) none)))
+      subst (λ (u : Tree). (enter img u e ≡ andThen img (enterName img n (marked img n (e .scope) e)) (λ f. enterAll img (append (items img n (field img n 1) 2) none) f)) × (ent u ≡ suc (ents (append (items img n (field img n 1) 2) none))))
       (sym (tree-of img is)) (refl, refl)
 
   sig-ents : (n c j : ℕ) → ((i : ℕ) → i < c → Signature img (field img n (j + i))) → ents (items img n c j) ≡ c
-  unfolding ent items
+  unfolding declared items
   sig-ents n zero j h = refl
   sig-ents n (suc c) j h =
+      let l = length-append (declared (treeAt img (field img n j))) (declaredAll (items img n c (j + 1))) in
       let a : ent (treeAt img (field img n j)) ≡ 1 = (sig-enter nowhere (subst (λ (x : ℕ). Signature img (field img n x)) (add-zero j) (h 0 (omega arith)))) .1 in
       let b = sig-ents n c (j + 1) (λ i l. subst (λ (x : ℕ). Signature img (field img n x)) (let q : j + suc i ≡ j + 1 + i = omega arith in q) (h (suc i) (omega arith))) in
       omega arith
@@ -323,7 +323,7 @@ module _ (img : List ℕ) where
       ∙ ap (andThen img (enterName img n (marked img n (e .scope) e))) (fun-ext (λ f. ap (λ (us : Trees). enterAll img us f) (append-none (items img n (field img n 1) 2)) ∙ enter-start n 2 (field img n 1) f))
 
   pub enum-ent : {n : ℕ} → Is img (kindOf 7) n → ent (treeAt img n) ≡ 1 + field img n 1
-  enum-ent {n} is = (enum-enter nowhere is) .1 ∙ ap (λ (us : Trees). 1 + ents us) (append-none (items img n (field img n 1) 2)) ∙ ap (λ (x : ℕ). 1 + x) (ctor-ents is)
+  enum-ent {n} is = let a = (enum-enter nowhere is) .1 in let b = ap ents (append-none (items img n (field img n 1) 2)) in let c = ctor-ents is in omega arith
 
   pub record EnumEnter (seen : List ℕ) (n : ℕ) (e f : Exit) : Type 0 where
     pub own : Entering img seen 1 f
@@ -390,8 +390,8 @@ module _ (img : List ℕ) where
     decl-visited e = ap (λ (u : Tree). visit img u e) (o .tree) ∙ and-nothing (visit img (treeAt img d) e)
 
     pub decl-ent : ent (treeAt img n) ≡ ent (treeAt img d) + 0
-    unfolding ent
-    decl-ent = ap ent (o .tree)
+    unfolding declared
+    decl-ent = ap ent (o .tree) ∙ length-append (declared (treeAt img d)) []
 
     pub decl-vis : vis (treeAt img n) ≡ vis (treeAt img d) + 0
     unfolding vis

@@ -1,4 +1,5 @@
 pub mod Lookups
+pub mod Calls
 pub mod Adds
 pub mod Clashes
 pub mod Namings

@@ -13,15 +13,15 @@ use Rattle.ast.specs.Image.{nodes, nameOf}
 use Rattle.ast.specs.Kinds.{outer, inner, root, decl, signature, rule, enum, model}
 use Rattle.ast.specs.Tree.{Tree, node, block, Trees, none, _◂_}
 use Rattle.ast.proofs.Vars.{Everywhere, EverywhereAll}
-use Rattle.table.specs.Layout.{allOnes, tableLength}
+use Rattle.table.specs.Layout.{allOnes, parentPlace, scopePlace, nodePlace, tableLength}
 use Rattle.table.specs.Rows.{scopeOf, nodeAt, parentAt}
-use Rattle.table.specs.Sound.{isSymbol}
+use Rattle.sound.specs.Sound.{isSymbol}
 use Rattle.table.specs.State.{Exit, childScope, ownSymbol, introduce, marked, back}
 use Rattle.table.specs.Table.{find, mark, newScope, newSymbol}
-use Rattle.table.proofs.Frames.{SameRows, symbol-same, symbol-scope, symbol-node}
+use Rattle.table.proofs.Frames.{SameRows, mark-word, scope-word, symbol-word, symbol-same, symbol-scope, symbol-node}
 use Rattle.ordered.specs.Walk.{occurs, walkSeq}
 use Rattle.ordered.specs.Walkers.{Few}
-use Rattle.ordered.proofs.Kept.{mark-word, scope-word, symbol-word, mark-length, scope-length, symbol-length}
+use Rattle.ordered.proofs.Kept.{mark-length, scope-length, symbol-length}
 use Rattle.ordered.proofs.Moves.{namedBy, enters, Moves as Walks, stay as rests, next as goes, marks as records, adds as brings, drops as leaves, seq-moves as walks-seq}
 use Rattle.scopes.specs.Walk.{Listed, done, twice, enterName, enterRule, andThen, enter, enterAll, visit, visitAll}
 use Rattle.scopes.proofs.Adds.{named, done-same, twice-done, opened}
@@ -162,10 +162,10 @@ module _ (img : List ℕ) where
       record {
         long = (let z = mark-length img n a b (e .table) in let y = g .long in omega arith);
         live = g .live;
-        root = mark-word img n a b (e .table) (3 + 2 * nodes img + 0) (omega arith) (omega arith) ∙ g .root;
-        parents = λ s h k. let z = mark-word img n a b (e .table) (3 + 2 * nodes img + s) (omega arith) (omega arith) in let y = g .parents s h k in omega arith;
-        scopes = λ j k. let z = mark-word img n a b (e .table) (3 + 3 * nodes img + j) (omega arith) (omega arith) in let y = g .scopes j k in omega arith;
-        symbols = λ j k. ap (isSymbol img) (mark-word img n a b (e .table) (3 + 4 * nodes img + j) (omega arith) (omega arith)) ∙ g .symbols j k;
+        root = mark-word img n a b (e .table) (parentPlace (nodes img) 0) (omega arith) (omega arith) ∙ g .root;
+        parents = λ s h k. let z = mark-word img n a b (e .table) (parentPlace (nodes img) s) (omega arith) (omega arith) in let y = g .parents s h k in omega arith;
+        scopes = λ j k. let z = mark-word img n a b (e .table) (scopePlace (nodes img) j) (omega arith) (omega arith) in let y = g .scopes j k in omega arith;
+        symbols = λ j k. ap (isSymbol img) (mark-word img n a b (e .table) (nodePlace (nodes img) j) (omega arith) (omega arith)) ∙ g .symbols j k;
       }
 
   good-open : (e : Exit) → e .table .scopes < nodes img → e .table .symbols ≤ nodes img → Good e → Good (childScope img e)
@@ -174,10 +174,10 @@ module _ (img : List ℕ) where
       record {
         long = (let z = scope-length img (e .scope) (e .table) in let x = g .long in omega arith);
         live = omega arith;
-        root = scope-word img (e .scope) (e .table) (3 + 2 * nodes img + 0) (λ q. let z = g .live in omega arith) ∙ g .root;
+        root = scope-word img (e .scope) (e .table) (parentPlace (nodes img) 0) (λ q. let z = g .live in omega arith) ∙ g .root;
         parents = λ s l k. ⊎-elim (new s) (old s l) (eq-or-lt-of-le (let z : s ≤ e .table .scopes = omega arith in z));
-        scopes = λ j k. let z = scope-word img (e .scope) (e .table) (3 + 3 * nodes img + j) (λ q. omega arith) in let x = g .scopes j k in omega arith;
-        symbols = λ j k. ap (isSymbol img) (scope-word img (e .scope) (e .table) (3 + 4 * nodes img + j) (λ q. omega arith)) ∙ g .symbols j k;
+        scopes = λ j k. let z = scope-word img (e .scope) (e .table) (scopePlace (nodes img) j) (λ q. omega arith) in let x = g .scopes j k in omega arith;
+        symbols = λ j k. ap (isSymbol img) (scope-word img (e .scope) (e .table) (nodePlace (nodes img) j) (λ q. omega arith)) ∙ g .symbols j k;
       }
     where
       vs : List ℕ
@@ -185,12 +185,12 @@ module _ (img : List ℕ) where
 
       new : (s : ℕ) → s ≡ e .table .scopes → parentAt (nodes img) vs s < s
       new s q =
-          let z : parentAt (nodes img) vs s ≡ e .scope = ap (parentAt (nodes img) vs) q ∙ getD-set-same (e .table .words) (3 + 2 * nodes img + e .table .scopes) (e .scope) 0 (let l = g .long in omega arith) in
+          let z : parentAt (nodes img) vs s ≡ e .scope = ap (parentAt (nodes img) vs) q ∙ getD-set-same (e .table .words) (parentPlace (nodes img) (e .table .scopes)) (e .scope) 0 (let l = g .long in omega arith) in
           let l = g .live in
           omega arith
 
       old : (s : ℕ) → 1 ≤ s → s < e .table .scopes → parentAt (nodes img) vs s < s
-      old s l k = let z = scope-word img (e .scope) (e .table) (3 + 2 * nodes img + s) (λ q. omega arith) in let x = g .parents s l k in omega arith
+      old s l k = let z = scope-word img (e .scope) (e .table) (parentPlace (nodes img) s) (λ q. omega arith) in let x = g .parents s l k in omega arith
 
   good-add : (n : ℕ) (e : Exit) → isSymbol img n ≡ true → e .table .symbols < nodes img → e .table .scopes ≤ nodes img → Good e → Good (ownSymbol img n e)
   unfolding ownSymbol newSymbol
@@ -198,8 +198,8 @@ module _ (img : List ℕ) where
       record {
         long = (let z = symbol-length img (e .scope) n (e .table) in let x = g .long in omega arith);
         live = g .live;
-        root = symbol-word img (e .scope) n (e .table) (3 + 2 * nodes img + 0) (omega arith) (omega arith) ∙ g .root;
-        parents = λ s l m. let z = symbol-word img (e .scope) n (e .table) (3 + 2 * nodes img + s) (omega arith) (omega arith) in let x = g .parents s l m in omega arith;
+        root = symbol-word img (e .scope) n (e .table) (parentPlace (nodes img) 0) (omega arith) (omega arith) ∙ g .root;
+        parents = λ s l m. let z = symbol-word img (e .scope) n (e .table) (parentPlace (nodes img) s) (omega arith) (omega arith) in let x = g .parents s l m in omega arith;
         scopes = λ j l. ⊎-elim (λ q. let z = ap (scopeOf (nodes img) vs) q in let y = symbol-scope img (e .scope) n (e .table) h (g .long) in let x = g .live in omega arith) (λ m. let z = same .scopes j m in let x = g .scopes j m in omega arith) (eq-or-lt-of-le (let z : j ≤ e .table .symbols = omega arith in z));
         symbols = λ j l. ⊎-elim (λ q. ap (isSymbol img) (ap (nodeAt (nodes img) vs) q ∙ symbol-node img (e .scope) n (e .table) h (g .long)) ∙ i) (λ m. ap (isSymbol img) (same .nodes j m) ∙ g .symbols j m) (eq-or-lt-of-le (let z : j ≤ e .table .symbols = omega arith in z));
       }
@@ -208,7 +208,7 @@ module _ (img : List ℕ) where
       vs = (newSymbol img (e .scope) n (e .table)) .words
 
       same : SameRows (nodes img) (e .table .symbols) vs (e .table .words)
-      same = symbol-same img (e .scope) n (e .table) h (g .long)
+      same = symbol-same img (e .scope) n (e .table) h
 
   -- resolving keeps it, where the counts are within the arrays
   pub moves-good : {e f : Exit} → Moves e f → Few img (f .table) → Good e → Good f

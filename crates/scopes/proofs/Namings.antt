@@ -17,8 +17,8 @@ use Rattle.ast.specs.Tree.{Tree, node, block, classAt, treeAt}
 use Rattle.ast.proofs.Accepted.{formed}
 use Rattle.ast.proofs.Unfold.{treeAt-is}
 use Rattle.ast.proofs.Vars.{Everywhere, everywhere, every-kind, and-both}
-use Rattle.table.specs.Sound.{hasName, isSymbol}
-use Rattle.table.proofs.Sounds.{named-yes, symbol-out, symbol-rule, symbol-arg, symbol-var, symbol-decl}
+use Rattle.sound.specs.Sound.{hasName, isSymbol}
+use Rattle.sound.proofs.Sounds.{named-yes, symbol-out, symbol-rule, symbol-arg, symbol-var, symbol-decl}
 use Rattle.ast.proofs.Bools.{true-not-false, false-true}
 use Rattle.ordered.proofs.Moves.{namedBy, enters}
 

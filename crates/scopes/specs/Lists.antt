@@ -6,6 +6,7 @@ use mathlib.Core.List.{List}
 use Prim.Native.Nat.{ℕ, suc, _+_, _-_, _<_, _≤_}
 use lib.ListN.{length, getD, set, drop}
 use Rattle.ast.specs.Image.{nodes, kindAt, nameOf}
+use Rattle.ast.specs.Declarations.{declared, declaredAll}
 use Rattle.ast.specs.Is.{Is, Run}
 use Rattle.ast.specs.Items.{items}
 use Rattle.ast.specs.Kinds.{outer, inner, root, decl, signature, rule, enum, model, Kind, kindOf}
@@ -27,25 +28,16 @@ abbrev pub listedOf : Declared → List ℕ → Listed
 listedOf (Done w) ws = done (exitOf w ws)
 listedOf (Twice x a b) ws = twice x (a .0) (b .0)
 
--- how many symbols entering a declaration may add
-unfoldable mutual
-  pub ent : Tree → ℕ
-  ent (block ts) = 0
-  ent (node n k (inner i) sh ts) = 0
-  ent (node n k (outer root) sh ts) = 0
-  ent (node n k (outer decl) sh ts) = ents ts
-  ent (node n k (outer signature) sh ts) = 1
-  ent (node n k (outer rule) sh ts) = 1
-  ent (node n k (outer enum) sh ts) = 1 + ents ts
-  ent (node n k (outer model) sh ts) = 1
+-- how many symbols entering a declaration, or a list of them, may add
+abbrev pub ent : Tree → ℕ
+ent u = length (declared u)
 
-  pub ents : Trees → ℕ
-  ents none = 0
-  ents (t ◂ ts) = ent t + ents ts
+abbrev pub ents : Trees → ℕ
+ents us = length (declaredAll us)
 
--- how many symbols visiting it may add
+-- how many symbols visiting a declaration may add
 unfoldable mutual
-  unfolding ents sizes
+  unfolding declaredAll sizes
 
   pub vis : Tree → ℕ
   vis (block ts) = 0

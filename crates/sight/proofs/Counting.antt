@@ -6,6 +6,7 @@ use mathlib.Core.Option.{Option}
 use Prim.Native.Nat.{ℕ, _+_, _≤_, _<_}
 use native.Mathlib.Decide.{decLt}
 use native.Mathlib.Omega.{arith}
+use Rattle.ast.specs.Declarations.{orElse}
 use Rattle.ast.specs.Image.{nodes, last}
 use Rattle.ast.specs.Kinds.{outer, inner, root, decl, signature, rule, enum, model, plain, term, ident, head, headMember, member, case, ifVar, definedThen, arg}
 use Rattle.ast.specs.Tests.{is, times, verdict}
@@ -13,7 +14,7 @@ use Rattle.ast.specs.Tree.{Tree, node, block, Trees, none, _◂_, treeAt}
 use Rattle.ast.proofs.Count.{nodesOf, nodesAll, is-same, times-append, once, nothing-else}
 use Rattle.ordered.proofs.Moves.{numbers, numbersSeq}
 use Rattle.sight.specs.Sight.{In}
-use Rattle.ast.specs.Rules.{Rule, orElse, saysAll, rules, rulesAll, rulesOf, moduleRules}
+use Rattle.ast.specs.Rules.{Rule, saysAll, rules, rulesAll, rulesOf, moduleRules}
 use Rattle.sight.proofs.Members.{Distinct}
 use Rattle.sight.proofs.Lists.{entered, enteredAll, visited, visitedAll, moduleNumbers}
 use Rattle.sight.proofs.Verdict.{root-of}

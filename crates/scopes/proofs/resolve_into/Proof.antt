@@ -2,7 +2,7 @@ use mathlib.Core.Path.{ap, _∙_}
 use native.Mathlib.Omega.{arith}
 use Prim.Native.Nat.{ℕ, _+_, _*_}
 use Rattle.scopes.proofs.Resolving.{table-long}
-use Rattle.scopes.proofs.Rooting.{lent, resolved-scopes, resolved-twice}
+use Rattle.scopes.proofs.Rooting.{lent, resolved-done, resolved-twice}
 use borrow.Author.Needs.{needs}
 use Rattle.scopes.proofs.resolve_into.Statement.{statement}
 use Rattle.scopes.proofs.resolve_into.Tie as tie
@@ -41,7 +41,7 @@ same-length : tie.Need-same-length
 same-length c = search needs
 
 returns : tie.Need-returns
-returns c = resolved-scopes _ _ (c .before .before .before .before .before .before .before .before .before .before .before .before .before .before .before .before .before .before .before .pre) _ _ (ap (λ (k : ℕ). 3 + 5 * k) (c .before .before .before .before .before .before .before .before .before .before .before .before .before .before .before .wide .ensures ∙ c .before .before .before .before .before .before .before .before .before .before .before .before .before .before .before .before .node-count .ensures)) (c .before .before .before .before .before .before .before .before .before .before .before .before .before .clear .ensures) (c .before .before .before .before .before .before .before .before .before .walk-module .ensures) _ (c .before .before .before .before .before .w .given .1) (c .before .before .insert-counts .ensures)
+returns c = resolved-done _ _ (c .before .before .before .before .before .before .before .before .before .before .before .before .before .before .before .before .before .before .before .pre) _ _ (ap (λ (k : ℕ). 3 + 5 * k) (c .before .before .before .before .before .before .before .before .before .before .before .before .before .before .before .wide .ensures ∙ c .before .before .before .before .before .before .before .before .before .before .before .before .before .before .before .before .node-count .ensures)) (c .before .before .before .before .before .before .before .before .before .before .before .before .before .clear .ensures) (c .before .before .before .before .before .before .before .before .before .walk-module .ensures) _ (c .before .before .before .before .before .w .given .1) (c .before .before .insert-counts .ensures)
 
 same-length-2 : tie.Need-same-length-2
 same-length-2 c = search needs
