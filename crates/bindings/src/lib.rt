@@ -16,7 +16,7 @@ ghost use Rattle.table.specs.Values.{tableOf, optionOf};
 ghost use Rattle.rows.specs.Rows.{row, Appended, Wrote, when};
 ghost use Rattle.scopes.specs.Answers.{rowedAnswer};
 ghost use Rattle.bindings.specs.Errors.{sameNode, introduces, introducedRow, definedRow, argRow, isCtor, rowsOf, declRows, repeatedIn, repeatedTo, strictRows, errorRows, testErrors, errors};
-ghost use Rattle.bindings.specs.Checks.{Room, Ready, PlainVariable, inside, listed, declared, ofPattern, ofCase, ofArgs, marked, MarkedOne, Marks, ofMode, Filled, ReadyRun};
+ghost use Rattle.bindings.specs.Promises.{Room, Ready, PlainVariable, inside, listed, declared, ofPattern, ofCase, ofArgs, marked, MarkedOne, Marks, ofMode, Filled, ReadyRun};
 use ast::NodeId;
 use error::ErrorKind;
 use scopes::Declared;

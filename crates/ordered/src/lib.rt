@@ -11,7 +11,7 @@ ghost use Rattle.table.specs.Table as «table-spec»;
 ghost use Rattle.table.specs.Rows.{Sorted};
 ghost use Rattle.table.specs.Values.{exitOf, optionOf};
 ghost use Rattle.ordered.specs.Walk.{occurs, declares, defines, names, walk, walkSeq, walkIdent, headRole};
-ghost use Rattle.ordered.specs.Walkers.{over, inside, rest, Room, Ready, Variable, ReadyRun};
+ghost use Rattle.ordered.specs.Promises.{over, inside, rest, Room, Ready, Variable, ReadyRun};
 use ast::NodeId;
 use table::Found;
 use table::ScopeId;

@@ -21,7 +21,7 @@ use Rattle.table.proofs.Frames.{own, find-none, find-mark, find-symbol}
 use Rattle.table.proofs.Rising.{either}
 use Rattle.ordered.proofs.Kept.{mark-length}
 use Rattle.scopes.specs.Walk.{Listed, done, twice, enterName, enterRule, andThen, enter, enterAll, visit, visitAll}
-use Rattle.scopes.specs.Lists.{ent, ents, vis, viss, Fits}
+use Rattle.scopes.specs.Promises.{ent, ents, vis, viss, Fits}
 use Rattle.scopes.specs.Clash.{Clash, clashFrom, clashIn}
 use Rattle.scopes.proofs.Adds.{named, Newest, Went, done-same, twice-done, name-in, enter-in, enterAll-in, opened, opened-counts, child-newest, child-empty, visit-in, fits-next}
 
