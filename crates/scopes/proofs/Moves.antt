@@ -12,6 +12,7 @@ use lib.Seq.{getD-set-same}
 use Rattle.ast.specs.Image.{nodes, nameOf}
 use Rattle.ast.specs.Kinds.{outer, inner, root, decl, signature, rule, enum, model}
 use Rattle.ast.specs.Tree.{Tree, node, block, Trees, none, _◂_}
+use Rattle.ast.proofs.Unfold.{All, nil, cons}
 use Rattle.ast.proofs.Vars.{Everywhere, EverywhereAll}
 use Rattle.table.specs.Layout.{allOnes, parentPlace, scopePlace, nodePlace, tableLength}
 use Rattle.table.specs.Rows.{scopeOf, nodeAt, parentAt}
@@ -23,9 +24,9 @@ use Rattle.ordered.specs.Walk.{occurs, walkSeq}
 use Rattle.ordered.specs.Promises.{Few}
 use Rattle.ordered.proofs.Kept.{mark-length, scope-length, symbol-length}
 use Rattle.ordered.proofs.Moves.{namedBy, enters, Moves as Walks, stay as rests, next as goes, marks as records, adds as brings, drops as leaves, seq-moves as walks-seq}
-use Rattle.scopes.specs.Walk.{Listed, done, twice, enterName, enterRule, andThen, enter, enterAll, visit, visitAll}
-use Rattle.scopes.proofs.Adds.{named, done-same, twice-done, opened}
-use Rattle.scopes.proofs.Namings.{Fit}
+use Rattle.scopes.specs.Walk.{Listed, done, twice, recordedAll, enterName, andThen, enterNames, markAll, enterAll, visit, visitAll}
+use Rattle.scopes.proofs.Adds.{recordedAll-small, named, done-same, twice-done, opened}
+use Rattle.scopes.proofs.Namings.{Fit, Symbols, declaredAll-symbols, fit-smalls}
 
 module _ (img : List ℕ) where
   pub data Moves : Exit → Exit → Type 0 where
@@ -83,33 +84,22 @@ module _ (img : List ℕ) where
       go nothing = ends (adds n h)
       go (some first) = λ f q. absurd (twice-done (nameOf img n) first n f q)
 
-  rule-ends : (sh : List ℕ) (n : ℕ) (e : Exit) → (namedBy sh ≡ true → isSymbol img n ≡ true) → Ends e (enterRule img sh n e)
-  unfolding enterRule namedBy
-  rule-ends [] n e h = ends stay
-  rule-ends (zero ∷ sh) n e h = ends stay
-  rule-ends (suc c ∷ sh) n e h = name-ends n e (h refl)
-
   after : {e f : Exit} {l : Listed} → Moves e f → Ends f l → Ends e l
   after m n g q = next m (n g q)
 
-  mutual
-    unfolding enter Everywhere Fit enters
+  names-ends : {ns : List ℕ} → Symbols img ns → (e : Exit) → Ends e (enterNames img ns e)
+  unfolding enterNames
+  names-ends nil e = ends stay
+  names-ends (cons {c = n} {cs = ns} h q) e = ends-and (enterName img n e) (enterNames img ns) (name-ends n e h) (λ f. names-ends q f)
 
-    enter-ends : (u : Tree) → Everywhere (Fit img) u → (e : Exit) → Ends e (enter img u e)
-    enter-ends (block ts) q e = ends stay
-    enter-ends (node n k (inner i) sh ts) q e = ends stay
-    enter-ends (node n k (outer root) sh ts) q e = ends stay
-    enter-ends (node n k (outer decl) sh ts) q e = after (marked-moves (q .0 .0) (e .scope) stay) (enterAll-ends ts (q .1) (marked img n (e .scope) e))
-    enter-ends (node n k (outer signature) sh ts) q e = after (marked-moves (q .0 .0) (e .scope) stay) (name-ends n (marked img n (e .scope) e) (q .0 .1 refl))
-    enter-ends (node n k (outer rule) sh ts) q e = after (marked-moves (q .0 .0) (e .scope) stay) (rule-ends sh n (marked img n (e .scope) e) (q .0 .1))
-    enter-ends (node n k (outer enum) sh ts) q e =
-        after (marked-moves (q .0 .0) (e .scope) stay)
-        (ends-and (enterName img n (marked img n (e .scope) e)) (enterAll img ts) (name-ends n (marked img n (e .scope) e) (q .0 .1 refl)) (λ f. enterAll-ends ts (q .1) f))
-    enter-ends (node n k (outer model) sh ts) q e = name-ends n e (q .0 .1 refl)
+  marks-moves : {ns : List ℕ} → All Low ns → (e : Exit) → Moves e (markAll img ns e)
+  unfolding markAll
+  marks-moves nil e = stay
+  marks-moves (cons {c = n} l q) e = next (marked-moves l (e .scope) stay) (marks-moves q (marked img n (e .scope) e))
 
-    pub enterAll-ends : (us : Trees) → EverywhereAll (Fit img) us → (e : Exit) → Ends e (enterAll img us e)
-    enterAll-ends none q e = ends stay
-    enterAll-ends (u ◂ us) q e = ends-and (enter img u e) (enterAll img us) (enter-ends u (q .0) e) (λ f. enterAll-ends us (q .1) f)
+  pub enterAll-ends : (us : Trees) → EverywhereAll (Fit img) us → (e : Exit) → Ends e (enterAll img us e)
+  unfolding enterAll
+  enterAll-ends us q e = after (marks-moves (recordedAll-small (nodes img) us (fit-smalls img us q)) e) (names-ends (declaredAll-symbols img us q) (markAll img (recordedAll us) e))
 
   open-moves : {n : ℕ} → n < nodes img → (e : Exit) → Moves e (opened img n e)
   open-moves {n} l e = marked-moves l (e .table .scopes) opens

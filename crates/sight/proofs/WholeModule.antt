@@ -19,7 +19,7 @@ use Rattle.table.specs.State.{Exit, childScope, marked}
 use Rattle.table.specs.Table.{Table, mark, newScope, find, lookup, isKind, entryAt, exitAt}
 use Rattle.table.proofs.Frames.{find-mark, find-scope}
 use Rattle.ordered.specs.Walk.{occurs, walkSeq}
-use Rattle.scopes.specs.Walk.{done, enterAll, visitAll, resolveTree}
+use Rattle.scopes.specs.Walk.{done, recordedAll, enterAll, visitAll, resolveTree}
 use Rattle.ordered.specs.Kept.{Kept}
 use Rattle.table.proofs.Agreed.{Agree, lookup-agree}
 use Rattle.ordered.proofs.Kept.{mark-kept, scope-kept}
@@ -32,7 +32,7 @@ use Rattle.sight.proofs.Members.{in-left, in-right, in-split, Distinct,
 use Rattle.sight.proofs.Frame.{Bounds, Later, later-next, lookup-child, lookup-root, mark-parent, mark-exit, mark-entry, child-parent, child-parent-other, child-empty, child-exit, child-entry}
 use Rattle.sight.proofs.Steps.{Bodies}
 use Rattle.sight.proofs.Moves.{walks-seq, framed}
-use Rattle.sight.proofs.Lists.{enteredAll, visitedAll, moduleNumbers, Decls, stays, Entered, entering, entersAll, Visits, idle, after, walks, ruled, nested, visitsAll, kind-orElse}
+use Rattle.sight.proofs.Lists.{visitedAll, moduleNumbers, Decls, stays, Entered, entering, entersAll, Visits, idle, after, walks, ruled, nested, visitsAll, kind-orElse}
 use Rattle.sight.proofs.OneRule.{Walked, place-node, occurrences, bindings, introducing}
 
 module _ (img : List ℕ) where
@@ -238,7 +238,7 @@ module _ (img : List ℕ) where
       let t₀ : Table = record { words = ws; scopes = 0; symbols = 0 } in
       let t₁ : Table = newScope img allOnes t₀ in
       let so : Kept img t₀ = none-kept img ws size in
-      let es = enteredAll ts in
+      let es = recordedAll ts in
       let ns = visitedAll ts in
       let D = saysAll img ts in
       let n<N = sm n (inl refl) in
