@@ -24,7 +24,7 @@ use Rattle.scopes.specs.declared.Declared.the-variants.{Done}
 use Rattle.scopes.proofs.Calls.{rows-table, rows-long}
 use Rattle.scopes.proofs.Headed.{resolved-filled}
 use Rattle.bindings.specs.Errors.{isStrict, strictRows, declRows, plainRows, testErrors}
-use Rattle.bindings.specs.Checks.{Ready, ofMode, Filled}
+use Rattle.bindings.specs.Promises.{Ready, ofMode, Filled}
 use Rattle.bindings.proofs.Few.{both-few}
 
 -- writing the rows ------------------------------------------------------------------------------------------------------

@@ -21,7 +21,7 @@ use Rattle.rows.specs.Rows.{Row, Appended}
 use Rattle.rows.proofs.Parts.{Left, left-room}
 use Rattle.bindings.specs.Errors.{introducedRow, rowsOf, rowsSeq}
 use Rattle.error.specs.Kinds.{asked}
-use Rattle.bindings.specs.Checks.{Room, inside, listed}
+use Rattle.bindings.specs.Promises.{Room, inside, listed}
 use Rattle.bindings.proofs.RowLaws.{rowsAt, plain-rows, term-rows, ident-rows, member-rows, receiver-rows, head-ident, head-other, one-inside, two-inside, case-inside, list-inside}
 use Rattle.bindings.proofs.Quiet.{quiet}
 

@@ -1,3 +1,3 @@
 pub mod Errors
-pub mod Checks
+pub mod Promises
 pub mod Places

@@ -12,17 +12,16 @@ ghost use Rattle.ast.specs.Is.{Is};
 ghost use Rattle.ast.specs.Tree.{treeAt};
 ghost use Rattle.table.specs.Table as «table-spec»;
 ghost use Rattle.table.specs.Rows.{Sorted};
-ghost use Rattle.table.specs.Values.{tableOf, optionOf};
+ghost use Rattle.table.specs.Values.{tableOf};
 ghost use Rattle.rows.specs.Rows.{row, Appended, Wrote, when};
 ghost use Rattle.scopes.specs.Answers.{rowedAnswer};
 ghost use Rattle.bindings.specs.Errors.{sameNode, introduces, introducedRow, definedRow, argRow, isCtor, rowsOf, declRows, repeatedIn, repeatedTo, strictRows, errorRows, testErrors, errors};
-ghost use Rattle.bindings.specs.Checks.{Room, Ready, PlainVariable, inside, listed, declared, ofPattern, ofCase, ofArgs, marked, MarkedOne, Marks, ofMode, Filled, ReadyRun};
+ghost use Rattle.bindings.specs.Promises.{Room, Ready, PlainVariable, inside, listed, declared, ofPattern, ofCase, ofArgs, marked, MarkedOne, Marks, ofMode, Filled, ReadyRun};
 use ast::NodeId;
 use error::ErrorKind;
 use scopes::Declared;
 use scopes::Rowed;
 use table::Found;
-use table::ScopeId;
 use table::Walked;
 
 fn binding_visible_before(

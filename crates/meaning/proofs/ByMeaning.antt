@@ -19,7 +19,7 @@ use Rattle.sight.specs.Sight.{In}
 use Rattle.sound.specs.Sound.{scopesIn, symbolsIn}
 use Rattle.table.specs.State.{Exit}
 use Rattle.table.specs.Table.{Table, lookup}
-use Rattle.bindings.specs.Checks.{ofMode}
+use Rattle.bindings.specs.Promises.{ofMode}
 use Rattle.bindings.specs.Errors.{errorRows, testErrors, errorsOf, errors}
 use Rattle.bindings.proofs.Calls.{passes-table}
 use Rattle.bindings.proofs.Few.{rows-few}

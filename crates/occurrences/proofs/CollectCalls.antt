@@ -20,7 +20,7 @@ use Rattle.scopes.proofs.Calls.{call-filled}
 use Rattle.scopes.proofs.Headed.{headed-lookup, headed-exit, resolved-filled}
 use Rattle.occurrences.specs.Spots.{Spot}
 use Rattle.occurrences.specs.Occurrences.{found, occurrenceRows, lone, rowsByRule, loneAnswer, once}
-use Rattle.occurrences.specs.Collect.{Whole, Nodes}
+use Rattle.occurrences.specs.Promises.{Whole, Nodes}
 use Rattle.occurrences.proofs.Few.{rows-few}
 use Rattle.occurrences.proofs.CollectRules.{same-lists, same-all}
 

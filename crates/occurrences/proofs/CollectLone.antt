@@ -14,7 +14,7 @@ use borrow.Author.Tests.{eqb-true, eqb-false, le-leb, lt-leb}
 use Rattle.ast.specs.Image.{nodes, kindAt, field, nameOf}
 use Rattle.ast.specs.Kinds.{kindOf}
 use Rattle.ast.specs.Items.{items}
-use Rattle.ast.specs.Scan.{bump, claimAll}
+use Rattle.ast.specs.Promises.{bump, claimAll}
 use Rattle.ast.specs.declared.NodeId.{NodeId}
 use Rattle.ast.specs.Tests.{is, times}
 use Rattle.ast.proofs.Accepted.{sized}
@@ -27,7 +27,7 @@ use Rattle.rows.specs.Rows.{Row, row, rights, rowsLength, Appended, readRows}
 use Rattle.rows.proofs.Reading.{read-appended, read-more, read-end, read-all}
 use Rattle.occurrences.specs.Spots.{Spot, spotsSeq}
 use Rattle.occurrences.specs.Occurrences.{found, listed, rowsFor, timesBound, loneIn, lone}
-use Rattle.occurrences.specs.Collect.{rowsAt, joined, listsIn, listsAt, Listing, ListingRun, under, uncounted, recount, recounted, loneOf, Scratch, Searched}
+use Rattle.occurrences.specs.Promises.{rowsAt, joined, listsIn, listsAt, Listing, ListingRun, under, uncounted, recount, recounted, loneOf, Scratch, Searched}
 use Rattle.occurrences.specs.declared.Checked.{Checked}
 use Rattle.occurrences.specs.declared.Checked.the-variants.{Ok, Lone}
 use Rattle.occurrences.proofs.CollectRules.{joined-append, items-done, items-all, RuleRun, ruleRun, DeclItem, declItem}

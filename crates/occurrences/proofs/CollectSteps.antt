@@ -21,7 +21,7 @@ use Rattle.rows.proofs.Parts.{appended-as as appended-to, Left, left-start, lef
 use Rattle.ast.proofs.Blocks.{BlocksFrom, blocks-from, blocks-place as place-of-blocks, NextBlock, next-block}
 use Rattle.occurrences.specs.Spots.{spots}
 use Rattle.occurrences.specs.Occurrences.{found, rowsFor}
-use Rattle.occurrences.specs.Collect.{spot, identRows, rowsIn, rowsAt, Room, Ready, ReadyRun}
+use Rattle.occurrences.specs.Promises.{spot, identRows, rowsIn, rowsAt, Room, Ready, ReadyRun}
 use Rattle.occurrences.proofs.CollectRows.{bare, threads, ident-var, ident-rows, owner, one-rows, two-rows, leaf-rows, first-rows, ifVar-rows, undefined-rows, defined-rows, case-rows, case-none, list-rows, items-rows, child-list-rows, blockRows, branch-rows, block-more, block-none}
 
 -- rows that are equal to what was appended

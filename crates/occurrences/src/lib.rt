@@ -13,7 +13,7 @@ ghost use Rattle.ast.specs.Rules.{moduleRules};
 ghost use Rattle.occurrences.specs.Answers.{onceAnswer};
 ghost use Rattle.occurrences.specs.Occurrences as «occurrences-spec»;
 ghost use Rattle.occurrences.specs.Occurrences.{found, occurrenceRows, lone, rowsByRule};
-ghost use Rattle.occurrences.specs.Collect.{spot, identRows, rowsIn, rowsAt, Room, Ready, joined, listsIn, listsAt, Listing, ListingRun, Whole, Nodes, under, recount, recounted, loneOf, Scratch, Searched, ReadyRun};
+ghost use Rattle.occurrences.specs.Promises.{spot, identRows, rowsIn, rowsAt, Room, Ready, joined, listsIn, listsAt, Listing, ListingRun, Whole, Nodes, under, recount, recounted, loneOf, Scratch, Searched, ReadyRun};
 use ast::NodeId;
 use scopes::Declared;
 use scopes::Rowed;

@@ -21,7 +21,7 @@ use Rattle.table.specs.State.{Exit, childScope, ownSymbol, introduce, marked, b
 use Rattle.table.specs.Table.{find, mark, newScope, newSymbol}
 use Rattle.table.proofs.Frames.{SameRows, mark-word, scope-word, symbol-word, symbol-same, symbol-scope, symbol-node}
 use Rattle.ordered.specs.Walk.{occurs, walkSeq}
-use Rattle.ordered.specs.Walkers.{Few}
+use Rattle.ordered.specs.Promises.{Few}
 use Rattle.ordered.proofs.Kept.{mark-length, scope-length, symbol-length}
 use Rattle.ordered.proofs.Moves.{namedBy, enters, Moves as Walks, stay as rests, next as goes, marks as records, adds as brings, drops as leaves, seq-moves as walks-seq}
 use Rattle.scopes.specs.Walk.{Listed, done, twice, recordedAll, enterName, andThen, enterNames, markAll, enterAll, visit, visitAll}

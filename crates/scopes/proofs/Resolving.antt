@@ -26,7 +26,7 @@ use Rattle.sound.specs.Sound.{isSymbol, scopesIn, symbolsIn, testSound}
 use Rattle.table.specs.State.{Exit, marked}
 use Rattle.table.specs.Table.{Table, mark, newScope}
 use Rattle.sound.proofs.Sounds.{parent-low, row-yes, sound-rest}
-use Rattle.ordered.specs.Walkers.{Few}
+use Rattle.ordered.specs.Promises.{Few}
 use Rattle.ordered.specs.Kept.{Kept}
 use Rattle.ordered.proofs.Kept.{past, mark-kept, scope-kept, mark-past, scope-past, mark-length, scope-length}
 use Rattle.rows.specs.Rows.{cleared}

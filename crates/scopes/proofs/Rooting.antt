@@ -24,7 +24,7 @@ use Rattle.rows.specs.Rows.{cleared}
 use Rattle.scopes.specs.Walk.{andThen, enterAll, visitAll, resolveTree}
 use Rattle.scopes.specs.Resolve.{testTable, zeroed, walked, headed, fills, tableBy, Outcome, resolve}
 use Rattle.scopes.specs.Answers.{Resolves}
-use Rattle.scopes.specs.Lists.{listedOf, overList, Visits, ListRun, Lent}
+use Rattle.scopes.specs.Promises.{listedOf, overList, Visits, ListRun, Lent}
 use Rattle.scopes.specs.declared.Declared.{Declared}
 use Rattle.scopes.specs.declared.Declared.the-variants.{Done, Twice}
 use Rattle.scopes.proofs.Adds.{addss}

@@ -20,7 +20,7 @@ use Rattle.table.specs.Table.{rowIs, findFrom, mark, newSymbol}
 use Rattle.table.proofs.Finds.{row-out, row-in}
 use Rattle.table.proofs.Frames.{SameRows, mark-same, symbol-same, symbol-node}
 use Rattle.ast.proofs.Bools.{false-true}
-use Rattle.scopes.specs.Lists.{Seen, Stamped}
+use Rattle.scopes.specs.Promises.{Seen, Stamped}
 
 -- as the code stamps: i is the place of the name x
 module _ {seen : List ℕ} {x s i : ℕ} (place-is : i ≡ x) where

@@ -5,7 +5,7 @@ use Prim.Native.Nat.{ℕ, suc, _+_, _-_, _≤_, _<_}
 use native.Mathlib.Omega.{arith}
 use lib.ListN.{length, getD, drop, replicate, length-append, length-replicate, List·getD-append}
 use lib.Seq.{getD-append-add}
-use Rattle.occurrences.specs.Collect.{readRows}
+use Rattle.occurrences.specs.Promises.{readRows}
 use Rattle.rows.specs.Rows.{Row, row, lefts, rights, rowsLength, filled, written}
 use Rattle.rows.proofs.Appends.{lefts-length, rights-length}
 

@@ -9,7 +9,7 @@ use Rattle.ast.proofs.Shapes.{head-last}
 use Rattle.table.specs.Values.{tableOf}
 use Rattle.rows.proofs.Appends.{appended-next}
 use Rattle.rows.proofs.Parts.{appended-as, appended-no, Left, left-start, left-next, left-end}
-use Rattle.bindings.specs.Checks.{inside, listed}
+use Rattle.bindings.specs.Promises.{inside, listed}
 use Rattle.bindings.proofs.Epic.{room-as, room-first, room-rest, room-left, app-both, epic-pair, head-none, head-receiver, head-term, epic-ident, epic-app, epic-inner, epic-comp, epic-none, epic-list, epic-item, listed-end}
 use Prim.Native.Nat.{ℕ, _<_}
 use borrow.Fn.Kinds.{In}

@@ -6,7 +6,7 @@ use Rattle.ast.specs.Kinds.{kindOf}
 use Rattle.ast.proofs.Shapes.{term-last, head-last}
 use Rattle.rows.proofs.Appends.{appended-next}
 use Rattle.rows.proofs.Parts.{appended-no, Left, left-start, left-next, left-end}
-use Rattle.occurrences.specs.Collect.{rowsIn, rowsAt}
+use Rattle.occurrences.specs.Promises.{rowsIn, rowsAt}
 use Rattle.occurrences.proofs.CollectRows.{bare, items-none}
 use Rattle.occurrences.proofs.CollectSteps.{appended-as, term-ident, term-app, term-comp, term-inner, term-wild, head-ident, head-member, head-term, listRun, item}
 use Prim.Native.Nat.{ℕ, _<_}

@@ -6,7 +6,7 @@ use mathlib.Core.List.{List, [], _∷_}
 use Prim.Native.Nat.{ℕ, suc, _+_, _-_, _*_, _%_, _<_, _≤_}
 use lib.ListN.{getD}
 use Rattle.ast.specs.Image.{names, bytesPlace, nameStart, nameEnd, nameBytes}
-use Rattle.ast.specs.Scan.{Within, Rises}
+use Rattle.ast.specs.Promises.{Within, Rises}
 use Rattle.ast.specs.Tests.{run, same, unequal}
 use Rattle.ast.specs.declared.Sizes.{Sizes}
 

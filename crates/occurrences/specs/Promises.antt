@@ -12,7 +12,7 @@ use Rattle.ast.specs.Kinds.{Kind}
 use Rattle.ast.specs.Tree.{treeAt}
 use Rattle.ast.specs.Items.{items}
 use Rattle.ast.specs.Is.{Is, Run}
-use Rattle.ast.specs.Scan.{bump, claimAll}
+use Rattle.ast.specs.Promises.{bump, claimAll}
 use Rattle.ast.specs.Tests.{verdict}
 use Rattle.table.specs.Table.{Table}
 use Rattle.table.specs.Rows.{nodeAt, Sorted}

@@ -17,7 +17,7 @@ use Rattle.table.specs.Rows.{scopeOf, nodeAt}
 use Rattle.table.specs.State.{Exit}
 use Rattle.table.specs.Values.{exitOf}
 use Rattle.ordered.specs.Walk.{occurs}
-use Rattle.ordered.specs.Walkers.{inside, Room}
+use Rattle.ordered.specs.Promises.{inside, Room}
 use Rattle.ordered.specs.Kept.{Kept}
 use Rattle.scopes.specs.Walk.{Listed, done, twice, andThen, enterAll, visitAll}
 use Rattle.scopes.specs.declared.Declared.{Declared}
