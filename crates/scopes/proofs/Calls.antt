@@ -136,6 +136,11 @@ module _ (img tab rows : List ℕ) (f : Table → List Row) where
           → held (nodes img) ((rowsCall img tab rows r f) .rows) ≡ f (counted img (e .table))
       rowed-held h few = ap (λ (o : RowsOutcome). held (nodes img) (o .rows)) (rowed-done h) ∙ held-written (nodes img) _ rows few
 
+      -- and counted
+      pub rowed-count : {e : Exit} → walked img tab ≡ done e → length (f (counted img (e .table))) ≤ nodes img
+          → (rowsCall img tab rows r f) .answer ≡ result 0 (length (held (nodes img) ((rowsCall img tab rows r f) .rows)))
+      rowed-count h few = ap (λ (o : RowsOutcome). o .answer) (rowed-done h) ∙ ap (λ (l : List Row). result 0 (length l)) (sym (rowed-held h few))
+
       -- by what resolving hands back, as the code has it
       module _ {d : Declared} {ws : List ℕ} (h : Resolves img tab d ws) where
         pub rowed-stopped : {x : ℕ} {a b : NodeId} → d ≡ Twice x a b → rowsCall img tab rows r f ≡ record { answer = twiceAnswer x (a .0) (b .0); table = ws; rows = rows }
