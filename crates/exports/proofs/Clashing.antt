@@ -25,8 +25,8 @@ use Rattle.scopes.specs.Walk.{twice}
 use Rattle.scopes.specs.Resolve.{testTable, walked}
 use Rattle.scopes.specs.Clash.{Clash, clashFrom, clashIn, firstClash}
 use Rattle.scopes.proofs.Clashes.{shows}
-use Rattle.scopes.proofs.Namings.{Fit, Symbols, declaredAll-symbols, symbol-below, tree-fits}
 use Rattle.ast.proofs.Bools.{true-not-false}
+use Rattle.scopes.proofs.Namings.{Fit, Symbols, declaredAll-symbols, symbol-below, tree-fits}
 use Rattle.scopes.proofs.Resolving.{table-accepted, walked-shown}
 use Rattle.exports.specs.Packed.{Fits}
 

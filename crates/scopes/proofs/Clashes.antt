@@ -16,8 +16,7 @@ use Rattle.table.specs.Layout.{tableLength}
 use Rattle.table.specs.Rows.{scopeOf}
 use Rattle.table.specs.State.{Exit, ownSymbol, marked, back}
 use Rattle.table.specs.Table.{find, mark, newSymbol}
-use Rattle.table.proofs.Frames.{own, find-none, find-mark, find-symbol}
-use Rattle.table.proofs.Rising.{either}
+use Rattle.table.proofs.Frames.{find-none, find-mark, find-symbol}
 use Rattle.ordered.proofs.Kept.{mark-length, symbol-length}
 use Rattle.scopes.specs.Walk.{Listed, done, twice, recordedAll, enterName, andThen, enterNames, markAll, enterAll, visit, visitAll}
 use Rattle.scopes.specs.Promises.{ents, vis, viss, Fits}
@@ -28,11 +27,6 @@ use Rattle.scopes.proofs.Adds.{recordedAll-small, named, Newest, enterA
 unfoldable pub shows : Listed → Option Clash
 shows (done e) = nothing
 shows (twice x a b) = some (record { name = x; first = a; second = b })
-
-either-orElse : (o u : Option ℕ) → either o u ≡ orElse o u
-unfolding either
-either-orElse nothing u = refl
-either-orElse (some n) u = refl
 
 module _ (img : List ℕ) where
   -- the scope that the walk stands in has the symbols ds, in this order
@@ -59,11 +53,10 @@ module _ (img : List ℕ) where
       space-marks ns (marked img n (e .scope) e) (record { room = s .room; long = (let y = mark-length img n (e .scope) (e .scope) (e .table) in let z = s .long in omega arith) })
 
   finds-symbol : (ds : List ℕ) (n : ℕ) (e : Exit) → Finds ds e → Space 1 e → Finds (ds ++ (n ∷ [])) (ownSymbol img n e)
-  unfolding ownSymbol earliest own
+  unfolding ownSymbol
   finds-symbol ds n e h s x =
       find-symbol img (e .scope) n (e .table) (let y = s .room in omega arith) (s .long) x
-      ∙ either-orElse (find img (e .table) (e .scope) x) (own img n x)
-      ∙ ap (λ (o : Option ℕ). orElse o (own img n x)) (h x) ∙ sym (earliest-append (nameOf img) ds (n ∷ []) x)
+      ∙ ap (λ (o : Option ℕ). orElse o (earliest (nameOf img) (n ∷ []) x)) (h x) ∙ sym (earliest-append (nameOf img) ds (n ∷ []) x)
 
   space-symbol : {m : ℕ} (n : ℕ) (e : Exit) → Space (suc m) e → Space m (ownSymbol img n e)
   unfolding ownSymbol newSymbol

@@ -1,6 +1,7 @@
 -- What the calls hand back: document 01's numbers and values for every case of the code's enums.
 use mathlib.Core.Path.{_≡_}
 use mathlib.Core.List.{List}
+use Prim.Native.Nat.{ℕ}
 use Rattle.ast.specs.Answer.{Answer, refused, twice, result, other}
 use Rattle.table.specs.Values.{tableOf}
 use Rattle.scopes.specs.Resolve.{Way, stops, fills, way, tableBy}

@@ -20,17 +20,12 @@ use Rattle.table.specs.State.{Exit, introduce}
 use Rattle.table.specs.Table.{Table, mark, newScope, newSymbol, rowIs, findFrom, find, climb, lookup, entryAt, exitAt}
 use Rattle.table.proofs.Finds.{row-out}
 use Rattle.table.proofs.Frames.{mark-word, scope-word, symbol-word, find-same, find-none, find-mark, find-scope, symbol-same, symbol-scope, find-symbol}
-use Rattle.table.proofs.Rising.{either, hit, find-snoc}
+use Rattle.table.proofs.Rising.{hit, find-snoc}
 use Rattle.ordered.specs.Kept.{Kept}
 use Rattle.ordered.proofs.Kept.{scope-kept, symbol-kept}
 use Rattle.table.proofs.Agreed.{through, above, above-cong, Agree, lookup-agree}
 use Rattle.sight.specs.Sight.{In}
 use Rattle.sight.proofs.Members.{in-left, in-right}
-
-either-orElse : (o u : Option ℕ) → either o u ≡ orElse o u
-unfolding either
-either-orElse none u = refl
-either-orElse (some n) u = refl
 
 above-lower : (o : Option ℕ) (p s : ℕ) (u : Option ℕ) → p < s → above o p s u ≡ orElse o u
 above-lower (some n) p s u l = refl
@@ -135,20 +130,18 @@ module _ (img : List ℕ) where
 
     -- the new row counts in no other scope
     pub name-find-other : (r x : ℕ) → r ≢ s → find img (newSymbol img s n t) r x ≡ find img t r x
-    unfolding newSymbol find hit either
+    unfolding newSymbol find hit
     name-find-other r x f =
         let y = t .symbols in
         ap (λ c. findFrom img c named 0 r x) (add-one y)
         ∙ find-snoc img named y 0 r x
-        ∙ ap (λ i. either (findFrom img y named 0 r x) (hit img named (rowIs img named i r x) i)) (zero-add y)
-        ∙ ap (λ b. either (findFrom img y named 0 r x) (hit img named b y)) (row-out img named y r x (λ q. f (sym q ∙ symbol-scope img s n t Y<N (sane .rising .long))))
-        ∙ either-orElse (findFrom img y named 0 r x) none
+        ∙ ap (λ i. orElse (findFrom img y named 0 r x) (hit img named (rowIs img named i r x) i)) (zero-add y)
+        ∙ ap (λ b. orElse (findFrom img y named 0 r x) (hit img named b y)) (row-out img named y r x (λ q. f (sym q ∙ symbol-scope img s n t Y<N (sane .rising .long))))
         ∙ orElse-none (findFrom img y named 0 r x)
         ∙ find-same img (symbol-same img s n t Y<N) r x
 
     pub name-find : (x : ℕ) → find img (newSymbol img s n t) s x ≡ orElse (find img t s x) (earliest (nameOf img) (n ∷ []) x)
-    unfolding earliest Rattle.table.proofs.Frames.own
-    name-find x = find-symbol img s n t Y<N (sane .rising .long) x ∙ either-orElse (find img t s x) (earliest (nameOf img) (n ∷ []) x)
+    name-find x = find-symbol img s n t Y<N (sane .rising .long) x
 
     pub name-parent : (r : ℕ) → r < N → parentAt N named r ≡ parentAt N (t .words) r
     name-parent r h = symbol-word img s n t (parentPlace N r) (omega arith) (omega arith)

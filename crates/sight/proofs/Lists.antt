@@ -25,7 +25,7 @@ use Rattle.ordered.proofs.Moves.{numbersSeq}
 use Rattle.scopes.proofs.Adds.{named, done-same, twice-done, and-inv}
 use Rattle.sight.specs.Sight.{In}
 use Rattle.ast.specs.Rules.{Rule, saysAll, rules, rulesAll}
-use Rattle.sight.proofs.Frame.{name-find-other, name-find, name-parent, name-exit, mark-parent, mark-exit, name-entry, mark-entry}
+use Rattle.sight.proofs.Frame.{name-find-other, name-find, name-parent, name-exit, name-entry, mark-parent, mark-exit, mark-entry}
 use Rattle.sight.proofs.Steps.{Bodies}
 
 -- the nodes that visiting marks

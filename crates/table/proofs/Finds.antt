@@ -12,14 +12,15 @@ use Rattle.ast.proofs.Shapes.{one-more}
 use Rattle.table.specs.Rows.{scopeOf, nodeAt, parentAt}
 use Rattle.table.specs.Table.{rowIs, findFrom, climb, isKind, isValue}
 
-unfoldable pub orElse : Option ℕ → Bool → Option ℕ → Option ℕ
-orElse o b u = elim o [ some n ↦ some n | none ↦ elim b [ true ↦ u | false ↦ none ] ]
+-- o, or else what climbing on gives, where b
+unfoldable pub orClimb : Option ℕ → Bool → Option ℕ → Option ℕ
+orClimb o b u = elim o [ some n ↦ some n | none ↦ elim b [ true ↦ u | false ↦ none ] ]
 
-pub orElse-same : (o : Option ℕ) (b : Bool) (u v : Option ℕ) → (b ≡ true → u ≡ v) → orElse o b u ≡ orElse o b v
-unfolding orElse
-orElse-same (some n) b u v h = refl
-orElse-same none true u v h = h refl
-orElse-same none false u v h = refl
+pub orClimb-same : (o : Option ℕ) (b : Bool) (u v : Option ℕ) → (b ≡ true → u ≡ v) → orClimb o b u ≡ orClimb o b v
+unfolding orClimb
+orClimb-same (some n) b u v h = refl
+orClimb-same none true u v h = h refl
+orClimb-same none false u v h = refl
 
 module _ (img : List ℕ) where
   pub value-var : (n : ℕ) → kindAt img n ≡ 13 → isValue img (some n) ≡ true
@@ -57,11 +58,11 @@ module _ (img ws : List ℕ) where
 
   -- enough fuel is enough
   climb-fuel : (f g y s x : ℕ) → s < f → s < g → climb img f ws y s x ≡ climb img g ws y s x
-  unfolding climb orElse
+  unfolding climb orClimb
   climb-fuel zero g y s x h k = absurd (omega arith)
   climb-fuel (suc f) zero y s x h k = absurd (omega arith)
   climb-fuel (suc f) (suc g) y s x h k =
-      orElse-same (findFrom img y ws 0 s x) (ltb (parentAt (nodes img) ws s) s) _ _
+      orClimb-same (findFrom img y ws 0 s x) (ltb (parentAt (nodes img) ws s) s) _ _
       (λ e. let l = ltb-true (parentAt (nodes img) ws s) s e in climb-fuel f g y (parentAt (nodes img) ws s) x (omega arith) (omega arith))
 
   pub climb-hit : (y s x n : ℕ) → findFrom img y ws 0 s x ≡ some n → climb img (suc s) ws y s x ≡ some n

@@ -1,7 +1,7 @@
 -- What the steps of a walk do to the table's words, and to the symbols of one scope.
 use mathlib.Core.Path.{_≡_, refl, ap, ap₂, _∙_}
 use mathlib.Core.Bool.{Bool, true, false}
-use mathlib.Core.List.{List}
+use mathlib.Core.List.{List, [], _∷_}
 use mathlib.Core.Option.{Option, none, some}
 use mathlib.Core.Logic.{_≢_}
 use Prim.Native.Nat.{ℕ, zero, suc, _+_, _*_, _<_, _≤_}
@@ -12,12 +12,13 @@ use lib.Dec.{eqb}
 use lib.ListN.{length, getD, set, length-set}
 use lib.Seq.{getD-set-same, getD-set-other}
 use borrow.Author.Tests.{eq-eqb}
+use Rattle.ast.specs.Declarations.{orElse, earliest}
 use Rattle.ast.specs.Image.{nodes, nameOf}
 use Rattle.table.specs.Layout.{entryPlace, exitPlace, parentPlace, scopePlace, nodePlace, tableLength}
 use Rattle.table.specs.Rows.{scopeOf, nodeAt}
 use Rattle.table.specs.Table.{Table, rowIs, findFrom, find, mark, newScope, newSymbol}
 use Rattle.table.proofs.Finds.{row-out}
-use Rattle.table.proofs.Rising.{either, hit, find-snoc}
+use Rattle.table.proofs.Rising.{hit, find-snoc}
 
 -- the words ws and vs have the same first y rows, in the table of an image of n nodes
 pub record SameRows (n y : ℕ) (ws vs : List ℕ) : Type 0 where
@@ -59,10 +60,6 @@ module _ (img : List ℕ) where
         scopes = λ j k. symbol-word s n t (scopePlace (nodes img) j) (omega arith) (omega arith);
         nodes = λ j k. symbol-word s n t (nodePlace (nodes img) j) (omega arith) (omega arith);
       }
-
-  -- the node n, if it has the name x
-  unfoldable pub own : ℕ → ℕ → Option ℕ
-  own n x = elim (eqb (nameOf img n) x) [ true ↦ some n | false ↦ none ]
 
   isRow : ℕ → ℕ → ℕ → ℕ → Bool
   isRow a n s x = elim (eqb a s) [ true ↦ eqb (nameOf img n) x | false ↦ false ]
@@ -121,15 +118,15 @@ module _ (img : List ℕ) where
     unfolding rowIs
     row-new x = rw (eq-eqb _ _ symbol-scope, rowIs) (ap (λ (m : ℕ). eqb (nameOf img m) x) symbol-node)
 
-    hit-new : (x : ℕ) → hit img vs (rowIs img vs y s x) y ≡ own n x
-    unfolding hit own
+    hit-new : (x : ℕ) → hit img vs (rowIs img vs y s x) y ≡ earliest (nameOf img) (n ∷ []) x
+    unfolding hit earliest
     hit-new x = ap₂ (λ (b : Bool) (m : ℕ). elim b as (λ _. Option ℕ) [ true ↦ some m | false ↦ none ]) (row-new x) symbol-node
 
     -- in its scope: what was there, or else the new node
-    pub find-symbol : (x : ℕ) → find img (newSymbol img s n t) s x ≡ either (find img t s x) (own n x)
+    pub find-symbol : (x : ℕ) → find img (newSymbol img s n t) s x ≡ orElse (find img t s x) (earliest (nameOf img) (n ∷ []) x)
     unfolding find newSymbol
     find-symbol x =
         ap (λ (c : ℕ). findFrom img c vs 0 s x) (add-one y)
         ∙ find-snoc img vs y 0 s x
-        ∙ ap (λ (i : ℕ). either (findFrom img y vs 0 s x) (hit img vs (rowIs img vs i s x) i)) (zero-add y)
-        ∙ ap₂ (λ (o u : Option ℕ). either o u) (find-same (symbol-same s n t few) s x) (hit-new x)
+        ∙ ap (λ (i : ℕ). orElse (findFrom img y vs 0 s x) (hit img vs (rowIs img vs i s x) i)) (zero-add y)
+        ∙ ap₂ (λ (o u : Option ℕ). orElse o u) (find-same (symbol-same s n t few) s x) (hit-new x)
