@@ -8,15 +8,18 @@ use Rattle.ast.specs.Image.{nodes, kindAt, nameOf}
 use Rattle.rows.specs.Rows.{Row, held}
 use Rattle.scopes.specs.Calls.{testRows}
 use Rattle.ast.specs.Rules.{Rule, moduleRules}
-use Rattle.scopes.specs.Resolve.{testTable, resolve}
+use Rattle.ast.specs.Answer.{result}
+use Rattle.scopes.specs.Resolve.{testTable, walked, headed, counted, wayOf, way, answerBy, tableBy, Outcome, tableCall, resolve}
+use Rattle.scopes.specs.Walk.{Listed, done}
+use Rattle.table.specs.State.{Exit}
 use Rattle.scopes.specs.Twice.{declaredTwice}
 use Rattle.scopes.proofs.Calls.{rows-table, rowed-held}
-use Rattle.scopes.proofs.Resolving.{table-accepted, fills-outcome, own-counts}
+use Rattle.scopes.proofs.Resolving.{table-accepted, own-counts}
 use Rattle.scopes.proofs.Single.{single-done}
 use Rattle.bindings.specs.Errors.{errorRows, testErrors, errors}
 use Rattle.bindings.proofs.Alike.{errors-headed}
 use Rattle.bindings.proofs.Calls.{errors-table, errors-are}
-use Rattle.scopes.proofs.Headed.{left, headed-lookup, headed-entry, headed-exit}
+use Rattle.scopes.proofs.Headed.{headed-lookup, headed-entry, headed-exit}
 use Rattle.sight.specs.Sight.{In}
 use Rattle.sound.specs.Sound.{scopesIn, symbolsIn}
 use Rattle.table.specs.Table.{Table, lookup}
@@ -32,7 +35,7 @@ use Rattle.meaning.proofs.Marks.{by-meaning}
 use Rattle.meaning.proofs.Faults.{faults-by-meaning}
 
 -- the counts in front change nothing of what the table has of a node
-headed-around : (img : List ℕ) (t : Table) (n : ℕ) (env env′ : Env) → Around img t n env env′ → Around img (left img t) n env env′
+headed-around : (img : List ℕ) (t : Table) (n : ℕ) (env env′ : Env) → Around img t n env env′ → Around img (counted img t) n env env′
 headed-around img t n env env′ a =
     record {
       entry = λ x. sym (headed-lookup img t _ x) ∙ ap (λ s. lookup img t s x) (sym (headed-entry img t n)) ∙ a .entry x;
@@ -43,6 +46,14 @@ headed-around img t n env env′ a =
 abbrev read : List ℕ → List ℕ → Table
 read img ws = record { words = ws; scopes = scopesIn img ws; symbols = symbolsIn img ws }
 
+-- what Resolve leaves where the walk ends
+resolve-done : (img tab : List ℕ) → testTable img tab ≡ 0 → {e : Exit} → walked img tab ≡ done e
+    → resolve img tab ≡ record { answer = result (e .table .scopes) (e .table .symbols); table = headed img (e .table) }
+unfolding resolve tableCall way wayOf answerBy tableBy
+resolve-done img tab p {e} h =
+    ap (λ (r : ℕ). tableCall img tab r (λ t. result (t .scopes) (t .symbols))) p
+    ∙ ap (λ (l : Listed). record { answer = answerBy (λ t. result (t .scopes) (t .symbols)) (wayOf img l); table = tableBy img tab (wayOf img l) }) h
+
 module _ (img tab rows : List ℕ) where
   -- in the table that Resolve leaves: at every node of a rule, lookup at its entry and at its exit
   pub recorded-by-meaning : testTable img tab ≡ 0 → declaredTwice img ≡ false → (r : Rule) → In r (moduleRules img)
@@ -50,9 +61,10 @@ module _ (img tab rows : List ℕ) where
   recorded-by-meaning p once r i w j =
       let d = single-done img tab p once in
       let t = d .0 .table in
-      let o = fills-outcome img tab (d .0) p (d .1) in
+      let z = resolve-done img tab p (d .1) in
+      let o = (ap (λ (o : Outcome). o .answer) z, ap (λ (o : Outcome). o .table) z) in
       let c = own-counts img tab (t .scopes) (t .symbols) (o .0) in
-      let same : left img t ≡ read img ((resolve img tab) .table) =
+      let same : counted img t ≡ read img ((resolve img tab) .table) =
       ap₂ (λ (ws : List ℕ) (k : ℕ). record { words = ws; scopes = k; symbols = t .symbols }) (sym (o .1)) (sym (c .0))
       ∙ ap (λ (y : ℕ). record { words = (resolve img tab) .table; scopes = scopesIn img ((resolve img tab) .table); symbols = y }) (sym (c .1)) in
       subst (λ (u : Table). Recorded img u w) same
