@@ -73,8 +73,7 @@ module _ (img : List ℕ) where
 
   pub run-item : {k n j count i x : ℕ} → Run img k n j count → i < count → x ≡ field img n (j + i) → Child img n k x × Is img (kindOf k) x
   run-item {k} {n} {j} {i = i} p l q =
-      subst (λ (y : ℕ). Child img n k y × Is img (kindOf k) y) (sym q)
-      (
+      subst (λ (y : ℕ). Child img n k y × Is img (kindOf k) y) (sym q) (
         record { below = p .lower i l; kind = p .kinds i l },
         record { accepted = p .accepted; below = (let a = p .below in let b = p .lower i l in omega arith); kind = ap kindOf (p .kinds i l) },
       )

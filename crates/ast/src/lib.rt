@@ -3,7 +3,7 @@ ghost use mathlib.Core.Path.{_≡_};
 ghost use Prim.Native.Nat.{_+_, _*_, _-_, _/_, _<_, _≤_};
 ghost use lib.ListN.{length, getD, set};
 ghost use Rattle.ast.specs.Image as «image-spec»;
-ghost use Rattle.ast.specs.Scan.{Head, Within};
+ghost use Rattle.ast.specs.Promises.{Head, Within};
 ghost use Rattle.ast.specs.Location.{locationOf};
 
 pub fn wide(x: u32) -> usize

@@ -9,7 +9,8 @@ use Rattle.ast.specs.Image.{last, nameOf}
 use Rattle.ast.specs.Kinds.{outer, inner, root, decl, signature, rule, enum, model, plain, term, ident, head, headMember, member, case, ifVar, definedThen, arg}
 use Rattle.ast.specs.Tree.{Tree, node, block, Trees, none, _◂_, treeAt}
 use Rattle.table.specs.Table.{Table, lookup, isKind, isVar, entryAt, exitAt, atEntry, atExit}
-use Rattle.scopes.proofs.Headed.{left, headed-lookup, headed-entry, headed-exit}
+use Rattle.scopes.specs.Resolve.{counted}
+use Rattle.scopes.proofs.Headed.{headed-lookup, headed-entry, headed-exit}
 use Rattle.rows.specs.Rows.{Row, row, when}
 use Rattle.bindings.specs.Errors.{sameNode, introduces, introducedRow, definedRow, definedRows, argRow, argRows, listRows, isCtor, appRows, patternRows, rowsOf, rowsSeq, rowsFirst, rowsDefined, declRows, declsRows, plainRows, errorRows, isStrict, strictRows}
 use Rattle.error.specs.Kinds.{asked}
@@ -132,5 +133,5 @@ module _ (img : List ℕ) (t u : Table) (looks : (s x : ℕ) → lookup img t s 
   errors-alike mode = ap (λ (l : List Row). l ++ elim (isStrict img mode) as (λ _. List Row) [ true ↦ strictRows img | false ↦ [] ]) (decl-alike (treeAt img (last img)))
 
 -- the three counts in front change no row
-pub errors-headed : (img : List ℕ) (t : Table) (mode : ℕ) → errorRows img t mode ≡ errorRows img (left img t) mode
-errors-headed img t mode = errors-alike img t (left img t) (headed-lookup img t) (headed-entry img t) (headed-exit img t) mode
+pub errors-headed : (img : List ℕ) (t : Table) (mode : ℕ) → errorRows img t mode ≡ errorRows img (counted img t) mode
+errors-headed img t mode = errors-alike img t (counted img t) (headed-lookup img t) (headed-entry img t) (headed-exit img t) mode

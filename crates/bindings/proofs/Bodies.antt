@@ -20,7 +20,7 @@ use Rattle.rows.specs.Rows.{Row}
 use Rattle.ast.proofs.Blocks.{BlocksFrom, next-block}
 use Rattle.bindings.specs.Errors.{definedRow, isCtor, argRow, argRows, rowsOf, rowsSeq, declRows, declsRows}
 use Rattle.error.specs.Kinds.{asked}
-use Rattle.bindings.specs.Checks.{inside, listed, declared, ofPattern, ofCase, ofArgs}
+use Rattle.bindings.specs.Promises.{inside, listed, declared, ofPattern, ofCase, ofArgs}
 use Rattle.bindings.proofs.RowLaws.{rowsAt, plain-rows, term-rows, case-rows, defined-none, defined-some, one-inside, two-inside, case-inside, child-list-inside, branch-inside, pattern-first, pattern-none, pattern-app, args-inside, decl-child, rule-rows, model-rows, module-rows}
 use Rattle.bindings.proofs.Quiet.{quiet}
 use Rattle.bindings.proofs.Epic.{Down, Item, listed-start, listed-more}

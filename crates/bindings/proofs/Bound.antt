@@ -212,14 +212,14 @@ module _ (img : List ℕ) (t : Table) (accepted : verdict img ≡ 0) where
       step : (n : ℕ) → n < nodes img → T (atomKind (kindAt img n)) → Each Every (kidsAt img n) → Every (nodeAt n)
       step n l q h a =
           node-few img t a n (kindAt img n) (classAt img n) (shape img n) (kidsAt img n)
-          (λ e. absurd (subst (λ (k : ℕ). T (atomKind k)) (eqb→eq _ _ (kind-by (inner case) l e)) q))
+          (λ e. absurd (subst (λ (k : ℕ). T (atomKind k)) (eqb→eq (kindAt img n) 35 (kind-by (inner case) l e)) q))
           (at (asked (kindAt img n) a) (kidsAt img n) h) (at a (kidsAt img n) h)
 
   -- the pattern of a match case has no rows but rows 3
   pattern-quiet : {n : ℕ} → n < nodes img → classAt img n ≡ inner case → rowsFirst img t false n (kidsAt img n) ≡ []
   unfolding kindOf allKids ordered FormedFields rowsOf
   pattern-quiet {n} l e =
-      let k : kindAt img n ≡ 35 = eqb→eq _ _ (kind-by (inner case) l e) in
+      let k : kindAt img n ≡ 35 = eqb→eq (kindAt img n) 35 (kind-by (inner case) l e) in
       let is : Is img (kindOf 35) n = record { accepted = accepted; below = l; kind = ap kindOf k } in
       let h : Child img n 12 (field img n 0) = (fields-of img is) .0 in
       ap (rowsFirst img t false n) (sym (ap below (node-is l)) ∙ kids-of img (inner case) (child 12 ∷ list 36 ∷ []) is (λ ts. refl))
@@ -296,7 +296,7 @@ module _ (img : List ℕ) (t : Table) (accepted : verdict img ≡ 0) where
       step : (n : ℕ) → n < nodes img → T true → Each Both (kidsAt img n) → Both (nodeAt n)
       step n l q h =
           both-node n (kindAt img n) (classAt img n) (shape img n) (kidsAt img n)
-          (λ e. subst InRule (node-is l) (in-rule n l (subst (λ (k : ℕ). T (ruleKind k)) (sym (eqb→eq _ _ (kind-by (outer rule) l e))) tt))) h
+          (λ e. subst InRule (node-is l) (in-rule n l (subst (λ (k : ℕ). T (ruleKind k)) (sym (eqb→eq (kindAt img n) 6 (kind-by (outer rule) l e))) tt))) h
 
   -- plain rows, and ArgDecls
   plain-few : length (plainRows img t) + sumTo (argDecl img) (nodes img) ≤ nodes img

@@ -1,32 +1,31 @@
--- What the call Errors leaves, by the ways that Resolve goes.
-use mathlib.Core.Path.{_≡_, refl, sym, ap, ap₂, subst, _∙_}
+-- Errors as its code goes: its rows are written, its refusals, and what the checks find in the table that resolving fills.
+use mathlib.Core.Path.{_≡_, refl, sym, ap, subst, _∙_}
 use mathlib.Core.Bool.{Bool, true, false}
 use mathlib.Core.List.{List, [], _++_}
 use Prim.Native.Nat.{ℕ, zero, suc, _+_, _<_, _≤_, _^_}
 use native.Mathlib.Omega.{arith}
-use lib.Dec.{leb→le}
-use lib.ListN.{length, set}
+use lib.ListN.{length}
 use borrow.Author.Tests.{eq-eqb, ne-eqb, le-leb, lt-leb}
-use Rattle.ast.specs.Answer.{Answer, refused, twice as twiceAnswer, result}
 use Rattle.ast.specs.Image.{nodes, last}
 use Rattle.ast.specs.Kinds.{kindOf}
 use Rattle.ast.specs.Tests.{need, verdict}
 use Rattle.ast.specs.Tree.{treeAt}
-use Rattle.ast.proofs.Accepted.{both, skip, stop, needed, sized, formed, last-below}
+use Rattle.ast.proofs.Accepted.{both, skip, stop, sized, formed, last-below}
 use Rattle.table.specs.Rows.{Sorted}
-use Rattle.table.specs.State.{Exit}
 use Rattle.table.specs.Table.{Table}
-use Rattle.rows.specs.Rows.{Row, rowsLength, written, cleared, putRows, Appended}
-use Rattle.rows.proofs.Appends.{written-is}
-use Rattle.scopes.specs.Walk.{done}
-use Rattle.scopes.specs.Resolve.{testTable, walked, headed, resolve}
-use Rattle.scopes.specs.Rows.{testRows}
-use Rattle.scopes.proofs.Resolving.{Ways, refuses, stops, fills, ways, stops-outcome, fills-outcome, filled, walked-ended, table-accepted}
-use Rattle.scopes.proofs.Headed.{headed-sorted}
-use Rattle.bindings.specs.Errors.{isStrict, strictRows, declRows, plainRows, errorRows, testErrors, errorsOf, errors}
-use Rattle.bindings.specs.Checks.{Ready, ofMode, Filled, Wrote}
-use Rattle.bindings.proofs.Alike.{errors-headed}
-use Rattle.bindings.proofs.Bound.{both-few, rows-few}
+use Rattle.table.specs.Values.{tableOf}
+use Rattle.table.specs.declared.Walked.{Walked}
+use Rattle.rows.specs.Rows.{Row, Appended}
+use Rattle.scopes.specs.Resolve.{testTable}
+use Rattle.scopes.specs.Calls.{testRows}
+use Rattle.scopes.specs.Answers.{Resolves}
+use Rattle.scopes.specs.declared.Declared.{Declared}
+use Rattle.scopes.specs.declared.Declared.the-variants.{Done}
+use Rattle.scopes.proofs.Calls.{rows-table, rows-long}
+use Rattle.scopes.proofs.Headed.{resolved-filled}
+use Rattle.bindings.specs.Errors.{isStrict, strictRows, declRows, plainRows, errorRows, testErrors}
+use Rattle.bindings.specs.Promises.{Ready, ofMode, Filled}
+use Rattle.bindings.proofs.Bound.{both-few}
 
 -- writing the rows ------------------------------------------------------------------------------------------------------
 module _ (img : List ℕ) where
@@ -58,106 +57,34 @@ module _ (img : List ℕ) where
   pub mode-fits : (t : Table) {N r : ℕ} {ws vs : List ℕ} → verdict img ≡ 0 → Appended N (plainRows img t) 0 ws r vs → r + length (strictRows img) < 2 ^ 32
   mode-fits t e h = let a = rows-fit t e in let b = h .count in omega arith
 
-  -- cleared, put in, and the count in front
-  pub wrote : (t : Table) (mode : ℕ) {c r : ℕ} {old us vs ws : List ℕ} → verdict img ≡ 0 → Appended (nodes img) (plainRows img t ++ ofMode img mode) 0 us r vs → us ≡ cleared c old → c ≡ rowsLength (nodes img)
-      → ws ≡ set vs 0 r → Wrote (nodes img) (errorRows img t mode) old r ws
+  pub errors-are : (t : Table) (mode : ℕ) → plainRows img t ++ ofMode img mode ≡ errorRows img t mode
   unfolding errorRows
-  wrote t mode {c} {r} {old} {us} {vs} {ws} e h k q z =
-      let l = errorRows img t mode in
-      let n : r ≡ length l = h .count ∙ (let y : 0 + length l ≡ length l = omega arith in y) in
-      record {
-        count = n;
-        words =
-            z ∙ ap₂ (λ (xs : List ℕ) (x : ℕ). set xs 0 x) (h .words ∙ ap (putRows (nodes img) 0 l) (k ∙ ap (λ (x : ℕ). cleared x old) q)) n
-            ∙ sym (written-is (nodes img) l old (rows-few img e t mode));
-      }
+  errors-are t mode = refl
 
 -- the refusals ----------------------------------------------------------------------------------------------------------
 module _ (img tab rows : List ℕ) (mode : ℕ) where
-  pub test-table-refused : (k : ℕ) → k ≡ testTable img tab → (k ≡ 0 → ⊥) → k ≡ testErrors img tab rows mode
-  unfolding testErrors testRows
-  test-table-refused zero e z = absurd (z refl)
-  test-table-refused (suc k) e z = sym (stop _ _ k (stop _ _ k (sym e)))
-
-  pub test-rows-short : {k : ℕ} → k ≡ testTable img tab → k ≡ 0 → length rows < rowsLength (nodes img) → 14 ≡ testErrors img tab rows mode
-  unfolding testErrors testRows need
-  test-rows-short e z h = sym (stop _ _ 13 (skip _ _ (sym e ∙ z) ∙ ap (need 14) (lt-leb _ _ h)))
-
-  rows-pass : {k : ℕ} → k ≡ testTable img tab → k ≡ 0 → rowsLength (nodes img) ≤ length rows → testRows img tab rows ≡ 0
-  unfolding testRows need
-  rows-pass e z h = skip _ _ (sym e ∙ z) ∙ ap (need 14) (le-leb _ _ h)
-
-  pub test-mode-over : {k : ℕ} → k ≡ testTable img tab → k ≡ 0 → rowsLength (nodes img) ≤ length rows → 2 < mode → 15 ≡ testErrors img tab rows mode
-  unfolding testErrors need
-  test-mode-over e z h m = sym (skip _ _ (rows-pass e z h) ∙ ap (need 15) (lt-leb _ _ m))
-
-  pub test-passes : {k : ℕ} → k ≡ testTable img tab → k ≡ 0 → rowsLength (nodes img) ≤ length rows → mode ≤ 2 → 0 ≡ testErrors img tab rows mode
-  unfolding testErrors need
-  test-passes e z h m = sym (skip _ _ (rows-pass e z h) ∙ ap (need 15) (le-leb _ _ m))
-
-  -- the three ways of the call
-  pub passes-table : testErrors img tab rows mode ≡ 0 → testTable img tab ≡ 0
-  unfolding testErrors testRows
-  passes-table e = both _ _ (both _ _ e .0) .0
-
-  pub passes-rows : testErrors img tab rows mode ≡ 0 → rowsLength (nodes img) ≤ length rows
-  unfolding testErrors testRows
-  passes-rows e = leb→le _ _ (needed 13 _ (both _ _ (both _ _ e .0) .1))
-
-  pub errors-refused : (k : ℕ) → k ≡ testErrors img tab rows mode → (k ≡ 0 → ⊥) → errors img tab rows mode ≡ record { answer = refused k; table = tab; rows = rows }
-  unfolding errors
+  pub errors-refused : (code : ℕ) → code ≡ testRows img tab rows → (code ≡ 0 → ⊥) → code ≡ testErrors img tab rows mode
+  unfolding testErrors
   errors-refused zero e z = absurd (z refl)
-  errors-refused (suc k) e z = rw (sym e, errors)
+  errors-refused (suc k) e z = sym (stop _ _ k (sym e))
 
-  errors-passes : testErrors img tab rows mode ≡ 0 → errors img tab rows mode ≡ errorsOf img tab rows mode (walked img tab)
-  unfolding errors
-  errors-passes e = rw (e, errors)
+  pub mode-over : 0 ≡ testRows img tab rows → 2 < mode → 15 ≡ testErrors img tab rows mode
+  unfolding testErrors need
+  mode-over e m = sym (skip _ _ (sym e) ∙ ap (need 15) (lt-leb _ _ m))
 
-  -- Resolve refuses nothing then
-  pub none-refused : {k : ℕ} → testErrors img tab rows mode ≡ 0 → refused k ≡ (resolve img tab) .answer → ⊥
-  none-refused {k} e q = go (ways img tab)
-    where
-      go : Ways img tab → ⊥
-      go (refuses r h) = let z = passes-table e in omega arith
-      go (stops x a b p h) = let z = (stops-outcome img tab x a b p h) .0 in let o : _≡_ {A = ℕ} 0 1 = cc in omega arith
-      go (fills f p h) = let z = (fills-outcome img tab f p h) .0 in let o : _≡_ {A = ℕ} 0 1 = cc in omega arith
+  pub mode-known : 0 ≡ testRows img tab rows → mode ≤ 2 → 0 ≡ testErrors img tab rows mode
+  unfolding testErrors need
+  mode-known e m = sym (skip _ _ (sym e) ∙ ap (need 15) (le-leb _ _ m))
 
-  pub errors-twice : {x a b : ℕ} {vs : List ℕ} → testErrors img tab rows mode ≡ 0 → twiceAnswer x a b ≡ (resolve img tab) .answer → vs ≡ (resolve img tab) .table
-      → errors img tab rows mode ≡ record { answer = twiceAnswer x a b; table = vs; rows = rows }
-  unfolding errorsOf
-  errors-twice {x} {a} {b} {vs} e q w = go (ways img tab)
-    where
-      go : Ways img tab → errors img tab rows mode ≡ record { answer = twiceAnswer x a b; table = vs; rows = rows }
-      go (refuses r h) = absurd (let z = passes-table e in omega arith)
-      go (stops y c d p h) =
-          let z = stops-outcome img tab y c d p h in
-          errors-passes e ∙ ap (errorsOf img tab rows mode) h
-          ∙ ap₂ (λ (s : Answer) (u : List ℕ). record { answer = s; table = u; rows = rows }) (sym (z .0) ∙ sym q) (sym (w ∙ z .1))
-      go (fills f p h) = absurd (let z = (fills-outcome img tab f p h) .0 in let o : _≡_ {A = ℕ} 0 1 = cc in omega arith)
+  pub errors-rows : testErrors img tab rows mode ≡ 0 → testRows img tab rows ≡ 0
+  unfolding testErrors
+  errors-rows e = both _ _ e .0
 
-  -- the table as Resolve leaves it, and what the checks ask
-  pub record Given (k y : ℕ) (vs : List ℕ) : Type 0 where
-    pub filled : Filled img (record { words = vs; scopes = k; symbols = y }) rows
-    pub leaves : {r : ℕ} {ws : List ℕ} → Wrote (nodes img) (errorRows img (record { words = vs; scopes = k; symbols = y }) mode) rows r ws
-        → errors img tab rows mode ≡ record { answer = result 0 r; table = vs; rows = ws }
+  pub errors-table : testErrors img tab rows mode ≡ 0 → testTable img tab ≡ 0
+  errors-table e = rows-table img tab rows (errors-rows e)
 
-  given-end : (e : Exit) → testErrors img tab rows mode ≡ 0 → walked img tab ≡ done e → Given (e .table .scopes) (e .table .symbols) (headed img (e .table))
-  unfolding errorsOf
-  given-end e p h =
-      let pt = passes-table p in
-      let d = walked-ended img tab pt e h in
-      record {
-        filled = record { accepted = table-accepted img tab pt; rising = headed-sorted img (e .table) (d .kept .rising); long = passes-rows p };
-        leaves = λ {r} {ws} g.
-            let q = errors-headed img (e .table) mode in
-            errors-passes p ∙ ap (errorsOf img tab rows mode) h
-            ∙ ap₂ (λ (x : ℕ) (u : List ℕ). record { answer = result 0 x; table = headed img (e .table); rows = u })
-            (ap length q ∙ sym (g .count)) (ap (λ (l : List Row). written (nodes img) l rows) q ∙ sym (g .words));
-      }
-
-  pub given : {k y : ℕ} {vs : List ℕ} → testErrors img tab rows mode ≡ 0 → result k y ≡ (resolve img tab) .answer → vs ≡ (resolve img tab) .table → Given k y vs
-  given {k} {y} {vs} p q w =
-      let f = filled img tab k y (sym q) in
-      subst (λ (x : ℕ). Given x y vs) (f .scopes-are)
-      (subst (λ (x : ℕ). Given (f .end .table .scopes) x vs) (f .symbols-are)
-      (subst (λ (us : List ℕ). Given (f .end .table .scopes) (f .end .table .symbols) us) (sym (w ∙ f .table-is)) (given-end (f .end) p (f .is))))
+  -- what the checks ask
+  pub errors-filled : testErrors img tab rows mode ≡ 0 → {d : Declared} {ws : List ℕ} → Resolves img tab d ws → {w : Walked} → d ≡ Done w → Filled img (tableOf w ws) rows
+  errors-filled p r q =
+      let f = resolved-filled img tab (errors-table p) r q in
+      record { accepted = f .accepted; rising = f .rising; long = rows-long img tab rows (errors-rows p) }

@@ -18,7 +18,7 @@ use Rattle.table.specs.Table.{Table, isKind, isVar, atEntry, atExit}
 use Rattle.rows.specs.Rows.{Row, row, when}
 use Rattle.bindings.specs.Errors.{introducedRow, argRow, isCtor, appRows, listRows, argRows, definedRow, definedRows, patternRows, rowsOf, rowsSeq, rowsDefined, declRows, declsRows}
 use Rattle.error.specs.Kinds.{asked}
-use Rattle.bindings.specs.Checks.{inside, listed, declared, ofPattern, ofArgs}
+use Rattle.bindings.specs.Promises.{inside, listed, declared, ofPattern, ofArgs}
 
 -- the kinds of the children of a Decl's cases
 abbrev pub declKinds : List ℕ

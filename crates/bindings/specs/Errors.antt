@@ -10,15 +10,12 @@ use Rattle.ast.specs.Kinds.{Class, outer, inner, root, decl, signature, rule, e
 use Rattle.ast.specs.Tests.{_▸_, need}
 use Rattle.ast.specs.Tree.{Tree, node, block, Trees, none, _◂_, treeAt}
 use Rattle.ast.specs.Rows.{opsFrom}
-use Rattle.ast.specs.Answer.{Answer, refused, twice as twiceAnswer, result}
 use Rattle.error.specs.Kinds.{introducedInThen, definedNotNew, patternNotFresh, repeatedArgument, asked}
 use Rattle.table.specs.Table.{Table, isKind, isVar, atEntry, atExit}
-use Rattle.table.specs.State.{Exit}
-use Rattle.scopes.specs.Walk.{Listed, done, twice}
-use Rattle.scopes.specs.Resolve.{zeroed, walked, headed}
+use Rattle.rows.specs.Rows.{Row, row}
 use Rattle.scopes.specs.Twice.{among}
-use Rattle.rows.specs.Rows.{Row, row, when, written}
-use Rattle.scopes.specs.Rows.{testRows, Outcome}
+use Rattle.scopes.specs.Calls.{testRows, RowsOutcome, rowsCall}
+use Rattle.rows.specs.Rows.{when}
 
 unfoldable pub sameNode : Option ℕ → Option ℕ → Bool
 sameNode nothing o = false
@@ -196,21 +193,8 @@ module _ (img : List ℕ) where
 
   -- the refusals: 1 to 15
   unfoldable pub testErrors : List ℕ → List ℕ → ℕ → ℕ
-  unfolding testRows
   testErrors tab rows mode = testRows img tab rows ▸ need 15 (leb mode 2)
 
-  unfoldable pub errorsOf : List ℕ → List ℕ → ℕ → Listed → Outcome
-  unfolding errorRows headed zeroed written
-  errorsOf tab rows mode (done e) =
-      let l = errorRows (e .table) mode in
-      record { answer = result 0 (length l); table = headed img (e .table); rows = written (nodes img) l rows }
-  errorsOf tab rows mode (twice x a b) = record { answer = twiceAnswer x a b; table = zeroed img tab; rows = rows }
-
   -- document 01's Errors
-  unfoldable pub errors : List ℕ → List ℕ → ℕ → Outcome
-  unfolding testErrors errorsOf walked
-  errors tab rows mode =
-      elim (testErrors tab rows mode) [
-        | zero ↦ errorsOf tab rows mode (walked img tab)
-        | suc r ↦ record { answer = refused (suc r); table = tab; rows = rows }
-      ]
+  unfoldable pub errors : List ℕ → List ℕ → ℕ → RowsOutcome
+  errors tab rows mode = rowsCall img tab rows (testErrors tab rows mode) (λ t. errorRows t mode)

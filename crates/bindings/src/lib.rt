@@ -8,20 +8,20 @@ ghost use lib.ListN.{length};
 ghost use Rattle.ast.specs.Image as «image-spec»;
 ghost use Rattle.ast.specs.Kinds.{kindOf};
 ghost use Rattle.ast.specs.Tests as «tests-spec»;
-ghost use Rattle.ast.specs.Is.{Is};
+ghost use Rattle.ast.specs.Is.{Is, twoTerms};
 ghost use Rattle.ast.specs.Tree.{treeAt};
 ghost use Rattle.table.specs.Table as «table-spec»;
 ghost use Rattle.table.specs.Rows.{Sorted};
-ghost use Rattle.table.specs.Values.{tableOf, optionOf};
-ghost use Rattle.rows.specs.Rows.{row, Appended, when};
+ghost use Rattle.table.specs.Values.{tableOf};
+ghost use Rattle.rows.specs.Rows.{row, Appended, Wrote, when};
+ghost use Rattle.scopes.specs.Answers.{rowedAnswer};
 ghost use Rattle.bindings.specs.Errors.{sameNode, introduces, introducedRow, definedRow, argRow, isCtor, rowsOf, declRows, repeatedIn, repeatedTo, strictRows, errorRows, testErrors, errors};
-ghost use Rattle.bindings.specs.Checks.{Room, Ready, ReadyRun, PlainVariable, inside, listed, declared, ofPattern, ofCase, ofArgs, marked, MarkedOne, Marks, ofMode, Filled, Wrote};
-ghost use Rattle.bindings.specs.Answers.{checkedAnswer};
+ghost use Rattle.bindings.specs.Promises.{Room, Ready, PlainVariable, inside, listed, declared, ofPattern, ofCase, ofArgs, marked, MarkedOne, Marks, ofMode, Filled, ReadyRun};
 use ast::NodeId;
 use error::ErrorKind;
-use scopes::Resolved;
+use scopes::Declared;
+use scopes::Rowed;
 use table::Found;
-use table::ScopeId;
 use table::Walked;
 
 fn binding_visible_before(
@@ -110,26 +110,26 @@ fn check_epic_term(
             let inner = NodeId(ast::field(image, child, 0));
             check_epic_term(image, table, w, rows, count, inner)
         }
-        7 => check_epic_pair(image, table, w, rows, count, child),
+        7 => check_epic_two_terms(image, table, w, rows, count, child),
         // Wildcard; and nothing is asked for below Dom and Cod
         _ => count,
     }
 }
 
-// The two terms of a CompTerm or an EqualAtom.
-fn check_epic_pair(
+// A Comp term, or an Equal atom: two terms.
+fn check_epic_two_terms(
     image: &[u8],
     table: &[u32],
     w: Walked,
     rows: &mut [u32],
     count: u32,
-    pair: NodeId,
+    id: NodeId,
 ) -> u32
-    requires { ⌜ Ready (now image) (tableOf w (now table)) (kindOf 21) (pair .0) (inside (now image) (tableOf w (now table)) true (pair .0)) count ⌝ }
-    ensures { λ r. ⌜ Appended («image-spec».nodes (now (image .entry))) (inside (now (image .entry)) (tableOf w (now (table .entry))) true (pair .0)) count (now (rows .entry)) r (now (rows .exit)) ⌝ }
+    requires { ⌜ Ready (now image) (tableOf w (now table)) twoTerms (id .0) (inside (now image) (tableOf w (now table)) true (id .0)) count ⌝ }
+    ensures { λ r. ⌜ Appended («image-spec».nodes (now (image .entry))) (inside (now (image .entry)) (tableOf w (now (table .entry))) true (id .0)) count (now (rows .entry)) r (now (rows .exit)) ⌝ }
 {
-    let first = NodeId(ast::field(image, pair, 0));
-    let second = NodeId(ast::field(image, pair, 1));
+    let first = NodeId(ast::field(image, id, 0));
+    let second = NodeId(ast::field(image, id, 1));
     let after = check_epic_term(image, table, w, rows, count, first);
     check_epic_term(image, table, w, rows, after, second)
 }
@@ -256,7 +256,7 @@ fn check_then_atom(
     let case = ast::field(image, atom, 0);
     let child = NodeId(ast::field(image, atom, 1));
     match case {
-        0 => check_epic_pair(image, table, w, rows, count, child),
+        0 => check_epic_two_terms(image, table, w, rows, count, child),
         1 => check_then_defined(image, table, w, rows, count, atom, child),
         _ => {
             // a member predicate's receiver is not asked
@@ -619,23 +619,19 @@ fn write_rows(image: &[u8], table: &[u32], w: Walked, rows: &mut [u32], mode: u3
     ensures { λ r. ⌜ Wrote («image-spec».nodes (now (image .entry))) (errorRows (now (image .entry)) (tableOf w (now (table .entry))) mode) (now (rows .entry)) r (now (rows .exit)) ⌝ }
 {
     let n = ast::node_count(image);
-    rows::clear(rows, 1 + 2 * ast::wide(n));
+    rows::begin(rows, n);
     let plain = walk_module(image, table, w, rows, 0, NodeId(n - 1));
     let count = check_mode(image, rows, plain, mode);
-    table::put(rows, 0, count);
-    count
+    rows::finish(rows, count)
 }
 
 // The refusals of Errors: 1 to 15.
 fn test_errors(image: &[u8], table: &[u32], rows: &[u32], mode: u32) -> u32
     ensures { λ r. ⌜ r ≡ testErrors (now (image .entry)) (now (table .entry)) (now (rows .entry)) mode ⌝ }
 {
-    let code = scopes::test_table(image, table);
+    let code = scopes::test_rows(image, table, rows);
     if code != 0 {
         return code;
-    }
-    if rows.len() < 1 + 2 * ast::wide(ast::node_count(image)) {
-        return 14;
     }
     if 2 < mode {
         return 15;
@@ -643,31 +639,16 @@ fn test_errors(image: &[u8], table: &[u32], rows: &[u32], mode: u32) -> u32
     0
 }
 
-// What Errors hands back: a refusal, a name that is declared twice with its two nodes, or the count of rows.
-pub enum Checked {
-    Refused(u32),
-    Twice(u32, NodeId, NodeId),
-    Rows(u32),
-}
-
 // Errors: resolves, then writes the error rows. Mode 0, the default, and 1 are plain, 2 is strict.
-pub fn check_bindings(image: &[u8], table: &mut [u32], rows: &mut [u32], mode: u32) -> Checked
-    ensures { λ r. ⌜ errors (now (image .entry)) (now (table .entry)) (now (rows .entry)) mode ≡ record { answer = checkedAnswer r; table = now (table .exit); rows = now (rows .exit) } ⌝ }
+pub fn check_bindings(image: &[u8], table: &mut [u32], rows: &mut [u32], mode: u32) -> Rowed
+    ensures { λ r. ⌜ errors (now (image .entry)) (now (table .entry)) (now (rows .entry)) mode ≡ record { answer = rowedAnswer r; table = now (table .exit); rows = now (rows .exit) } ⌝ }
 {
     let code = test_errors(image, table, rows, mode);
     if code != 0 {
-        return Checked::Refused(code);
+        return Rowed::Refused(code);
     }
     match scopes::resolve_into(image, table) {
-        Resolved::Refused(number) => Checked::Refused(number),
-        Resolved::Twice(name, first, second) => Checked::Twice(name, first, second),
-        Resolved::Scopes(scopes, symbols) => {
-            let w = Walked {
-                scopes,
-                symbols,
-                scope: ScopeId(0),
-            };
-            Checked::Rows(write_rows(image, table, w, rows, mode))
-        }
+        Declared::Done(w) => Rowed::Rows(write_rows(image, table, w, rows, mode)),
+        Declared::Twice(name, first, second) => Rowed::Twice(name, first, second),
     }
 }

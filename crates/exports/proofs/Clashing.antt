@@ -9,7 +9,7 @@ use native.Mathlib.Decide.{decLt, ℕ-discrete}
 use lib.Dec.{T, eqb, leb}
 use borrow.Author.Tests.{le-leb, ne-eqb, leb-true}
 use Rattle.ast.specs.Answer.{twice as twiceAnswer}
-use Rattle.ast.specs.Declarations.{ruleNode, declared, declaredAll, modelLists, modelListsAll, moduleLists, orElse, earliest}
+use Rattle.ast.specs.Declarations.{modelLists, modelListsAll, moduleLists, orElse, earliest}
 use Rattle.ast.specs.Image.{nodes, names, last, kindAt, nameOf}
 use Rattle.ast.specs.Kinds.{outer, inner, root, decl, signature, rule, enum, model, Field, name, optName, child, optChild, list, lists, cases, Kind, kinds, kindOf}
 use Rattle.ast.specs.Rows.{fieldsAt}
@@ -19,15 +19,14 @@ use Rattle.ast.proofs.Acceptance.{row, name-below, opt-name-below}
 use Rattle.ast.proofs.Accepted.{sized, last-below}
 use Rattle.ast.proofs.Unfold.{All, nil, cons, All-append}
 use Rattle.ast.proofs.Vars.{Everywhere, EverywhereAll, every-kind}
-use Rattle.table.specs.Sound.{isSymbol}
-use Rattle.table.proofs.Sounds.{named-no, symbol-rule, symbol-arg, symbol-low, symbol-decl}
+use Rattle.sound.specs.Sound.{isSymbol}
+use Rattle.sound.proofs.Sounds.{named-no, symbol-rule, symbol-arg, symbol-low, symbol-decl}
 use Rattle.scopes.specs.Walk.{twice}
 use Rattle.scopes.specs.Resolve.{testTable, walked}
 use Rattle.scopes.specs.Clash.{Clash, clashFrom, clashIn, firstClash}
 use Rattle.scopes.proofs.Clashes.{shows}
 use Rattle.ast.proofs.Bools.{true-not-false}
-use Rattle.ordered.proofs.Moves.{namedBy, enters}
-use Rattle.scopes.proofs.Namings.{symbol-below, Fit, tree-fits}
+use Rattle.scopes.proofs.Namings.{Fit, Symbols, declaredAll-symbols, symbol-below, tree-fits}
 use Rattle.scopes.proofs.Resolving.{table-accepted, walked-shown}
 use Rattle.exports.specs.Packed.{Fits}
 
@@ -99,13 +98,10 @@ module _ (img : List ℕ) where
     second : isSymbol img (c .second) ≡ true
     name : c .name ≡ nameOf img (c .second)
 
-  abbrev Symbols : List ℕ → Type 0
-  Symbols ns = All (λ n. isSymbol img n ≡ true) ns
-
   no-clash : {A : Type 0} {a : A} → nothing ≡ some a → ⊥
   no-clash e = let z : _≡_ {A = ℕ} 0 1 = cc in omega arith
 
-  earliest-symbol : (ds : List ℕ) (x m : ℕ) → Symbols ds → earliest (nameOf img) ds x ≡ some m → isSymbol img m ≡ true
+  earliest-symbol : (ds : List ℕ) (x m : ℕ) → Symbols img ds → earliest (nameOf img) ds x ≡ some m → isSymbol img m ≡ true
   unfolding earliest
   earliest-symbol [] x m a e = absurd (no-clash e)
   earliest-symbol (d ∷ ds) x m (cons h a) e = go (eqb (nameOf img d) x) e (earliest-symbol ds x m a)
@@ -114,7 +110,7 @@ module _ (img : List ℕ) where
       go true q f = let z : d ≡ m = cc in subst (λ (y : ℕ). isSymbol img y ≡ true) z h
       go false q f = f q
 
-  from-known : (ds ns : List ℕ) → Symbols ds → Symbols ns → (c : Clash) → clashFrom (nameOf img) ds ns ≡ some c → Known c
+  from-known : (ds ns : List ℕ) → Symbols img ds → Symbols img ns → (c : Clash) → clashFrom (nameOf img) ds ns ≡ some c → Known c
   unfolding clashFrom
   from-known ds [] a b c e = absurd (no-clash e)
   from-known ds (n ∷ ns) a (cons h b) c e = go (earliest (nameOf img) ds (nameOf img n)) refl e (from-known (ds ++ (n ∷ [])) ns (All-append a (cons h nil)) b c)
@@ -131,33 +127,10 @@ module _ (img : List ℕ) where
   or-known (some d) p f g c e = f c e
   or-known nothing p f g c e = g c e
 
-  rule-symbols : (sh : List ℕ) (n : ℕ) → (namedBy sh ≡ true → isSymbol img n ≡ true) → Symbols (ruleNode sh n)
-  unfolding ruleNode namedBy
-  rule-symbols [] n f = nil
-  rule-symbols (zero ∷ sh) n f = nil
-  rule-symbols (suc c ∷ sh) n f = cons (f refl) nil
-
-  mutual
-    unfolding declared Everywhere Fit enters
-
-    declared-symbols : (u : Tree) → Everywhere (Fit img) u → Symbols (declared u)
-    declared-symbols (block ts) q = nil
-    declared-symbols (node n k (inner i) sh ts) q = nil
-    declared-symbols (node n k (outer root) sh ts) q = nil
-    declared-symbols (node n k (outer decl) sh ts) q = all-symbols ts (q .1)
-    declared-symbols (node n k (outer signature) sh ts) q = cons (q .0 .1 refl) nil
-    declared-symbols (node n k (outer rule) sh ts) q = rule-symbols sh n (q .0 .1)
-    declared-symbols (node n k (outer enum) sh ts) q = cons (q .0 .1 refl) (all-symbols ts (q .1))
-    declared-symbols (node n k (outer model) sh ts) q = cons (q .0 .1 refl) nil
-
-    all-symbols : (us : Trees) → EverywhereAll (Fit img) us → Symbols (declaredAll us)
-    all-symbols none q = nil
-    all-symbols (u ◂ us) q = All-append (declared-symbols u (q .0)) (all-symbols us (q .1))
-
   -- what each list declares is symbols
   pub data SymbolLists : List (List ℕ) → Type 0 where
     no-list : SymbolLists []
-    a-list : {ns : List ℕ} {nss : List (List ℕ)} → Symbols ns → SymbolLists nss → SymbolLists (ns ∷ nss)
+    a-list : {ns : List ℕ} {nss : List (List ℕ)} → Symbols img ns → SymbolLists nss → SymbolLists (ns ∷ nss)
 
   lists-append : {nss mss : List (List ℕ)} → SymbolLists nss → SymbolLists mss → SymbolLists (nss ++ mss)
   lists-append no-list b = b
@@ -174,7 +147,7 @@ module _ (img : List ℕ) where
     model-symbols (node n k (outer signature) sh ts) q = no-list
     model-symbols (node n k (outer rule) sh ts) q = no-list
     model-symbols (node n k (outer enum) sh ts) q = models-symbols ts (q .1)
-    model-symbols (node n k (outer model) sh ts) q = a-list (all-symbols ts (q .1)) (models-symbols ts (q .1))
+    model-symbols (node n k (outer model) sh ts) q = a-list (declaredAll-symbols img ts (q .1)) (models-symbols ts (q .1))
 
     models-symbols : (us : Trees) → EverywhereAll (Fit img) us → SymbolLists (modelListsAll us)
     models-symbols none q = no-list
@@ -183,7 +156,7 @@ module _ (img : List ℕ) where
   module-symbols : (u : Tree) → Everywhere (Fit img) u → SymbolLists (moduleLists u)
   unfolding moduleLists Everywhere
   module-symbols (block ts) q = no-list
-  module-symbols (node n k c sh ts) q = a-list (all-symbols ts (q .1)) (models-symbols ts (q .1))
+  module-symbols (node n k c sh ts) q = a-list (declaredAll-symbols img ts (q .1)) (models-symbols ts (q .1))
 
   lists-known : (nss : List (List ℕ)) → SymbolLists nss → (c : Clash) → clashIn (nameOf img) nss ≡ some c → Known c
   unfolding clashIn

@@ -19,13 +19,13 @@ use Rattle.ordered.specs.Walk.{Role, walkIdent, walk, walkSeq, walkFirst}
 use Rattle.ordered.specs.Walk as walking
 use Rattle.ordered.proofs.Kept.{mark-kept}
 use Rattle.ordered.proofs.Moves.{numbers, numbersSeq, marks, drops}
-use Rattle.sight.proofs.Frame.{mark-lookup, mark-exit-same, new-lookup, new-kept}
+use Rattle.sight.proofs.Frame.{mark-lookup, mark-entry-same, mark-exit-same, new-lookup, new-kept}
 use Rattle.sight.proofs.Members.{in-right}
-use Rattle.sight.proofs.Moves.{Walks}
+use Rattle.sight.proofs.Moves.{Walks, walks-over, walks-along, framed}
 use Rattle.sight.proofs.Steps.{IdentOnly, VarTerm, VarTerms, Idents, Body, Bodies, Members, Defines}
 use Rattle.meaning.specs.Meaning.{Env, Part, occurs, declares, names, defines, headPart, isA, with, introduces, meetIdent, meet, meetSeq, meetThen}
 use Rattle.meaning.specs.Meaning as meaning
-use Rattle.meaning.proofs.Keeps.{walks-over, walks-along, walks-first, walks-rise, mark-entry, walks-onward, Ends, ends-after, ends-between}
+use Rattle.meaning.proofs.Keeps.{walks-first, walks-rise, Ends, ends-after, ends-between}
 
 -- a defined-then's variable is a body, and what the walk meets below a defined-then are bodies
 module _ (img : List ℕ) where
@@ -136,7 +136,7 @@ module _ (img : List ℕ) (T : Table) where
       → n < nodes img → At env e → At env′ e′ → Around n env env′
   around n env env′ e e′ p q l a a′ =
       record {
-        entry = subst (λ s. Reads s env) (sym (p ∙ mark-entry img n (e .scope) (e′ .scope) (e′ .table) l (a′ .sane))) (a .reads);
+        entry = subst (λ s. Reads s env) (sym (p ∙ mark-entry-same img n (e .scope) (e′ .scope) (e′ .table) l (a′ .sane))) (a .reads);
         exit = subst (λ s. Reads s env′) (sym (q ∙ mark-exit-same img n (e .scope) (e′ .scope) (e′ .table) l (a′ .sane))) (a′ .reads);
       }
 
@@ -223,8 +223,9 @@ module _ (img : List ℕ) (T : Table) where
       → Around i env (meetsIdent p i env) × At (meetsIdent p i env) (walk img r (node i k (inner ident) sh us) e)
   unfolding walk numbers marked
   ident-told {r} {p} i k sh us {env} e q a h =
-      let f = (walks-onward img (walks-over img r (node i k (inner ident) sh us) e) (h .few) (h .small) (a .sane) (a .inside)) .0 in
-      let m = f .scopes≤ in
+      let v = walks-over img r (node i k (inner ident) sh us) e in
+      let f = framed img v (h .few) (h .small) (a .sane) (a .inside) in
+      let m = walks-rise img v in
       let w = walkIdent img r i e in
       let l = h .small i (inl refl) in
       let z : At (meetsIdent p i env) w = ident-at i env e a q (λ s x l. h .lookups s x (omega arith) ∙ f .later .lookups s x l) h in (

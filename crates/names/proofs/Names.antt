@@ -13,13 +13,13 @@ use native.Mathlib.Nat.{add-zero, zero-add}
 use native.Mathlib.Decide.{decLt}
 use borrow.Author.Tests.{lt-ltb, le-ltb, eq-eqb, ne-eqb, eqb-true}
 use Rattle.ast.specs.Image.{names, bytes, bytesPlace, nameStart, nameEnd, nameBytes}
-use Rattle.ast.specs.Scan.{Within, Rises}
+use Rattle.ast.specs.Promises.{Within, Rises}
 use Rattle.ast.specs.Tests.{_▸_, need, run, same, rising, unequal, testEnds, testTwice, testNames}
 use Rattle.ast.proofs.Accepted.{skip, stop, stop-at, name-in}
 use Rattle.ast.proofs.Runs.{RunLeft, run-begin, run-next, run-stop, run-end}
 use Rattle.ast.proofs.Scans.{need-in, need-out}
 use Rattle.ast.specs.declared.Sizes.{Sizes}
-use Rattle.names.specs.Names.{Met, NameAt, Reach, Spanned, hash, here, there}
+use Rattle.names.specs.Promises.{Met, NameAt, Reach, Spanned, hash, here, there}
 
 -- runs ----------------------------------------------------------------------------------------------------------------
 run-all : (f : ℕ → ℕ) (c i : ℕ) → ((j : ℕ) → j < c → f (i + j) ≡ 0) → run f c i ≡ 0

@@ -14,7 +14,7 @@ use borrow.Author.Tests.{eq-eqb, ne-eqb}
 use Rattle.ast.specs.Image.{names, nameStart, nameEnd, nameBytes}
 use Rattle.ast.specs.Tests.{same}
 use Rattle.ast.specs.declared.Sizes.{Sizes}
-use Rattle.names.specs.Names.{NameAt}
+use Rattle.names.specs.Promises.{NameAt}
 use Rattle.names.specs.Number.{numberFrom, numberOf}
 use Rattle.names.proofs.Names.{name-slice, same-length}
 

@@ -1,3 +1,3 @@
-pub mod Names
+pub mod Promises
 pub mod Name
 pub mod Number

@@ -14,7 +14,7 @@ use borrow.Author.Tests.{eqb-true, eqb-false, le-leb, lt-leb}
 use Rattle.ast.specs.Image.{nodes, kindAt, field, nameOf}
 use Rattle.ast.specs.Kinds.{kindOf}
 use Rattle.ast.specs.Items.{items}
-use Rattle.ast.specs.Scan.{bump, claimAll}
+use Rattle.ast.specs.Promises.{bump, claimAll}
 use Rattle.ast.specs.declared.NodeId.{NodeId}
 use Rattle.ast.specs.Tests.{is, times}
 use Rattle.ast.proofs.Accepted.{sized}
@@ -22,65 +22,15 @@ use Rattle.ast.proofs.Count.{is-same, is-other}
 use Rattle.ast.proofs.Runs.{sat, claimed-times}
 use Rattle.ast.proofs.Unfold.{All, nil, cons, All-map}
 use Rattle.table.specs.Table.{Table, rowIs, findFrom, climb, lookup, exitAt}
-use Rattle.table.specs.Rows.{nodeAt}
-use Rattle.rows.specs.Rows.{Row, row, rights, rowsLength, putRows, Appended}
+use Rattle.table.specs.Rows.{nodeAt, parentAt}
+use Rattle.rows.specs.Rows.{Row, row, rights, rowsLength, Appended, readRows}
+use Rattle.rows.proofs.Reading.{read-appended, read-more, read-end, read-all}
 use Rattle.occurrences.specs.Spots.{Spot, spotsSeq}
 use Rattle.occurrences.specs.Occurrences.{found, listed, rowsFor, timesBound, loneIn, lone}
-use Rattle.occurrences.specs.Collect.{rowsAt, joined, listsIn, listsAt, Listing, ListingRun, readRows, under, uncounted, recount, recounted, loneOf, Scratch, Searched}
+use Rattle.occurrences.specs.Promises.{rowsAt, joined, listsIn, listsAt, Listing, ListingRun, under, uncounted, recount, recounted, loneOf, Scratch, Searched}
 use Rattle.occurrences.specs.declared.Checked.{Checked}
 use Rattle.occurrences.specs.declared.Checked.the-variants.{Ok, Lone}
 use Rattle.occurrences.proofs.CollectRules.{joined-append, items-done, items-all, RuleRun, ruleRun, DeclItem, declItem}
-
--- rows read back ----------------------------------------------------------------------------------------------------------
--- a place that no row takes
-put-keeps : (N c : ℕ) (l : List Row) (ws : List ℕ) (k : ℕ) → ((d : ℕ) → c ≤ d → d < c + length l → (k ≡ 1 + d → ⊥) × (k ≡ 1 + N + d → ⊥))
-    → getD (putRows N c l ws) k 0 ≡ getD ws k 0
-unfolding putRows
-put-keeps N c [] ws k h = refl
-put-keeps N c (w ∷ l) ws k h =
-    put-keeps N (c + 1) l (set (set ws (1 + c) (w .left)) (1 + N + c) (w .right)) k (λ d a b. h d (omega arith) (omega arith))
-    ∙ getD-set-other (set ws (1 + c) (w .left)) (1 + N + c) k (w .right) 0 ((h c (omega arith) (omega arith)) .1)
-    ∙ getD-set-other ws (1 + c) k (w .left) 0 ((h c (omega arith) (omega arith)) .0)
-
-read-back : (N c : ℕ) (l : List Row) (ws : List ℕ) → c + length l ≤ N → rowsLength N ≤ length ws → readRows N (putRows N c l ws) (length l) c ≡ l
-unfolding putRows readRows
-read-back N c [] ws f g = refl
-read-back N c (w ∷ l) ws f g =
-    ap₂ (λ (a b : ℕ). row a b ∷ readRows N (putRows N (c + 1) l us) (length l) (c + 1)) left right
-    ∙ ap (λ (k : List Row). w ∷ k) (read-back N (c + 1) l us (omega arith) (let a = length-set vs (1 + N + c) (w .right) in let b = length-set ws (1 + c) (w .left) in omega arith))
-  where
-    vs : List ℕ
-    vs = set ws (1 + c) (w .left)
-
-    us : List ℕ
-    us = set vs (1 + N + c) (w .right)
-
-    left : getD (putRows N (c + 1) l us) (1 + c) 0 ≡ w .left
-    left =
-        put-keeps N (c + 1) l us (1 + c) (λ d a b. (λ q. omega arith, λ q. omega arith))
-        ∙ getD-set-other vs (1 + N + c) (1 + c) (w .right) 0 (λ q. omega arith)
-        ∙ getD-set-same ws (1 + c) (w .left) 0 (omega arith)
-
-    right : getD (putRows N (c + 1) l us) (1 + N + c) 0 ≡ w .right
-    right =
-        put-keeps N (c + 1) l us (1 + N + c) (λ d a b. (λ q. omega arith, λ q. omega arith))
-        ∙ getD-set-same vs (1 + N + c) (w .right) 0 (let a = length-set ws (1 + c) (w .left) in omega arith)
-
-pub read-appended : {N r : ℕ} {l : List Row} {ws vs : List ℕ} → Appended N l 0 ws r vs → length l ≤ N → rowsLength N ≤ length ws → readRows N vs r 0 ≡ l
-read-appended {N} {r} {l} {ws} {vs} a f g =
-    ap₂ (λ (us : List ℕ) (c : ℕ). readRows N us c 0) (a .words) (a .count ∙ (let z : 0 + length l ≡ length l = omega arith in z)) ∙ read-back N 0 l ws (omega arith) g
-
--- what is left to read after i rows
-pub read-more : (N : ℕ) (ws : List ℕ) (c i : ℕ) → i < c → readRows N ws (c - i) i ≡ row (getD ws (1 + i) 0) (getD ws (1 + N + i) 0) ∷ readRows N ws (c - (i + 1)) (i + 1)
-unfolding readRows
-read-more N ws c i h = ap (λ (x : ℕ). readRows N ws x i) (let z : c - i ≡ suc (c - (i + 1)) = omega arith in z)
-
-pub read-end : (N : ℕ) (ws : List ℕ) (c i : ℕ) → c ≤ i → readRows N ws (c - i) i ≡ []
-unfolding readRows
-read-end N ws c i h = ap (λ (x : ℕ). readRows N ws x i) (let z : c - i ≡ 0 = omega arith in z)
-
-pub read-all : (N : ℕ) (ws : List ℕ) (c : ℕ) → readRows N ws c 0 ≡ readRows N ws (c - 0) 0
-read-all N ws c = ap (λ (x : ℕ). readRows N ws x 0) (sym (sub-zero c))
 
 -- no binding counted, and one more
 recounted-none : (up : Bool) (us : List ℕ) → recounted up [] us ≡ us
@@ -171,10 +121,10 @@ module _ (img : List ℕ) (t : Table) (low : (j : ℕ) → j < t .symbols → no
   pub climb-low : (f s x m : ℕ) → climb img f (t .words) (t .symbols) s x ≡ some m → m < nodes img
   unfolding climb
   climb-low zero s x m e = absurd (let z : _≡_ {A = ℕ} 0 1 = cc in omega arith)
-  climb-low (suc f) s x m e = go (findFrom img (t .symbols) (t .words) 0 s x) refl e (λ q. climb-low f (getD (t .words) (3 + 2 * nodes img + s) 0) x m q)
+  climb-low (suc f) s x m e = go (findFrom img (t .symbols) (t .words) 0 s x) refl e (λ q. climb-low f (parentAt (nodes img) (t .words) s) x m q)
     where
       p : ℕ
-      p = getD (t .words) (3 + 2 * nodes img + s) 0
+      p = parentAt (nodes img) (t .words) s
 
       up : (b : Bool) → _≡_ {A = Option ℕ} (elim b [ true ↦ climb img f (t .words) (t .symbols) p x | false ↦ nothing ]) (some m) → (climb img f (t .words) (t .symbols) p x ≡ some m → m < nodes img) → m < nodes img
       up true q h = h q

@@ -18,7 +18,7 @@ use Rattle.table.specs.Table.{Table, isVar}
 use Rattle.rows.specs.Rows.{Row, row}
 use Rattle.occurrences.specs.Spots.{Spot, spots, spotsSeq, spotsBack, spotsFirst}
 use Rattle.occurrences.specs.Occurrences.{listed, found, rowsFor}
-use Rattle.occurrences.specs.Collect.{spot, identRows, rowsIn, rowsAt}
+use Rattle.occurrences.specs.Promises.{spot, identRows, rowsIn, rowsAt}
 
 -- any class but an IdentTerm's: its spots do not depend on the node above
 unfoldable pub bare : Class → Bool

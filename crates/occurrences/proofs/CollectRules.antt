@@ -24,7 +24,7 @@ use Rattle.rows.proofs.Parts.{Left, left-start, left-next, left-end}
 use Rattle.occurrences.specs.Spots.{Spot, spots, spotsSeq, ruleSpots}
 use Rattle.ast.specs.Rules.{Rule, rules, rulesAll, rulesOf, moduleRules}
 use Rattle.occurrences.specs.Occurrences.{found, listed, rowsFor, ruleRows, allRows, occurrenceRows, rowsByRule}
-use Rattle.occurrences.specs.Collect.{rowsAt, joined, listsIn, listsAt, ReadyRun, Listing, ListingRun, Whole}
+use Rattle.occurrences.specs.Promises.{rowsAt, joined, listsIn, listsAt, ReadyRun, Listing, ListingRun, Whole}
 use Rattle.occurrences.proofs.CollectRows.{bare, rows-append, owner}
 use Rattle.occurrences.proofs.CollectSteps.{left-count}
 

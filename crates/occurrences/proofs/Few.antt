@@ -21,7 +21,7 @@ use Rattle.rows.specs.Rows.{Row, row}
 use Rattle.occurrences.specs.Spots.{Spot, spots, spotsSeq, spotsBack, spotsFirst, ruleSpots}
 use Rattle.ast.specs.Rules.{Rule, saysAll, rules, rulesAll, rulesOf, moduleRules}
 use Rattle.occurrences.specs.Occurrences.{found, listed, rowsFor, ruleRows, allRows, occurrenceRows, loneIn, lone, rowsByRule, timesBound}
-use Rattle.occurrences.specs.Collect.{Nodes}
+use Rattle.occurrences.specs.Promises.{Nodes}
 use Rattle.occurrences.proofs.CollectLone.{climb-low}
 
 -- no more spots than nodes -----------------------------------------------------------------------------------------------

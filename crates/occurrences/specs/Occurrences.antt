@@ -2,18 +2,13 @@
 use mathlib.Core.Bool.{Bool, true, false}
 use mathlib.Core.List.{List, [], _∷_, _++_}
 use mathlib.Core.Option.{Option, none as nothing, some}
-use Prim.Native.Nat.{ℕ, zero, suc, _+_}
+use Prim.Native.Nat.{ℕ, suc}
 use lib.Dec.{eqb, leb}
-use lib.ListN.{length}
-use Rattle.ast.specs.Image.{nodes}
-use Rattle.ast.specs.Answer.{Answer, refused, twice as twiceAnswer, result, other}
+use Rattle.ast.specs.Answer.{Answer, result, other}
 use Rattle.table.specs.Table.{Table, isKind, isVar, atExit}
-use Rattle.table.specs.State.{Exit}
-use Rattle.scopes.specs.Walk.{Listed, done, twice}
-use Rattle.scopes.specs.Resolve.{testTable, zeroed, walked, headed}
-use Rattle.scopes.specs.Resolve as resolving
-use Rattle.rows.specs.Rows.{Row, row, written}
-use Rattle.scopes.specs.Rows.{testRows, Outcome}
+use Rattle.rows.specs.Rows.{Row, row}
+use Rattle.scopes.specs.Resolve.{testTable, Outcome, tableCall}
+use Rattle.scopes.specs.Calls.{testRows, RowsOutcome, rowsCall}
 use Rattle.occurrences.specs.Spots.{Spot, ruleSpots}
 use Rattle.ast.specs.Rules.{Rule, moduleRules}
 
@@ -70,37 +65,16 @@ unfolding ruleRows
 rowsByRule img t [] = []
 rowsByRule img t (r ∷ rs) = ruleRows img t r ∷ rowsByRule img t rs
 
-unfoldable pub onceAnswer : Option Row → Answer
-onceAnswer nothing = result 0 0
-onceAnswer (some w) = other (w .left) (w .right)
+-- what Once says: "ok", or the lone occurrence with its binding
+unfoldable pub loneAnswer : Option Row → Answer
+loneAnswer nothing = result 0 0
+loneAnswer (some w) = other (w .left) (w .right)
 
 module _ (img : List ℕ) where
-  unfoldable pub occurrencesOf : List ℕ → List ℕ → Listed → Outcome
-  unfolding occurrenceRows headed zeroed written
-  occurrencesOf tab rows (done e) =
-      let l = occurrenceRows img (e .table) in
-      record { answer = result 0 (length l); table = headed img (e .table); rows = written (nodes img) l rows }
-  occurrencesOf tab rows (twice x a b) = record { answer = twiceAnswer x a b; table = zeroed img tab; rows = rows }
-
   -- document 01's Occurrences
-  unfoldable pub occurrences : List ℕ → List ℕ → Outcome
-  unfolding testRows occurrencesOf walked
-  occurrences tab rows =
-      elim (testRows img tab rows) [
-        | zero ↦ occurrencesOf tab rows (walked img tab)
-        | suc r ↦ record { answer = refused (suc r); table = tab; rows = rows }
-      ]
-
-  unfoldable pub onceOf : List ℕ → Listed → resolving.Outcome
-  unfolding lone rowsByRule onceAnswer moduleRules headed zeroed
-  onceOf tab (done e) = record { answer = onceAnswer (lone (rowsByRule img (e .table) (moduleRules img))); table = headed img (e .table) }
-  onceOf tab (twice x a b) = record { answer = twiceAnswer x a b; table = zeroed img tab }
+  unfoldable pub occurrences : List ℕ → List ℕ → RowsOutcome
+  occurrences tab rows = rowsCall img tab rows (testRows img tab rows) (occurrenceRows img)
 
   -- document 01's Once
-  unfoldable pub once : List ℕ → resolving.Outcome
-  unfolding testTable onceOf walked
-  once tab =
-      elim (testTable img tab) [
-        | zero ↦ onceOf tab (walked img tab)
-        | suc r ↦ record { answer = refused (suc r); table = tab }
-      ]
+  unfoldable pub once : List ℕ → Outcome
+  once tab = tableCall img tab (testTable img tab) (λ t. loneAnswer (lone (rowsByRule img t (moduleRules img))))

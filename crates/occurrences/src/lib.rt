@@ -4,18 +4,20 @@ ghost use mathlib.Core.List.{[], _∷_};
 ghost use Prim.Native.Nat.{_+_, _<_, _≤_, _^_};
 ghost use lib.ListN.{length, getD, set};
 ghost use Rattle.ast.specs.Image as «image-spec»;
+ghost use Rattle.ast.specs.Is.{twoTerms};
 ghost use Rattle.ast.specs.Kinds.{kindOf};
 ghost use Rattle.table.specs.Rows.{Sorted};
 ghost use Rattle.table.specs.Values.{sought};
-ghost use Rattle.rows.specs.Rows.{rights, rowsLength, written, Appended};
-ghost use Rattle.scopes.specs.Rows.{testRows};
+ghost use Rattle.rows.specs.Rows.{rights, rowsLength, Appended, Wrote, readRows};
+ghost use Rattle.scopes.specs.Answers.{rowedAnswer};
 ghost use Rattle.ast.specs.Rules.{moduleRules};
-ghost use Rattle.occurrences.specs.Answers.{listedAnswer, checkedAnswer};
+ghost use Rattle.occurrences.specs.Answers.{onceAnswer};
 ghost use Rattle.occurrences.specs.Occurrences as «occurrences-spec»;
 ghost use Rattle.occurrences.specs.Occurrences.{found, occurrenceRows, lone, rowsByRule};
-ghost use Rattle.occurrences.specs.Collect.{spot, identRows, rowsIn, rowsAt, Room, Ready, ReadyRun, joined, listsIn, listsAt, Listing, ListingRun, Whole, Nodes, readRows, under, recount, recounted, loneOf, Scratch, Searched};
+ghost use Rattle.occurrences.specs.Promises.{spot, identRows, rowsIn, rowsAt, Room, Ready, joined, listsIn, listsAt, Listing, ListingRun, Whole, Nodes, under, recount, recounted, loneOf, Scratch, Searched, ReadyRun};
 use ast::NodeId;
-use scopes::Resolved;
+use scopes::Declared;
+use scopes::Rowed;
 use table::Found;
 
 // An ident directly under a Term or AppHead: a row if it is a Var.
@@ -69,14 +71,27 @@ fn collect_term(
             let inner = NodeId(ast::field(image, id, 0));
             collect_term(image, table, symbols, rows, count, inner)
         }
-        7 => {
-            let first = NodeId(ast::field(image, id, 0));
-            let second = NodeId(ast::field(image, id, 1));
-            let after = collect_term(image, table, symbols, rows, count, first);
-            collect_term(image, table, symbols, rows, after, second)
-        }
+        7 => collect_two_terms(image, table, symbols, rows, count, id),
         _ => count,
     }
+}
+
+// A Comp term, or an Equal atom: two terms.
+fn collect_two_terms(
+    image: &[u8],
+    table: &[u32],
+    symbols: u32,
+    rows: &mut [u32],
+    count: u32,
+    id: NodeId,
+) -> u32
+    requires { ⌜ Ready (now image) (sought (now table) symbols) twoTerms (id .0) count ⌝ }
+    ensures { λ r. ⌜ Appended («image-spec».nodes (now (image .entry))) (rowsIn (now (image .entry)) (sought (now (table .entry)) symbols) (id .0)) count (now (rows .entry)) r (now (rows .exit)) ⌝ }
+{
+    let first = NodeId(ast::field(image, id, 0));
+    let second = NodeId(ast::field(image, id, 1));
+    let after = collect_term(image, table, symbols, rows, count, first);
+    collect_term(image, table, symbols, rows, after, second)
 }
 
 fn collect_app_head(
@@ -164,24 +179,6 @@ fn collect_pred_expr(
     count
 }
 
-// Two terms: an Equal atom.
-fn collect_equal(
-    image: &[u8],
-    table: &[u32],
-    symbols: u32,
-    rows: &mut [u32],
-    count: u32,
-    id: NodeId,
-) -> u32
-    requires { ⌜ Ready (now image) (sought (now table) symbols) (kindOf 30) (id .0) count ⌝ }
-    ensures { λ r. ⌜ Appended («image-spec».nodes (now (image .entry))) (rowsIn (now (image .entry)) (sought (now (table .entry)) symbols) (id .0)) count (now (rows .entry)) r (now (rows .exit)) ⌝ }
-{
-    let lhs = NodeId(ast::field(image, id, 0));
-    let rhs = NodeId(ast::field(image, id, 1));
-    let after = collect_term(image, table, symbols, rows, count, lhs);
-    collect_term(image, table, symbols, rows, after, rhs)
-}
-
 fn collect_pred(
     image: &[u8],
     table: &[u32],
@@ -235,7 +232,7 @@ fn collect_if_atom(
     let case = ast::field(image, atom, 0);
     let id = NodeId(ast::field(image, atom, 1));
     match case {
-        0 => collect_equal(image, table, symbols, rows, count, id),
+        0 => collect_two_terms(image, table, symbols, rows, count, id),
         1 => {
             let term = NodeId(ast::field(image, id, 0));
             collect_term(image, table, symbols, rows, count, term)
@@ -264,7 +261,7 @@ fn collect_then_atom(
     let case = ast::field(image, atom, 0);
     let id = NodeId(ast::field(image, atom, 1));
     match case {
-        0 => collect_equal(image, table, symbols, rows, count, id),
+        0 => collect_two_terms(image, table, symbols, rows, count, id),
         1 => collect_defined(image, table, symbols, rows, count, id),
         _ => collect_pred(image, table, symbols, rows, count, id),
     }
@@ -594,47 +591,24 @@ fn check_module(image: &[u8], table: &[u32], symbols: u32) -> Checked
 // The rows of all rules in the lent words: a count, then two arrays of N words, unused places 0.
 fn write_rows(image: &[u8], table: &[u32], symbols: u32, rows: &mut [u32]) -> u32
     requires { ⌜ (Whole (now image) (sought (now table) symbols)) × (rowsLength («image-spec».nodes (now image)) ≤ length (now rows)) ⌝ }
-    ensures { λ r. ⌜ (r ≡ length (occurrenceRows (now (image .entry)) (sought (now (table .entry)) symbols))) × (now (rows .exit) ≡ written («image-spec».nodes (now (image .entry))) (occurrenceRows (now (image .entry)) (sought (now (table .entry)) symbols)) (now (rows .entry))) ⌝ }
+    ensures { λ r. ⌜ Wrote («image-spec».nodes (now (image .entry))) (occurrenceRows (now (image .entry)) (sought (now (table .entry)) symbols)) (now (rows .entry)) r (now (rows .exit)) ⌝ }
 {
-    rows::clear(rows, 1 + 2 * ast::wide(ast::node_count(image)));
+    rows::begin(rows, ast::node_count(image));
     let count = collect_module(image, table, symbols, rows);
-    table::put(rows, 0, count);
-    count
-}
-
-// The refusals of a call that is lent rows too: 1 to 14.
-fn test_rows(image: &[u8], table: &[u32], rows: &[u32]) -> u32
-    ensures { λ r. ⌜ r ≡ testRows (now (image .entry)) (now (table .entry)) (now (rows .entry)) ⌝ }
-{
-    let code = scopes::test_table(image, table);
-    if code != 0 {
-        return code;
-    }
-    if rows.len() < 1 + 2 * ast::wide(ast::node_count(image)) {
-        return 14;
-    }
-    0
-}
-
-// What Occurrences hands back: a refusal, a name that is declared twice with its two nodes, or the count of rows.
-pub enum Listed {
-    Refused(u32),
-    Twice(u32, NodeId, NodeId),
-    Rows(u32),
+    rows::finish(rows, count)
 }
 
 // Occurrences: resolves, then lists every variable occurrence with its binding.
-pub fn occurrences(image: &[u8], table: &mut [u32], rows: &mut [u32]) -> Listed
-    ensures { λ r. ⌜ «occurrences-spec».occurrences (now (image .entry)) (now (table .entry)) (now (rows .entry)) ≡ record { answer = listedAnswer r; table = now (table .exit); rows = now (rows .exit) } ⌝ }
+pub fn occurrences(image: &[u8], table: &mut [u32], rows: &mut [u32]) -> Rowed
+    ensures { λ r. ⌜ «occurrences-spec».occurrences (now (image .entry)) (now (table .entry)) (now (rows .entry)) ≡ record { answer = rowedAnswer r; table = now (table .exit); rows = now (rows .exit) } ⌝ }
 {
-    let code = test_rows(image, table, rows);
+    let code = scopes::test_rows(image, table, rows);
     if code != 0 {
-        return Listed::Refused(code);
+        return Rowed::Refused(code);
     }
     match scopes::resolve_into(image, table) {
-        Resolved::Refused(number) => Listed::Refused(number),
-        Resolved::Twice(name, first, second) => Listed::Twice(name, first, second),
-        Resolved::Scopes(_, symbols) => Listed::Rows(write_rows(image, table, symbols, rows)),
+        Declared::Done(w) => Rowed::Rows(write_rows(image, table, w.symbols, rows)),
+        Declared::Twice(name, first, second) => Rowed::Twice(name, first, second),
     }
 }
 
@@ -649,18 +623,17 @@ pub enum Once {
 
 // Once: resolves, then looks for the first lone occurrence.
 pub fn check_occurrences(image: &[u8], table: &mut [u32]) -> Once
-    ensures { λ r. ⌜ «occurrences-spec».once (now (image .entry)) (now (table .entry)) ≡ record { answer = checkedAnswer r; table = now (table .exit) } ⌝ }
+    ensures { λ r. ⌜ «occurrences-spec».once (now (image .entry)) (now (table .entry)) ≡ record { answer = onceAnswer r; table = now (table .exit) } ⌝ }
 {
     let code = scopes::test_table(image, table);
     if code != 0 {
         return Once::Refused(code);
     }
     match scopes::resolve_into(image, table) {
-        Resolved::Refused(number) => Once::Refused(number),
-        Resolved::Twice(name, first, second) => Once::Twice(name, first, second),
-        Resolved::Scopes(_, symbols) => match check_module(image, table, symbols) {
+        Declared::Done(w) => match check_module(image, table, w.symbols) {
             Checked::Ok => Once::Ok,
             Checked::Lone(node, binding) => Once::Lone(node, binding),
         },
+        Declared::Twice(name, first, second) => Once::Twice(name, first, second),
     }
 }

@@ -14,7 +14,7 @@ use Rattle.table.specs.State.{Exit, introduce, childScope, ownSymbol, marked, u
 use Rattle.table.specs.Table.{lookup, isKind, isValue, mark, newScope, newSymbol}
 use Rattle.ast.proofs.Small.{Small, Smalls}
 use Rattle.ordered.specs.Walk.{Role, occurs, declares, names, defines, walkIdent, headRole, walkArg, walk, walkSeq, walkFirst}
-use Rattle.ordered.specs.Walkers.{Few}
+use Rattle.ordered.specs.Promises.{Few}
 use Rattle.ordered.specs.Kept.{Kept}
 use Rattle.ordered.proofs.Kept.{past, mark-past, scope-past, symbol-past, mark-kept, scope-kept, symbol-kept, mark-length, scope-length, symbol-length, mark-rows, scope-rows, symbol-rows}
 

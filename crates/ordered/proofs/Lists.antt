@@ -15,7 +15,7 @@ use Rattle.ast.proofs.Row.{append-none, Child, FormedFields, next, nodeOf}
 use Rattle.ast.proofs.Shapes.{row, tree-of, child-is, items-more, run-item, run-list}
 use Rattle.ast.proofs.Small.{items-small}
 use Rattle.ordered.specs.Walk.{Role, occurs, names, walk, walkSeq}
-use Rattle.ordered.specs.Walkers.{over, rest, Ready, ReadyRun}
+use Rattle.ordered.specs.Promises.{over, rest, Ready, ReadyRun}
 use Rattle.ordered.proofs.Grows.{Grows, stays, unmarked-grows, seq-grows}
 use Rattle.ordered.proofs.Steps.{room-in, part-room, name-step}
 

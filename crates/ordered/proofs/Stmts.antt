@@ -14,7 +14,7 @@ use Rattle.ast.proofs.Row.{append-none, next, nodeOf, Child, FormedFields}
 use Rattle.ast.proofs.Shapes.{one-more, row, tree-of, child-is, run-tail}
 use Rattle.ast.proofs.Small.{blocks-small}
 use Rattle.ordered.specs.Walk.{occurs, walk, walkSeq}
-use Rattle.ordered.specs.Walkers.{over, rest, Ready, ReadyRun}
+use Rattle.ordered.specs.Promises.{over, rest, Ready, ReadyRun}
 use Rattle.ast.proofs.Blocks.{BlocksFrom, blocks-from, blocks-place, NextBlock, next-block}
 use Rattle.ordered.proofs.Grows.{Grows, stays, further, back-grows, seq-grows}
 use Rattle.ordered.proofs.Steps.{part-room}

@@ -4,16 +4,15 @@ ghost use mathlib.Core.List.{[], _∷_};
 ghost use Prim.Native.Nat.{ℕ, suc, _+_, _<_};
 ghost use Rattle.ast.specs.Image as «image-spec»;
 ghost use Rattle.ast.specs.Items.{blocks};
-ghost use Rattle.ast.specs.Is.{Is, kindBy};
-ghost use Rattle.ast.specs.Kinds.{inner, plain, child, kindOf};
+ghost use Rattle.ast.specs.Is.{Is, oneTerm, twoTerms};
+ghost use Rattle.ast.specs.Kinds.{kindOf};
 ghost use Rattle.ast.specs.Tree.{treeAt};
 ghost use Rattle.table.specs.Table as «table-spec»;
 ghost use Rattle.table.specs.Rows.{Sorted};
-ghost use Rattle.table.specs.Values.{exitOf, optionOf};
+ghost use Rattle.table.specs.Values.{exitOf};
 ghost use Rattle.ordered.specs.Walk.{occurs, declares, defines, names, walk, walkSeq, walkIdent, headRole};
-ghost use Rattle.ordered.specs.Walkers.{over, inside, rest, Room, Ready, Variable, ReadyRun};
+ghost use Rattle.ordered.specs.Promises.{over, inside, rest, Room, Ready, Variable, ReadyRun};
 use ast::NodeId;
-use table::Found;
 use table::ScopeId;
 use table::Walked;
 
@@ -56,7 +55,7 @@ pub fn walk_names(image: &[u8], table: &mut [u32], at: Walked, node: NodeId) -> 
     w
 }
 
-// A term, whose last place is its own.
+// A term: what it holds, then its own two places.
 pub fn walk_term(image: &[u8], table: &mut [u32], at: Walked, term: NodeId) -> Walked
     requires { ⌜ Ready (now image) (kindOf 12) (term .0) (exitOf at (now table)) ⌝ }
     ensures { λ r. ⌜ exitOf r (now (table .exit)) ≡ over (now (image .entry)) (term .0) (exitOf at (now (table .entry))) ⌝ }
@@ -94,7 +93,7 @@ pub fn walk_app_term(image: &[u8], table: &mut [u32], at: Walked, id: NodeId) ->
 
 // A Dom, Cod or Id term.
 pub fn walk_one_term(image: &[u8], table: &mut [u32], at: Walked, id: NodeId) -> Walked
-    requires { ⌜ Ready (now image) (kindBy (inner plain) (child 12 ∷ [])) (id .0) (exitOf at (now table)) ⌝ }
+    requires { ⌜ Ready (now image) oneTerm (id .0) (exitOf at (now table)) ⌝ }
     ensures { λ r. ⌜ exitOf r (now (table .exit)) ≡ over (now (image .entry)) (id .0) (exitOf at (now (table .entry))) ⌝ }
 {
     let arg = NodeId(ast::field(image, id, 0));
@@ -104,7 +103,7 @@ pub fn walk_one_term(image: &[u8], table: &mut [u32], at: Walked, id: NodeId) ->
 
 // A Comp term, or an Equal atom: two terms.
 pub fn walk_two_terms(image: &[u8], table: &mut [u32], at: Walked, id: NodeId) -> Walked
-    requires { ⌜ Ready (now image) (kindBy (inner plain) (child 12 ∷ child 12 ∷ [])) (id .0) (exitOf at (now table)) ⌝ }
+    requires { ⌜ Ready (now image) twoTerms (id .0) (exitOf at (now table)) ⌝ }
     ensures { λ r. ⌜ exitOf r (now (table .exit)) ≡ over (now (image .entry)) (id .0) (exitOf at (now (table .entry))) ⌝ }
 {
     let first = NodeId(ast::field(image, id, 0));

@@ -1,12 +1,12 @@
 -- Laws of appended rows: none, one, some after others, and the whole.
-use mathlib.Core.Path.{_≡_, refl, sym, ap, ap₂, _∙_}
+use mathlib.Core.Path.{_≡_, refl, sym, ap, ap₂, subst, _∙_}
 use mathlib.Core.List.{List, [], _∷_, _++_, append-assoc, append-nil}
 use Prim.Native.Nat.{ℕ, zero, suc, _+_, _*_, _-_, _<_, _≤_}
 use native.Mathlib.Nat.{add-zero}
 use native.Mathlib.Omega.{arith}
 use lib.ListN.{length, set, drop, replicate, length-append, length-replicate, length-drop, length-set, replicate-append-replicate}
 use borrow.Author.Fill.{fill-none, fill-more}
-use Rattle.rows.specs.Rows.{Row, lefts, rights, rowsLength, filled, written, cleared, putRows, Appended}
+use Rattle.rows.specs.Rows.{Row, lefts, rights, rowsLength, filled, written, cleared, putRows, Appended, Wrote}
 
 pub lefts-length : (l : List Row) → length (lefts l) ≡ length l
 unfolding lefts
@@ -121,3 +121,18 @@ written-is N l old k = sym (ap (λ (ws : List ℕ). set (putRows N 0 l ws) 0 (le
         ap₂ (λ (i j : ℕ). length l ∷ (lefts l ++ (replicate i 0 ++ (rights l ++ (replicate j 0 ++ rest)))))
         (ap (λ (i : ℕ). N - i) (sym (lefts-length l))) (ap (λ (i : ℕ). N - i) (sym (rights-length l)))
         ∙ ap (λ (ws : List ℕ). length l ∷ ws) (simp append-assoc)
+
+-- so a call writes its rows, of an image of n nodes: words cleared, the rows put in, the count in front
+pub wrote : {N n r k : ℕ} {l : List Row} {old us vs ws : List ℕ} → length l ≤ N → n ≡ N → us ≡ cleared (rowsLength n) old → Appended N l 0 us r vs → (k ≡ r) × (ws ≡ set vs 0 r) → Wrote N l old k ws
+wrote {N} {n} {r} {k} {l} {old} few same begins puts ends =
+    let c : r ≡ length l = (let z = puts .count in omega arith) in
+    record {
+      count = ends .0 ∙ c;
+      words =
+          ends .1
+          ∙ ap₂ (λ (xs : List ℕ) (x : ℕ). set xs 0 x) (puts .words ∙ ap (putRows N 0 l) (begins ∙ ap (λ (m : ℕ). cleared (rowsLength m) old) same)) c
+          ∙ sym (written-is N l old few);
+    }
+
+pub wrote-as : {N r : ℕ} {l k : List Row} {old ws : List ℕ} → l ≡ k → Wrote N l old r ws → Wrote N k old r ws
+wrote-as {N} {r} {old = old} {ws} e h = subst (λ (l : List Row). Wrote N l old r ws) e h

@@ -2,8 +2,8 @@
 use mathlib.Core.Path.{_≡_}
 use mathlib.Core.Bool.{Bool, true, false}
 use mathlib.Core.List.{List, [], _∷_, _++_}
-use Prim.Native.Nat.{ℕ, _+_, _*_, _-_}
-use lib.ListN.{length, set, drop, replicate}
+use Prim.Native.Nat.{ℕ, zero, suc, _+_, _*_, _-_}
+use lib.ListN.{length, getD, set, drop, replicate}
 
 -- an error number and its node, or an occurrence's node and its binding
 pub record Row : Type 0 where
@@ -52,3 +52,17 @@ putRows N c (w ∷ l) ws = putRows N (c + 1) l (set (set ws (1 + c) (w .left)) (
 pub record Appended (N : ℕ) (l : List Row) (c : ℕ) (ws : List ℕ) (r : ℕ) (vs : List ℕ) : Type 0 where
   pub count : r ≡ c + length l
   pub words : vs ≡ putRows N c l ws
+
+-- what a call does to them: the rows l are written, and their count is handed back
+pub record Wrote (N : ℕ) (l : List Row) (old : List ℕ) (r : ℕ) (new : List ℕ) : Type 0 where
+  pub count : r ≡ length l
+  pub words : new ≡ written N l old
+
+-- the c rows from the i-th on, as the words have them
+unfoldable pub readRows : (N : ℕ) → List ℕ → (c i : ℕ) → List Row
+readRows N ws zero i = []
+readRows N ws (suc c) i = row (getD ws (1 + i) 0) (getD ws (1 + N + i) 0) ∷ readRows N ws c (i + 1)
+
+-- the rows that lent words hold: as many as the count in front says
+abbrev pub held : ℕ → List ℕ → List Row
+held N ws = readRows N ws (getD ws 0 0) 0

@@ -2,8 +2,8 @@
 ghost use mathlib.Core.Path.{_≡_};
 ghost use mathlib.Core.List.{[], _∷_};
 ghost use Prim.Native.Nat.{_+_, _<_, _≤_, _^_};
-ghost use lib.ListN.{length, getD};
-ghost use Rattle.rows.specs.Rows.{row, cleared, Appended};
+ghost use lib.ListN.{length, getD, set};
+ghost use Rattle.rows.specs.Rows.{row, rowsLength, cleared, Appended};
 
 // The first n words set to 0.
 pub fn clear(words: &mut [u32], n: usize)
@@ -15,6 +15,29 @@ pub fn clear(words: &mut [u32], n: usize)
         words[i] = 0;
         i += 1;
     }
+}
+
+// How many words the rows of an image of n nodes need.
+pub fn words(n: u32) -> usize
+    ensures { λ r. ⌜ r ≡ rowsLength n ⌝ }
+{
+    1 + 2 * ast::wide(n)
+}
+
+// Before the first row of an image of n nodes: all its words 0.
+pub fn begin(rows: &mut [u32], n: u32)
+    requires { ⌜ rowsLength n ≤ length (now rows) ⌝ }
+    ensures { λ _. ⌜ now (rows .exit) ≡ cleared (rowsLength n) (now (rows .entry)) ⌝ }
+{
+    clear(rows, words(n));
+}
+
+// After the last row: the count in front, which is handed back.
+pub fn finish(rows: &mut [u32], count: u32) -> u32
+    ensures { λ r. ⌜ (r ≡ count) × (now (rows .exit) ≡ set (now (rows .entry)) 0 count) ⌝ }
+{
+    table::put(rows, 0, count);
+    count
 }
 
 // One row more after the first `count`, of an image of n nodes.

@@ -1,7 +1,7 @@
 -- Entering the names of a declaration list: what each function over it is handed, and hands on.
 use mathlib.Core.Path.{_≡_, refl, sym, ap, subst, _∙_, fun-ext}
 use mathlib.Core.Bool.{Bool, true, false}
-use mathlib.Core.List.{List, [], _∷_}
+use mathlib.Core.List.{List, [], _∷_, _++_, append-nil}
 use mathlib.Core.Option.{Option, none as nothing, some}
 use Prim.Native.Nat.{ℕ, zero, suc, _+_, _-_, _<_, _≤_}
 use native.Mathlib.Omega.{arith}
@@ -18,7 +18,7 @@ use Rattle.ast.specs.Tree.{Tree, node, Trees, none, _◂_, ordered, treeAt, siz
 use Rattle.ast.proofs.Accepted.{sized}
 use Rattle.ast.proofs.Row.{append, append-none, Child, FormedFields, next, nodeOf}
 use Rattle.ast.proofs.Shapes.{row, tree-of, child-is, case-kids, case-one, case-child, case-last, items-more}
-use Rattle.ast.proofs.Small.{tree-small}
+use Rattle.ast.proofs.Small.{Smalls, tree-small, items-small}
 use Rattle.table.specs.Layout.{tableLength}
 use Rattle.table.specs.State.{Exit, ownSymbol, marked}
 use Rattle.table.specs.Table.{find, findFrom, mark}
@@ -26,11 +26,12 @@ use Rattle.table.specs.Values.{exitOf}
 use Rattle.table.specs.declared.Walked.{Walked}
 use Rattle.ast.specs.declared.NodeId.{NodeId}
 use Rattle.ordered.proofs.Kept.{past, mark-past, mark-length, symbol-past}
-use Rattle.scopes.specs.Walk.{Listed, done, twice, enterName, enterRule, andThen, enter, enterAll, visit}
-use Rattle.scopes.specs.Lists.{listedOf, ent, ents, vis, restEnter, Seen, Entering, Enters, Signature, Stamped}
+use Rattle.scopes.specs.Walk.{Listed, done, twice, recorded, enterName, andThen, enterNames, markAll, enter, enterAll, visit}
+use Rattle.scopes.specs.Promises.{listedOf, ent, ents, vis, restEnter, Seen, Entering, Enters, Signature, Stamped}
 use Rattle.scopes.specs.declared.Declared.{Declared}
 use Rattle.scopes.specs.declared.Declared.the-variants.{Done, Twice}
 use Rattle.scopes.proofs.Adds.{named, Went, done-same, twice-done, name-in, enter-in}
+use Rattle.scopes.proofs.Entering.{and-nothing, enter-first, enter-own}
 use Rattle.scopes.proofs.Stamps.{seen-none, seen-stamp, seen-symbol, seen-marked}
 
 -- the last case is the one left
@@ -150,47 +151,42 @@ module _ (img : List ℕ) where
   unfolding andThen
   and-stop x a b g l h = ap (λ (m : Listed). andThen img m g) h
 
-  and-nothing : (l : Listed) → andThen img l (λ f. done f) ≡ l
-  unfolding andThen
-  and-nothing (done e) = refl
-  and-nothing (twice x a b) = refl
-
   -- a declaration by its kind ------------------------------------------------------------------------------------------------
   pub signed : {fs : List Field} {n : ℕ} → Is img (kindBy (outer signature) fs) n → Signature img n
   signed is = record { accepted = is .accepted; below = is .below; class = ap (λ (k : Kind). k .class) (is .kind) }
 
   pub sig-enter : {n : ℕ} (e : Exit) → Signature img n → (enter img (treeAt img n) e ≡ enterName img n (marked img n (e .scope) e)) × (ent (treeAt img n) ≡ 1)
-  unfolding enter declared nodeOf
+  unfolding enter declared recorded enterNames markAll nodeOf
   sig-enter {n} e s =
       let is : Is img (kindBy (outer signature) ((kindOf (kindAt img n)) .fields)) n = record { accepted = s .accepted; below = s .below; kind = ap (λ (c : Class). kindBy c ((kindOf (kindAt img n)) .fields)) (s .class) } in
-      subst (λ (u : Tree). (enter img u e ≡ enterName img n (marked img n (e .scope) e)) × (ent u ≡ 1)) (sym (tree-of img is)) (refl, refl)
+      subst (λ (u : Tree). (enter img u e ≡ enterName img n (marked img n (e .scope) e)) × (ent u ≡ 1)) (sym (tree-of img is)) (and-nothing img (enterName img n (marked img n (e .scope) e)), refl)
 
   pub model-enter : {n : ℕ} (e : Exit) → Is img (kindOf 8) n → (enter img (treeAt img n) e ≡ enterName img n e) × (ent (treeAt img n) ≡ 1)
-  unfolding enter declared nodeOf kindOf
-  model-enter {n} e is = subst (λ (u : Tree). (enter img u e ≡ enterName img n e) × (ent u ≡ 1)) (sym (tree-of img is)) (refl, refl)
+  unfolding enter declared recorded enterNames markAll nodeOf kindOf
+  model-enter {n} e is = subst (λ (u : Tree). (enter img u e ≡ enterName img n e) × (ent u ≡ 1)) (sym (tree-of img is)) (and-nothing img (enterName img n e), refl)
 
   -- the shape of a rule's row, by the word of its name
   abbrev ruleShape : ℕ → ℕ → List ℕ
   ruleShape n x = elim x [ zero ↦ 0 | suc m ↦ 1 ] ∷ field img n 1 ∷ []
 
   rule-enter : {n : ℕ} (e : Exit) → Is img (kindOf 6) n
-      → (enter img (treeAt img n) e ≡ enterRule img (ruleShape n (field img n 0)) n (marked img n (e .scope) e)) × (declared (treeAt img n) ≡ ruleNode (ruleShape n (field img n 0)) n)
-  unfolding enter declared nodeOf kindOf
+      → (enter img (treeAt img n) e ≡ enterNames img (ruleNode (ruleShape n (field img n 0)) n) (marked img n (e .scope) e)) × (declared (treeAt img n) ≡ ruleNode (ruleShape n (field img n 0)) n)
+  unfolding enter declared recorded markAll nodeOf kindOf
   rule-enter {n} e is =
-      subst (λ (u : Tree). (enter img u e ≡ enterRule img (ruleShape n (field img n 0)) n (marked img n (e .scope) e)) × (declared u ≡ ruleNode (ruleShape n (field img n 0)) n))
+      subst (λ (u : Tree). (enter img u e ≡ enterNames img (ruleNode (ruleShape n (field img n 0)) n) (marked img n (e .scope) e)) × (declared u ≡ ruleNode (ruleShape n (field img n 0)) n))
       (sym (tree-of img is)) (refl, refl)
 
   pub rule-unnamed : {n : ℕ} (e : Exit) → Is img (kindOf 6) n → field img n 0 ≡ 0 → enter img (treeAt img n) e ≡ done (marked img n (e .scope) e)
-  unfolding enterRule
-  rule-unnamed {n} e is z = (rule-enter e is) .0 ∙ ap (λ (x : ℕ). enterRule img (ruleShape n x) n (marked img n (e .scope) e)) z
+  unfolding enterNames ruleNode
+  rule-unnamed {n} e is z = (rule-enter e is) .0 ∙ ap (λ (x : ℕ). enterNames img (ruleNode (ruleShape n x) n) (marked img n (e .scope) e)) z
 
   pub rule-named : {n : ℕ} (e : Exit) → Is img (kindOf 6) n → (field img n 0 ≡ 0 → ⊥) → (enter img (treeAt img n) e ≡ enterName img n (marked img n (e .scope) e)) × (ent (treeAt img n) ≡ 1)
-  unfolding enterRule ruleNode
+  unfolding enterNames ruleNode
   rule-named {n} e is z = let r = rule-enter e is in let g = go (field img n 0) z in (r .0 ∙ g .0, ap length (r .1) ∙ g .1)
     where
-      go : (x : ℕ) → (x ≡ 0 → ⊥) → (enterRule img (ruleShape n x) n (marked img n (e .scope) e) ≡ enterName img n (marked img n (e .scope) e)) × (length (ruleNode (ruleShape n x) n) ≡ 1)
+      go : (x : ℕ) → (x ≡ 0 → ⊥) → (enterNames img (ruleNode (ruleShape n x) n) (marked img n (e .scope) e) ≡ enterName img n (marked img n (e .scope) e)) × (length (ruleNode (ruleShape n x) n) ≡ 1)
       go zero y = absurd (y refl)
-      go (suc m) y = (refl, refl)
+      go (suc m) y = (and-nothing img (enterName img n (marked img n (e .scope) e)), refl)
 
   pub rule-entering : {seen : List ℕ} {n : ℕ} {e : Exit} → Is img (kindOf 6) n → (field img n 0 ≡ 0 → ⊥) → Entering img seen (ent (treeAt img n)) e → Entering img seen 1 e
   rule-entering {e = e} is z p = entering-less (let q = (rule-named e is z) .1 in omega arith) p
@@ -215,11 +211,13 @@ module _ (img : List ℕ) where
 
   -- a list of items: what is left of it -----------------------------------------------------------------------------------
   enter-more : (n j count i : ℕ) (e : Exit) → i < count → restEnter img n j count i e ≡ andThen img (enter img (treeAt img (field img n (j + i))) e) (restEnter img n j count (i + 1))
-  unfolding restEnter enter
-  enter-more n j count i e h = ap (λ (us : Trees). enterAll img us e) (items-more img n j count i h)
+  unfolding restEnter
+  enter-more n j count i e h =
+      ap (λ (us : Trees). enterAll img us e) (items-more img n j count i h)
+      ∙ enter-first img (treeAt img (field img n (j + i))) (items img n (count - (i + 1)) (j + (i + 1))) (items-small img n (count - (i + 1)) (j + (i + 1))) e
 
   enter-end : (n j count i : ℕ) (e : Exit) → count ≤ i → restEnter img n j count i e ≡ done e
-  unfolding restEnter enter items
+  unfolding restEnter enterAll declared recorded enterNames markAll items
   enter-end n j count i e h = let z : count - i ≡ 0 = omega arith in ap (λ (c : ℕ). enterAll img (items img n c (j + i)) e) z
 
   pub same-items : (n j count : ℕ) → items img n count j ≡ items img n (count - 0) (j + 0)
@@ -292,11 +290,13 @@ module _ (img : List ℕ) where
       subst (Is img (kindBy (outer signature) (name ∷ child 11 ∷ []))) (sym q) (child-is img is h)
 
   enum-enter : {n : ℕ} (e : Exit) → Is img (kindOf 7) n
-      → (enter img (treeAt img n) e ≡ andThen img (enterName img n (marked img n (e .scope) e)) (λ f. enterAll img (append (items img n (field img n 1) 2) none) f)) × (ent (treeAt img n) ≡ suc (ents (append (items img n (field img n 1) 2) none)))
-  unfolding enter declared nodeOf kindOf
+      → (enter img (treeAt img n) e ≡ andThen img (enterName img n (marked img n (e .scope) e)) (enterAll img (items img n (field img n 1) 2))) × (ent (treeAt img n) ≡ suc (ents (items img n (field img n 1) 2)))
+  unfolding enter declared recorded nodeOf kindOf
   enum-enter {n} e is =
-      subst (λ (u : Tree). (enter img u e ≡ andThen img (enterName img n (marked img n (e .scope) e)) (λ f. enterAll img (append (items img n (field img n 1) 2) none) f)) × (ent u ≡ suc (ents (append (items img n (field img n 1) 2) none))))
-      (sym (tree-of img is)) (refl, refl)
+      let a = append-none (items img n (field img n 1) 2) in
+      subst (λ (us : Trees). (enter img (treeAt img n) e ≡ andThen img (enterName img n (marked img n (e .scope) e)) (enterAll img us)) × (ent (treeAt img n) ≡ suc (ents us))) a
+      (subst (λ (u : Tree). (enter img u e ≡ andThen img (enterName img n (marked img n (e .scope) e)) (enterAll img (append (items img n (field img n 1) 2) none))) × (ent u ≡ suc (ents (append (items img n (field img n 1) 2) none))))
+      (sym (tree-of img is)) (enter-own img n (append (items img n (field img n 1) 2) none) (subst (Smalls (nodes img)) (sym a) (items-small img n (field img n 1) 2)) e, refl))
 
   sig-ents : (n c j : ℕ) → ((i : ℕ) → i < c → Signature img (field img n (j + i))) → ents (items img n c j) ≡ c
   unfolding declared items
@@ -318,12 +318,10 @@ module _ (img : List ℕ) where
   sig-entering {seen} {n} {e} s p = entering-less (let z = (sig-enter e s) .1 in omega arith) p
 
   pub enum-whole : {n : ℕ} (e : Exit) → Is img (kindOf 7) n → enter img (treeAt img n) e ≡ andThen img (enterName img n (marked img n (e .scope) e)) (restEnter img n 2 (field img n 1) 0)
-  enum-whole {n} e is =
-      (enum-enter e is) .0
-      ∙ ap (andThen img (enterName img n (marked img n (e .scope) e))) (fun-ext (λ f. ap (λ (us : Trees). enterAll img us f) (append-none (items img n (field img n 1) 2)) ∙ enter-start n 2 (field img n 1) f))
+  enum-whole {n} e is = (enum-enter e is) .0 ∙ ap (andThen img (enterName img n (marked img n (e .scope) e))) (fun-ext (λ f. enter-start n 2 (field img n 1) f))
 
   pub enum-ent : {n : ℕ} → Is img (kindOf 7) n → ent (treeAt img n) ≡ 1 + field img n 1
-  enum-ent {n} is = let a = (enum-enter nowhere is) .1 in let b = ap ents (append-none (items img n (field img n 1) 2)) in let c = ctor-ents is in omega arith
+  enum-ent {n} is = let a = (enum-enter nowhere is) .1 in let c = ctor-ents is in omega arith
 
   pub record EnumEnter (seen : List ℕ) (n : ℕ) (e f : Exit) : Type 0 where
     pub own : Entering img seen 1 f
@@ -382,12 +380,15 @@ module _ (img : List ℕ) where
 
   module _ {k n d : ℕ} (o : DeclOf k n d) where
     pub decl-entered : (e : Exit) → enter img (treeAt img n) e ≡ enter img (treeAt img d) (marked img n (e .scope) e)
-    unfolding enter
-    decl-entered e = ap (λ (u : Tree). enter img u e) (o .tree) ∙ and-nothing (enter img (treeAt img d) (marked img n (e .scope) e))
+    unfolding enter declared recorded markAll
+    decl-entered e =
+        ap (λ (u : Tree). enter img u e) (o .tree)
+        ∙ ap (λ (ds : List ℕ). enterNames img ds (markAll img (recorded (treeAt img d) ++ []) (marked img n (e .scope) e))) (append-nil (declared (treeAt img d)))
+        ∙ ap (λ (ns : List ℕ). enterNames img (declared (treeAt img d)) (markAll img ns (marked img n (e .scope) e))) (append-nil (recorded (treeAt img d)))
 
     pub decl-visited : (e : Exit) → visit img (treeAt img n) e ≡ visit img (treeAt img d) e
     unfolding visit
-    decl-visited e = ap (λ (u : Tree). visit img u e) (o .tree) ∙ and-nothing (visit img (treeAt img d) e)
+    decl-visited e = ap (λ (u : Tree). visit img u e) (o .tree) ∙ and-nothing img (visit img (treeAt img d) e)
 
     pub decl-ent : ent (treeAt img n) ≡ ent (treeAt img d) + 0
     unfolding declared

@@ -1,26 +1,33 @@
--- The table with its three counts in front: lookups, entries and exits are as before, and so is the order of its rows.
-use mathlib.Core.Path.{_≡_, sym}
+-- The table with its three counts in front: lookups, entries and exits are as before, and so is the order of its rows; and what a call
+-- finds in it.
+use mathlib.Core.Path.{_≡_, sym, ap, subst, _∙_}
 use mathlib.Core.List.{List}
-use Prim.Native.Nat.{ℕ, suc}
+use Prim.Native.Nat.{ℕ, suc, _<_}
 use native.Mathlib.Omega.{arith}
 use Rattle.ast.specs.Image.{nodes}
+use Rattle.ast.specs.Tests.{verdict}
 use Rattle.table.specs.Layout.{entryPlace, exitPlace, parentPlace, scopePlace, nodePlace}
-use Rattle.table.specs.Rows.{Sorted}
+use Rattle.table.specs.Rows.{nodeAt, Sorted}
+use Rattle.table.specs.State.{Exit}
 use Rattle.table.specs.Table.{Table, find, lookup, entryAt, exitAt}
+use Rattle.table.specs.Values.{tableOf}
+use Rattle.table.specs.declared.Walked.{Walked}
 use Rattle.table.proofs.Frames.{from-same}
+use Rattle.scopes.specs.Walk.{done}
+use Rattle.scopes.specs.Resolve.{testTable, walked, headed, counted, Way, refuses, stops, fills, way}
+use Rattle.scopes.specs.Answers.{declaredWay, Resolves}
+use Rattle.scopes.specs.declared.Declared.{Declared}
+use Rattle.scopes.specs.declared.Declared.the-variants.{Done}
+use Rattle.scopes.proofs.Calls.{Went, went}
+use Rattle.scopes.proofs.Namings.{symbol-below}
+use Rattle.scopes.proofs.Resolving.{table-accepted, walked-ended, headed-word, headed-length}
 use Rattle.table.proofs.Agreed.{lookup-agree}
-use Rattle.scopes.specs.Resolve.{headed}
-use Rattle.scopes.proofs.Resolving.{headed-word, headed-length}
 
 module _ (img : List ℕ) (t : Table) where
-  -- the table of the words that Resolve leaves
-  abbrev pub left : Table
-  left = record { words = headed img t; scopes = t .scopes; symbols = t .symbols }
-
-  pub headed-lookup : (s x : ℕ) → lookup img t s x ≡ lookup img left s x
+  pub headed-lookup : (s x : ℕ) → lookup img t s x ≡ lookup img (counted img t) s x
   unfolding find
   headed-lookup s x =
-      lookup-agree img (suc s) t left s x (omega arith)
+      lookup-agree img (suc s) t (counted img t) s x (omega arith)
       (λ r h. (
         (λ y. from-same img (t .symbols) (t .words) (headed img t) 0 r y
             (record { scopes = λ i l. sym (headed-word img t (scopePlace (nodes img) i) (omega arith)); nodes = λ i l. sym (headed-word img t (nodePlace (nodes img) i) (omega arith)) })),
@@ -44,3 +51,27 @@ module _ (img : List ℕ) (t : Table) where
             let c = s .rises i j l k in
             omega arith;
       }
+
+-- what a call finds in a table that it has filled
+pub record FilledTable (img : List ℕ) (t : Table) : Type 0 where
+  pub accepted : verdict img ≡ 0
+  pub rising : Sorted (nodes img) (t .symbols) (t .words)
+  pub symbols : (j : ℕ) → j < t .symbols → nodeAt (nodes img) (t .words) j < nodes img
+
+module _ (img tab : List ℕ) (passes : testTable img tab ≡ 0) where
+  pub counted-filled : {e : Exit} → walked img tab ≡ done e → FilledTable img (counted img (e .table))
+  counted-filled {e} h =
+      let d = walked-ended img tab passes e h in
+      record {
+        accepted = table-accepted img tab passes;
+        rising = headed-sorted img (e .table) (d .kept .rising);
+        symbols = λ j l. let a = headed-word img (e .table) (nodePlace (nodes img) j) (omega arith) in let b = symbol-below img _ (d .good .symbols j l) in omega arith;
+      }
+
+  pub resolved-filled : {d : Declared} {ws : List ℕ} → Resolves img tab d ws → {w : Walked} → d ≡ Done w → FilledTable img (tableOf w ws)
+  resolved-filled {d} {ws} r {w} q = go (way img tab 0) (went img tab 0) (sym (r .way-is) ∙ ap (λ (x : Declared). declaredWay x ws) q)
+    where
+      go : (v : Way) → Went img tab 0 v → v ≡ fills (tableOf w ws) → FilledTable img (tableOf w ws)
+      go (refuses k) h z = absurd (let o : _≡_ {A = ℕ} 0 1 = cc in omega arith)
+      go (stops x a b) h z = absurd (let o : _≡_ {A = ℕ} 0 1 = cc in omega arith)
+      go (fills t) (p, (e, h, i)) z = let j : t ≡ tableOf w ws = cc in subst (FilledTable img) (sym i ∙ j) (counted-filled h)

@@ -1,5 +1,7 @@
 pub mod Lookups
+pub mod Calls
 pub mod Adds
+pub mod Entering
 pub mod Clashes
 pub mod Namings
 pub mod Moves
@@ -10,3 +12,4 @@ pub mod Entries
 pub mod Visiting
 pub mod Rooting
 pub mod Headed
+pub mod Single

@@ -12,9 +12,10 @@ use Rattle.ast.specs.Tests.{_▸_, need, verdict}
 use Rattle.ast.specs.Answer.{refused, result, other}
 use Rattle.ast.proofs.Accepted.{skip}
 use Rattle.ast.proofs.Scans.{need-in, need-out}
+use Rattle.table.specs.Layout.{tableLength}
 use Rattle.table.specs.Table.{lookup, climb, symbolOf}
-use Rattle.table.specs.Sound.{scopesIn, symbolsIn, testSound}
-use Rattle.table.proofs.Sounds.{halt}
+use Rattle.sound.specs.Sound.{scopesIn, symbolsIn, testSound}
+use Rattle.sound.proofs.Sounds.{halt}
 use Rattle.scopes.specs.Resolve.{testTable}
 use Rattle.names.specs.Number.{numberOf}
 use Rattle.scopes.specs.Lookup.{testLookup, symbolAnswer, foundBy, lookupCall}
@@ -26,11 +27,11 @@ module _ (img tab : List ℕ) (k : ℕ) (verdict-is : k ≡ verdict img) where
   table-refused h = halt _ _ (λ e. h (verdict-is ∙ e)) ∙ sym verdict-is
 
   module _ (accepted : k ≡ 0) where
-    pub table-short : length tab < 3 + 5 * nodes img → testTable img tab ≡ 13
+    pub table-short : length tab < tableLength (nodes img) → testTable img tab ≡ 13
     unfolding testTable
     table-short h = skip _ _ (sym verdict-is ∙ accepted) ∙ need-out 13 _ (lt-leb _ _ h)
 
-    pub table-long : 3 + 5 * nodes img ≤ length tab → testTable img tab ≡ 0
+    pub table-long : tableLength (nodes img) ≤ length tab → testTable img tab ≡ 0
     unfolding testTable
     table-long h = skip _ _ (sym verdict-is ∙ accepted) ∙ need-in 13 _ (le-leb _ _ h)
 
@@ -59,7 +60,7 @@ pub lookup-accepted : (img tab : List ℕ) (s : ℕ) → testLookup img tab s �
 unfolding testLookup testTable _▸_
 lookup-accepted img tab s e = go (verdict img) e
   where
-    go : (v : ℕ) → (v ▸ need 13 (leb (3 + 5 * nodes img) (length tab))) ▸ (testSound img tab ▸ need 17 (ltb s (scopesIn img tab))) ≡ 0 → v ≡ 0
+    go : (v : ℕ) → (v ▸ need 13 (leb (tableLength (nodes img)) (length tab))) ▸ (testSound img tab ▸ need 17 (ltb s (scopesIn img tab))) ≡ 0 → v ≡ 0
     go zero q = refl
     go (suc v) q = absurd (omega arith)
 

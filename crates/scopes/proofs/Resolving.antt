@@ -9,9 +9,9 @@ use native.Mathlib.Nat.{zero-add}
 use lib.Dec.{leb→le}
 use lib.ListN.{length, getD, set, drop, replicate, length-set, length-append, length-replicate}
 use lib.Seq.{getD-set-same, getD-set-other, drop-set-lt, drop-at}
-use Rattle.ast.specs.Answer.{refused, twice as twiceAnswer, result}
-use Rattle.ast.specs.Declarations.{moduleLists}
+use Rattle.ast.specs.Answer.{twice as twiceAnswer, result}
 use Rattle.ast.specs.Image.{nodes, last, kindAt, nameOf}
+use Rattle.ast.specs.Declarations.{moduleLists}
 use Rattle.ast.specs.Rows.{kids, shape}
 use Rattle.ast.specs.Kinds.{Class}
 use Rattle.ast.specs.Tests.{run, verdict}
@@ -21,20 +21,21 @@ use Rattle.ast.proofs.Unfold.{treeAt-is}
 use Rattle.ast.proofs.Count.{tree-size}
 use Rattle.ast.proofs.Small.{Small, tree-small}
 use Rattle.ast.proofs.Vars.{Everywhere}
-use Rattle.table.specs.Layout.{allOnes, nodesPlace, scopesPlace, symbolsPlace, tableLength}
-use Rattle.table.specs.Sound.{isSymbol, scopesIn, symbolsIn, testSound}
+use Rattle.table.specs.Layout.{allOnes, nodesPlace, scopesPlace, symbolsPlace, parentPlace, scopePlace, nodePlace, tableLength}
+use Rattle.sound.specs.Sound.{isSymbol, scopesIn, symbolsIn, testSound}
 use Rattle.table.specs.State.{Exit, marked}
 use Rattle.table.specs.Table.{Table, mark, newScope}
-use Rattle.table.proofs.Sounds.{parent-low, row-yes, sound-rest}
-use Rattle.ordered.specs.Walkers.{Few}
+use Rattle.sound.proofs.Sounds.{parent-low, row-yes, sound-rest}
+use Rattle.ordered.specs.Promises.{Few}
 use Rattle.ordered.specs.Kept.{Kept}
 use Rattle.ordered.proofs.Kept.{past, mark-kept, scope-kept, mark-past, scope-past, mark-length, scope-length}
 use Rattle.rows.specs.Rows.{cleared}
 use Rattle.rows.proofs.Appends.{clear-length}
-use Rattle.scopes.specs.Walk.{Listed, done, twice, enterAll, visitAll, resolveTree}
-use Rattle.scopes.specs.Resolve.{Outcome, testTable, zeroed, walked, headed, outcomeOf, resolve}
+use Rattle.scopes.specs.Walk.{done, enterAll, visitAll, resolveTree}
+use Rattle.scopes.specs.Resolve.{testTable, zeroed, walked, headed, Way, refuses, stops, fills, way, answerBy, tableBy, tableCall, resolve}
 use Rattle.scopes.specs.Clash.{Clash, clashIn, firstClash}
 use Rattle.scopes.proofs.Adds.{addss, Newest, list-in}
+use Rattle.scopes.proofs.Calls.{Went, went}
 use Rattle.scopes.proofs.Clashes.{shows, list-shown, visitAll-shown}
 use Rattle.scopes.proofs.Namings.{Fit, tree-fits}
 use Rattle.scopes.proofs.Moves.{Good, good-mark, moves-good, enterAll-ends, visitAll-ends, ends-and}
@@ -78,7 +79,7 @@ module _ (img ws : List ℕ) (n : ℕ) (below : n < nodes img) (long : tableLeng
       (record {
         long = (let z = scope-length img allOnes empty in omega arith);
         live = omega arith;
-        root = getD-set-same ws (3 + 2 * nodes img + 0) allOnes 0 (omega arith);
+        root = getD-set-same ws (parentPlace (nodes img) 0) allOnes 0 (omega arith);
         parents = λ s l k. absurd (omega arith);
         scopes = λ j k. absurd (omega arith);
         symbols = λ j k. absurd (omega arith);
@@ -232,70 +233,66 @@ headed-sound img ws e long d =
     let y = headed-symbols img t l in
     let g = d .good in
     sound-rest img vs (nodes img) (nodes img) (t .scopes) (t .symbols) refl (sym (headed-nodes img t l)) (sym k) (sym y) refl (λ q. let s = d .some in omega arith) (d .scopes) (d .symbols)
-    (headed-word img t (3 + 2 * nodes img + 0) (omega arith) ∙ g .root)
-    ∙ skip _ _ (run-all _ (t .scopes - 1) 1 (λ s a b. parent-low img vs s _ refl (let z = headed-word img t (3 + 2 * nodes img + s) (omega arith) in let p = g .parents s a (omega arith) in omega arith)))
+    (headed-word img t (parentPlace (nodes img) 0) (omega arith) ∙ g .root)
+    ∙ skip _ _ (run-all _ (t .scopes - 1) 1 (λ s a b. parent-low img vs s _ refl (let z = headed-word img t (parentPlace (nodes img) s) (omega arith) in let p = g .parents s a (omega arith) in omega arith)))
     ∙ run-all _ (t .symbols) 0 (λ j a b.
-    row-yes img vs j _ (t .scopes) refl (sym k) _ refl (let z = headed-word img t (3 + 3 * nodes img + j) (omega arith) in let p = g .scopes j (omega arith) in omega arith)
-    (ap (isSymbol img) (headed-word img t (3 + 4 * nodes img + j) (omega arith)) ∙ g .symbols j (omega arith)))
+    row-yes img vs j _ (t .scopes) refl (sym k) _ refl (let z = headed-word img t (scopePlace (nodes img) j) (omega arith) in let p = g .scopes j (omega arith) in omega arith)
+    (ap (isSymbol img) (headed-word img t (nodePlace (nodes img) j) (omega arith)) ∙ g .symbols j (omega arith)))
+
+-- what a call that resolves leaves in the table ---------------------------------------------------------------------------
+module _ (img tab : List ℕ) {r : ℕ} (tested : r ≡ 0 → testTable img tab ≡ 0) where
+  -- the words past 3 + 5N are untouched, and the length stays
+  pub past-kept : drop (tableLength (nodes img)) (tableBy img tab (way img tab r)) ≡ drop (tableLength (nodes img)) tab
+  unfolding tableBy
+  past-kept = go (way img tab r) (went img tab r)
+    where
+      go : (w : Way) → Went img tab r w → drop (tableLength (nodes img)) (tableBy img tab w) ≡ drop (tableLength (nodes img)) tab
+      go (refuses k) h = refl
+      go (stops x a b) h = zeroed-past img tab
+      go (fills t) (p, (e, h, q)) =
+          ap (λ (u : Table). drop (tableLength (nodes img)) (u .words)) q
+          ∙ headed-past img (e .table) ∙ walked-ended img tab (tested p) e h .passed ∙ zeroed-past img tab
+
+  pub long-kept : length (tableBy img tab (way img tab r)) ≡ length tab
+  unfolding tableBy
+  long-kept = go (way img tab r) (went img tab r)
+    where
+      go : (w : Way) → Went img tab r w → length (tableBy img tab w) ≡ length tab
+      go (refuses k) h = refl
+      go (stops x a b) (p, h) = zeroed-length img tab (table-long img tab (tested p))
+      go (fills t) (p, (e, h, q)) =
+          ap (λ (u : Table). length (u .words)) q
+          ∙ headed-length img (e .table) ∙ walked-ended img tab (tested p) e h .long ∙ zeroed-length img tab (table-long img tab (tested p))
 
 -- Resolve -----------------------------------------------------------------------------------------------------------------
 module _ (img tab : List ℕ) where
-  pub resolve-passes : testTable img tab ≡ 0 → resolve img tab ≡ outcomeOf img tab (walked img tab)
-  unfolding resolve
-  resolve-passes e = rw (e, resolve)
-
-  pub resolve-refuses : (r : ℕ) → testTable img tab ≡ suc r → resolve img tab ≡ record { answer = refused (suc r); table = tab }
-  unfolding resolve
-  resolve-refuses r e = rw (e, resolve)
-
-  -- the three ways that Resolve goes
-  pub data Ways : Type 0 where
-    refuses : (r : ℕ) → testTable img tab ≡ suc r → Ways
-    stops : (x a b : ℕ) → testTable img tab ≡ 0 → walked img tab ≡ twice x a b → Ways
-    fills : (e : Exit) → testTable img tab ≡ 0 → walked img tab ≡ done e → Ways
-
-  pub ways : Ways
-  ways = go (testTable img tab) refl (walked img tab) refl
-    where
-      go : (r : ℕ) → testTable img tab ≡ r → (l : Listed) → walked img tab ≡ l → Ways
-      go zero q (done e) h = fills e q h
-      go zero q (twice x a b) h = stops x a b q h
-      go (suc r) q l h = refuses r q
-
-  pub refuses-outcome : (r : ℕ) → testTable img tab ≡ suc r → ((resolve img tab) .answer ≡ refused (suc r)) × ((resolve img tab) .table ≡ tab)
-  refuses-outcome r q = (ap (λ (o : Outcome). o .answer) (resolve-refuses r q), ap (λ (o : Outcome). o .table) (resolve-refuses r q))
-
-  pub stops-outcome : (x a b : ℕ) → testTable img tab ≡ 0 → walked img tab ≡ twice x a b → ((resolve img tab) .answer ≡ twiceAnswer x a b) × ((resolve img tab) .table ≡ zeroed img tab)
-  unfolding outcomeOf
-  stops-outcome x a b q h =
-      let e = resolve-passes q ∙ ap (outcomeOf img tab) h in
-      (ap (λ (o : Outcome). o .answer) e, ap (λ (o : Outcome). o .table) e)
-
-  pub fills-outcome : (e : Exit) → testTable img tab ≡ 0 → walked img tab ≡ done e
-      → ((resolve img tab) .answer ≡ result (e .table .scopes) (e .table .symbols)) × ((resolve img tab) .table ≡ headed img (e .table))
-  unfolding outcomeOf
-  fills-outcome e q h =
-      let z = resolve-passes q ∙ ap (outcomeOf img tab) h in
-      (ap (λ (o : Outcome). o .answer) z, ap (λ (o : Outcome). o .table) z)
-
   -- a result: what the walk ended with
-  pub record Fills (k y : ℕ) : Type 0 where
+  pub record Fills (k y : ℕ) (ws : List ℕ) : Type 0 where
     pub end : Exit
     pub passes : testTable img tab ≡ 0
     pub is : walked img tab ≡ done end
     pub scopes-are : end .table .scopes ≡ k
     pub symbols-are : end .table .symbols ≡ y
-    pub table-is : (resolve img tab) .table ≡ headed img (end .table)
+    pub table-is : ws ≡ headed img (end .table)
 
-  pub filled : (k y : ℕ) → (resolve img tab) .answer ≡ result k y → Fills k y
-  filled k y e = go ways
+  pub filled : (k y : ℕ) → (resolve img tab) .answer ≡ result k y → Fills k y ((resolve img tab) .table)
+  unfolding resolve tableCall answerBy tableBy
+  filled k y = go (way img tab (testTable img tab)) (went img tab (testTable img tab))
     where
-      go : Ways → Fills k y
-      go (refuses r q) = let z = (refuses-outcome r q) .0 in let w : _≡_ {A = ℕ} 0 1 = cc in absurd (omega arith)
-      go (stops x a b q h) = let z = (stops-outcome x a b q h) .0 in let w : _≡_ {A = ℕ} 0 1 = cc in absurd (omega arith)
-      go (fills f q h) =
-          let z = (fills-outcome f q h) .0 in
-          record { end = f; passes = q; is = h; scopes-are = cc; symbols-are = cc; table-is = (fills-outcome f q h) .1 }
+      go : (w : Way) → Went img tab (testTable img tab) w → answerBy (λ t. result (t .scopes) (t .symbols)) w ≡ result k y → Fills k y (tableBy img tab w)
+      go (refuses r) h z = let w : _≡_ {A = ℕ} 0 1 = cc in absurd (omega arith)
+      go (stops x a b) h z = let w : _≡_ {A = ℕ} 0 1 = cc in absurd (omega arith)
+      go (fills t) (p, (e, h, q)) z =
+          let i : t .scopes ≡ k = cc in
+          let j : t .symbols ≡ y = cc in
+          record {
+            end = e;
+            passes = p;
+            is = h;
+            scopes-are = sym (ap (λ (u : Table). u .scopes) q) ∙ i;
+            symbols-are = sym (ap (λ (u : Table). u .symbols) q) ∙ j;
+            table-is = ap (λ (u : Table). u .words) q;
+          }
 
   -- K is from 1 to N, and Y at most N
   pub bounds : (k y : ℕ) → (resolve img tab) .answer ≡ result k y → (1 ≤ k) × (k ≤ nodes img) × (y ≤ nodes img)
@@ -326,44 +323,35 @@ module _ (img tab : List ℕ) where
 
   -- the words past 3 + 5N are untouched, and the length stays
   pub rest-untouched : drop (tableLength (nodes img)) ((resolve img tab) .table) ≡ drop (tableLength (nodes img)) tab
-  rest-untouched = go ways
-    where
-      go : Ways → drop (tableLength (nodes img)) ((resolve img tab) .table) ≡ drop (tableLength (nodes img)) tab
-      go (refuses r q) = ap (drop (tableLength (nodes img))) ((refuses-outcome r q) .1)
-      go (stops x a b q h) = ap (drop (tableLength (nodes img))) ((stops-outcome x a b q h) .1) ∙ zeroed-past img tab
-      go (fills f q h) = ap (drop (tableLength (nodes img))) ((fills-outcome f q h) .1) ∙ headed-past img (f .table) ∙ walked-ended img tab q f h .passed ∙ zeroed-past img tab
+  unfolding resolve tableCall
+  rest-untouched = past-kept img tab (λ p. p)
 
   pub length-kept : length ((resolve img tab) .table) ≡ length tab
-  length-kept = go ways
-    where
-      go : Ways → length ((resolve img tab) .table) ≡ length tab
-      go (refuses r q) = ap length ((refuses-outcome r q) .1)
-      go (stops x a b q h) = ap length ((stops-outcome x a b q h) .1) ∙ zeroed-length img tab (table-long img tab q)
-      go (fills f q h) = ap length ((fills-outcome f q h) .1) ∙ headed-length img (f .table) ∙ walked-ended img tab q f h .long ∙ zeroed-length img tab (table-long img tab q)
+  unfolding resolve tableCall
+  length-kept = long-kept img tab (λ p. p)
 
   -- "twice" names the first clash
   pub twice-first : testTable img tab ≡ 0 → (c : Clash) → firstClash img ≡ some c → (resolve img tab) .answer ≡ twiceAnswer (c .name) (c .first) (c .second)
-  unfolding shows
-  twice-first p c e = go ways
+  unfolding resolve tableCall answerBy shows
+  twice-first p c e = go (way img tab (testTable img tab)) (went img tab (testTable img tab))
     where
-      go : Ways → (resolve img tab) .answer ≡ twiceAnswer (c .name) (c .first) (c .second)
-      go (refuses r q) = absurd (omega arith)
-      go (stops x a b q h) =
+      go : (w : Way) → Went img tab (testTable img tab) w → answerBy (λ t. result (t .scopes) (t .symbols)) w ≡ twiceAnswer (c .name) (c .first) (c .second)
+      go (refuses r) (q, h) = absurd (h (sym q ∙ p))
+      go (stops x a b) (q, h) =
           let z = ap shows (sym h) ∙ walked-shown img tab p ∙ e in
           let w : record { name = x; first = a; second = b } ≡ c = cc in
-          (stops-outcome x a b q h) .0 ∙ ap (λ (d : Clash). twiceAnswer (d .name) (d .first) (d .second)) w
-      go (fills f q h) = let z = ap shows (sym h) ∙ walked-shown img tab p ∙ e in let w : _≡_ {A = ℕ} 0 1 = cc in absurd (omega arith)
+          ap (λ (d : Clash). twiceAnswer (d .name) (d .first) (d .second)) w
+      go (fills t) (q, (f, h, i)) = let z = ap shows (sym h) ∙ walked-shown img tab p ∙ e in let w : _≡_ {A = ℕ} 0 1 = cc in absurd (omega arith)
 
   pub twice-only : (x a b : ℕ) → (resolve img tab) .answer ≡ twiceAnswer x a b → firstClash img ≡ some (record { name = x; first = a; second = b })
-  unfolding shows
-  twice-only x a b e = go ways
+  unfolding resolve tableCall answerBy shows
+  twice-only x a b = go (way img tab (testTable img tab)) (went img tab (testTable img tab))
     where
-      go : Ways → firstClash img ≡ some (record { name = x; first = a; second = b })
-      go (refuses r q) = let z = (refuses-outcome r q) .0 in let w : _≡_ {A = ℕ} 0 1 = cc in absurd (omega arith)
-      go (stops y c d q h) =
-          let z = (stops-outcome y c d q h) .0 in
+      go : (w : Way) → Went img tab (testTable img tab) w → answerBy (λ t. result (t .scopes) (t .symbols)) w ≡ twiceAnswer x a b → firstClash img ≡ some (record { name = x; first = a; second = b })
+      go (refuses r) h z = let w : _≡_ {A = ℕ} 0 1 = cc in absurd (omega arith)
+      go (stops y c d) (q, h) z =
           let i : y ≡ x = cc in
           let j : c ≡ a = cc in
           let k : d ≡ b = cc in
           sym (walked-shown img tab q) ∙ ap shows h ∙ rw (i, j, k)
-      go (fills f q h) = let z = (fills-outcome f q h) .0 in let w : _≡_ {A = ℕ} 0 1 = cc in absurd (omega arith)
+      go (fills t) h z = let w : _≡_ {A = ℕ} 0 1 = cc in absurd (omega arith)

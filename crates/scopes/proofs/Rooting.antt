@@ -4,7 +4,7 @@ use mathlib.Core.List.{List, _++_}
 use Prim.Native.Nat.{ℕ, zero, suc, _+_, _<_, _≤_}
 use native.Mathlib.Omega.{arith}
 use lib.ListN.{length, drop, replicate}
-use Rattle.ast.specs.Answer.{refused, twice as twiceAnswer, result}
+use Rattle.ast.specs.Answer.{Answer, refused, twice as twiceAnswer, result}
 use Rattle.ast.specs.Image.{nodes, last, field}
 use Rattle.ast.specs.Is.{Is}
 use Rattle.ast.specs.Items.{items}
@@ -22,12 +22,14 @@ use Rattle.table.specs.Values.{tableOf, exitOf}
 use Rattle.table.specs.declared.Walked.{Walked}
 use Rattle.rows.specs.Rows.{cleared}
 use Rattle.scopes.specs.Walk.{andThen, enterAll, visitAll, resolveTree}
-use Rattle.scopes.specs.Resolve.{testTable, zeroed, walked, headed, resolve}
-use Rattle.scopes.specs.Lists.{listedOf, overList, Visits, ListRun, Lent}
+use Rattle.scopes.specs.Resolve.{testTable, zeroed, walked, headed, fills, tableBy, Outcome, resolve}
+use Rattle.scopes.specs.Answers.{Resolves}
+use Rattle.scopes.specs.Promises.{listedOf, overList, Visits, ListRun, Lent}
 use Rattle.scopes.specs.declared.Declared.{Declared}
 use Rattle.scopes.specs.declared.Declared.the-variants.{Done, Twice}
 use Rattle.scopes.proofs.Adds.{addss}
-use Rattle.scopes.proofs.Resolving.{begun, begun-counts, begun-newest, begun-past, table-accepted, table-long, zeroed-past, stops-outcome, fills-outcome, refuses-outcome}
+use Rattle.scopes.proofs.Calls.{way-stops, way-fills, call-refused, call-stopped, call-filled}
+use Rattle.scopes.proofs.Resolving.{begun, begun-counts, begun-newest, begun-past, table-accepted, table-long, zeroed-past}
 use Rattle.scopes.proofs.Visiting.{over-start}
 
 module _ (img : List ℕ) where
@@ -115,21 +117,39 @@ module _ (img tab : List ℕ) (passes : testTable img tab ≡ 0) (us : List ℕ)
     walked-as = ap (λ (ws : List ℕ). resolveTree img (treeAt img (last img)) (record { words = ws; scopes = 0; symbols = 0 })) (sym as-zeroed) ∙ sym (h .same)
 
     -- K and Y, with the counts in front
-    pub resolved-scopes : {ws : List ℕ} (w : Walked) → r ≡ Done w → ws ≡ headed img (tableOf w vs) → (result (w .scopes) (w .symbols) ≡ (resolve img tab) .answer) × (ws ≡ (resolve img tab) .table)
-    resolved-scopes w d q =
-        let e = fills-outcome img tab (exitOf w vs) passes (walked-as ∙ ap (λ (o : Declared). listedOf o vs) d) in
-        (sym (e .0), q ∙ sym (e .1))
+    pub resolved-done : {ws : List ℕ} (w : Walked) → r ≡ Done w → ws ≡ headed img (tableOf w vs) → Resolves img tab (Done w) ws
+    unfolding tableBy
+    resolved-done w d q =
+        let e = way-fills img tab refl (walked-as ∙ ap (λ (o : Declared). listedOf o vs) d) in
+        record {
+          way-is = ap (λ (us : List ℕ). fills (record { words = us; scopes = w .scopes; symbols = w .symbols })) q ∙ sym e;
+          table-is = q ∙ ap (tableBy img tab) (sym e);
+        }
 
     -- "twice", with the words cleared again
-    pub resolved-twice : {ws : List ℕ} (x : ℕ) (a b : NodeId) → r ≡ Twice x a b → ws ≡ cleared c vs → (twiceAnswer x (a .0) (b .0) ≡ (resolve img tab) .answer) × (ws ≡ (resolve img tab) .table)
-    unfolding zeroed cleared
+    pub resolved-twice : {ws : List ℕ} (x : ℕ) (a b : NodeId) → r ≡ Twice x a b → ws ≡ cleared c vs → Resolves img tab (Twice x a b) ws
+    unfolding zeroed cleared tableBy
     resolved-twice x a b d q =
-        let e = stops-outcome img tab x (a .0) (b .0) passes (walked-as ∙ ap (λ (o : Declared). listedOf o vs) d) in
-        let z : drop (tableLength (nodes img)) vs ≡ drop (tableLength (nodes img)) tab = h .passed ∙ ap (drop (tableLength (nodes img))) as-zeroed ∙ zeroed-past img tab in (
-          sym (e .0),
-          q ∙ ap (λ (k : ℕ). cleared k vs) count-is ∙ ap (λ (l : List ℕ). replicate (tableLength (nodes img)) 0 ++ l) z ∙ sym (e .1),
-        )
+        let e = way-stops img tab refl (walked-as ∙ ap (λ (o : Declared). listedOf o vs) d) in
+        let z : drop (tableLength (nodes img)) vs ≡ drop (tableLength (nodes img)) tab = h .passed ∙ ap (drop (tableLength (nodes img))) as-zeroed ∙ zeroed-past img tab in
+        record {
+          way-is = sym e;
+          table-is =
+              q ∙ ap (λ (k : ℕ). cleared k vs) count-is ∙ ap (λ (l : List ℕ). replicate (tableLength (nodes img)) 0 ++ l) z
+              ∙ ap (tableBy img tab) (sym e);
+        }
 
-pub resolved-refused : (img tab : List ℕ) (k : ℕ) → k ≡ testTable img tab → (k ≡ 0 → ⊥) → (refused k ≡ (resolve img tab) .answer) × (tab ≡ (resolve img tab) .table)
-resolved-refused img tab zero e z = absurd (z refl)
-resolved-refused img tab (suc k) e z = let o = refuses-outcome img tab k (sym e) in (sym (o .0), sym (o .1))
+-- the call itself, by its refusal and by what resolving hands back
+module _ (img tab : List ℕ) where
+  parts : {a : Answer} {ws : List ℕ} → resolve img tab ≡ record { answer = a; table = ws } → (a ≡ (resolve img tab) .answer) × (ws ≡ (resolve img tab) .table)
+  parts e = (sym (ap (λ (o : Outcome). o .answer) e), sym (ap (λ (o : Outcome). o .table) e))
+
+  pub resolve-refused : (k : ℕ) → k ≡ testTable img tab → (k ≡ 0 → ⊥) → (refused k ≡ (resolve img tab) .answer) × (tab ≡ (resolve img tab) .table)
+  resolve-refused k q h = parts (unfold resolve in call-refused img tab _ k q h)
+
+  module _ (passes : testTable img tab ≡ 0) {d : Declared} {ws : List ℕ} (h : Resolves img tab d ws) where
+    pub resolve-twice : {x : ℕ} {a b : NodeId} → d ≡ Twice x a b → (twiceAnswer x (a .0) (b .0) ≡ (resolve img tab) .answer) × (ws ≡ (resolve img tab) .table)
+    resolve-twice q = parts (unfold resolve in call-stopped img tab _ passes h q)
+
+    pub resolve-done : {w : Walked} → d ≡ Done w → (result (w .scopes) (w .symbols) ≡ (resolve img tab) .answer) × (ws ≡ (resolve img tab) .table)
+    resolve-done q = parts (unfold resolve in call-filled img tab _ passes h q)

@@ -19,14 +19,14 @@ use Rattle.table.specs.Values.{exitOf}
 use Rattle.table.specs.declared.Walked.{Walked}
 use Rattle.ast.specs.declared.NodeId.{NodeId}
 use Rattle.ordered.specs.Walk.{occurs, walk, walkSeq}
-use Rattle.ordered.specs.Walkers.{over, inside, rest, Few, Room, Ready, ReadyRun}
+use Rattle.ordered.specs.Promises.{over, inside, rest, Few, Room, Ready, ReadyRun}
 use Rattle.ordered.proofs.Grows.{Grows, seq-grows}
 use Rattle.ordered.proofs.Kept.{past}
 use Rattle.ordered.proofs.Lists.{rest-start}
 use Rattle.ordered.proofs.Size.{seq-within}
 use Rattle.ordered.proofs.Steps.{room-below, tree-grows}
 use Rattle.scopes.specs.Walk.{Listed, done, twice, andThen, enterAll, visit, visitAll}
-use Rattle.scopes.specs.Lists.{listedOf, ents, vis, viss, restEnter, restVisit, overList, Enters, Visits, Inside, Fits, Visit, EnterRun, VisitRun, ListRun}
+use Rattle.scopes.specs.Promises.{listedOf, ents, vis, viss, restEnter, restVisit, overList, Enters, Visits, Inside, Fits, Visit, EnterRun, VisitRun, ListRun}
 use Rattle.scopes.specs.declared.Declared.{Declared}
 use Rattle.scopes.specs.declared.Declared.the-variants.{Done, Twice}
 use Rattle.scopes.proofs.Adds.{Newest, enterAll-in, visit-in, opened, opened-counts, child-newest, child-past, child-empty, fits-next}

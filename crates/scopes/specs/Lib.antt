@@ -3,6 +3,6 @@ pub mod Resolve
 pub mod Twice
 pub mod Clash
 pub mod Lookup
-pub mod Rows
-pub mod Lists
+pub mod Calls
+pub mod Promises
 pub mod Answers

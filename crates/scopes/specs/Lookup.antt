@@ -9,7 +9,7 @@ use Rattle.ast.specs.Tests.{_▸_, need}
 use Rattle.names.specs.Number.{numberOf}
 use Rattle.ast.specs.Answer.{Answer, refused, result, other}
 use Rattle.table.specs.Table.{Table, lookup, symbolOf}
-use Rattle.table.specs.Sound.{scopesIn, symbolsIn, testSound}
+use Rattle.sound.specs.Sound.{scopesIn, symbolsIn, testSound}
 use Rattle.scopes.specs.Resolve.{testTable}
 
 module _ (img : List ℕ) where

@@ -12,12 +12,13 @@ ghost use Rattle.ast.specs.Tree.{treeAt};
 ghost use Rattle.table.specs.State.{marked, back};
 ghost use Rattle.table.specs.Values.{tableOf, exitOf, optionOf};
 ghost use Rattle.ordered.specs.Walk.{occurs};
-ghost use Rattle.ordered.specs.Walkers.{inside};
+ghost use Rattle.ordered.specs.Promises.{inside};
 ghost use Rattle.scopes.specs.Walk.{done, enterName, enter, visit, resolveTree};
-ghost use Rattle.scopes.specs.Lists.{ent, restEnter, restVisit, overList, Entering, Enters, Visits, Signature, Inside, Visit, EnterRun, VisitRun, ListRun, Lent, Stamped};
+ghost use Rattle.scopes.specs.Promises.{ent, restEnter, restVisit, overList, Entering, Enters, Visits, Signature, Inside, Visit, EnterRun, VisitRun, ListRun, Lent, Stamped};
 ghost use Rattle.scopes.specs.Resolve.{testTable, headed, resolve};
+ghost use Rattle.scopes.specs.Calls.{testRows};
 ghost use Rattle.scopes.specs.Lookup as «lookup-spec»;
-ghost use Rattle.scopes.specs.Answers.{resolvedAnswer, lookedAnswer};
+ghost use Rattle.scopes.specs.Answers.{resolvedAnswer, Resolves, lookedAnswer};
 use ast::NodeId;
 use names::Numbered;
 use table::Found;
@@ -380,33 +381,26 @@ pub fn walk_module(image: &[u8], table: &mut [u32]) -> Declared
 pub fn insert_counts(image: &[u8], table: &mut [u32], w: Walked)
     ensures { λ _. ⌜ now (table .exit) ≡ headed (now (image .entry)) (tableOf w (now (table .entry))) ⌝ }
 {
-    table::put(table, 0, ast::node_count(image));
-    table::put(table, 1, w.scopes);
-    table::put(table, 2, w.symbols);
+    table::put(table, table::NODES_PLACE, ast::node_count(image));
+    table::put(table, table::SCOPES_PLACE, w.scopes);
+    table::put(table, table::SYMBOLS_PLACE, w.symbols);
 }
 
-// What Resolve hands back: a refusal, a name that is declared twice with its two nodes, or K and Y.
-pub enum Resolved {
-    Refused(u32),
-    Twice(u32, NodeId, NodeId),
-    Scopes(u32, u32),
-}
-
-// Resolve, where 1 to 13 refuse nothing.
-pub fn resolve_into(image: &[u8], table: &mut [u32]) -> Resolved
+// Resolve, where 1 to 13 refuse nothing: where the walk stands after the module, or the name that is declared twice.
+pub fn resolve_into(image: &[u8], table: &mut [u32]) -> Declared
     requires { ⌜ testTable (now image) (now table) ≡ 0 ⌝ }
-    ensures { λ r. ⌜ (resolvedAnswer r ≡ (resolve (now (image .entry)) (now (table .entry))) .answer) × (now (table .exit) ≡ (resolve (now (image .entry)) (now (table .entry))) .table) ⌝ }
+    ensures { λ r. ⌜ Resolves (now (image .entry)) (now (table .entry)) r (now (table .exit)) ⌝ }
 {
-    let words = 3 + 5 * ast::wide(ast::node_count(image));
+    let words = table::words_for(ast::node_count(image));
     rows::clear(table, words);
     match walk_module(image, table) {
         Declared::Done(w) => {
             insert_counts(image, table, w);
-            Resolved::Scopes(w.scopes, w.symbols)
+            Declared::Done(w)
         }
         Declared::Twice(name, first, second) => {
             rows::clear(table, words);
-            Resolved::Twice(name, first, second)
+            Declared::Twice(name, first, second)
         }
     }
 }
@@ -419,10 +413,38 @@ pub fn test_table(image: &[u8], table: &[u32]) -> u32
     if code != 0 {
         return code;
     }
-    if table.len() < 3 + 5 * ast::wide(ast::node_count(image)) {
+    if table.len() < table::words_for(ast::node_count(image)) {
         return 13;
     }
     0
+}
+
+// The refusals of a call that is lent rows too: 1 to 14.
+pub fn test_rows(image: &[u8], table: &[u32], rows: &[u32]) -> u32
+    ensures { λ r. ⌜ r ≡ testRows (now (image .entry)) (now (table .entry)) (now (rows .entry)) ⌝ }
+{
+    let code = test_table(image, table);
+    if code != 0 {
+        return code;
+    }
+    if rows.len() < rows::words(ast::node_count(image)) {
+        return 14;
+    }
+    0
+}
+
+// What Resolve hands back: a refusal, a name that is declared twice with its two nodes, or K and Y.
+pub enum Resolved {
+    Refused(u32),
+    Twice(u32, NodeId, NodeId),
+    Scopes(u32, u32),
+}
+
+// What a call that writes rows hands back: a refusal, a name that is declared twice with its two nodes, or the count of rows.
+pub enum Rowed {
+    Refused(u32),
+    Twice(u32, NodeId, NodeId),
+    Rows(u32),
 }
 
 // Resolve: fills the lent table with the scopes and symbols of the image.
@@ -433,7 +455,10 @@ pub fn resolve_scopes(image: &[u8], table: &mut [u32]) -> Resolved
     if refusal != 0 {
         return Resolved::Refused(refusal);
     }
-    resolve_into(image, table)
+    match resolve_into(image, table) {
+        Declared::Done(w) => Resolved::Scopes(w.scopes, w.symbols),
+        Declared::Twice(name, first, second) => Resolved::Twice(name, first, second),
+    }
 }
 
 // What Lookup hands back: a refusal, a symbol number with its node, or none.
@@ -451,11 +476,11 @@ fn test_lookup(image: &[u8], table: &[u32], scope: ScopeId) -> u32
     if code != 0 {
         return code;
     }
-    let sound = table::test_sound(image, table);
+    let sound = sound::test_sound(image, table);
     if sound != 0 {
         return sound;
     }
-    if scope.0 < table::get(table, 1) {
+    if scope.0 < table::get(table, table::SCOPES_PLACE) {
         return 0;
     }
     17
@@ -465,7 +490,13 @@ fn test_lookup(image: &[u8], table: &[u32], scope: ScopeId) -> u32
 fn lookup_number(image: &[u8], table: &[u32], scope: ScopeId, name: u32) -> Looked
     ensures { λ r. ⌜ lookedAnswer r ≡ «lookup-spec».symbolAnswer (now (image .entry)) («lookup-spec».foundBy (now (image .entry)) (now (table .entry)) (scope .0) (some name)) ⌝ }
 {
-    match table::lookup(image, table, table::get(table, 2), scope, name) {
+    match table::lookup(
+        image,
+        table,
+        table::get(table, table::SYMBOLS_PLACE),
+        scope,
+        name,
+    ) {
         Found::At(node) => Looked::At(table::symbol_of(ast::kind_at(image, node)), node),
         Found::Nothing => Looked::Nothing,
     }

@@ -17,7 +17,7 @@ use Rattle.ast.proofs.Count.{nodesOf, nodesAll, sumOf, sumOf-append}
 use Rattle.table.specs.Table.{Table}
 use Rattle.rows.specs.Rows.{Row, row, rights, when}
 use Rattle.bindings.specs.Errors.{argRow, argRows, rowsOf, declRows}
-use Rattle.bindings.specs.Checks.{listed, declared}
+use Rattle.bindings.specs.Promises.{listed, declared}
 use Rattle.sentences.specs.Places.{Introduced, NotNew, NotFresh}
 use Rattle.bindings.proofs.RowLaws.{rowsAt}
 

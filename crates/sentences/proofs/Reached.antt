@@ -29,7 +29,7 @@ use Rattle.rows.specs.Rows.{Row}
 use Rattle.ast.proofs.Bools.{not-or, false-true}
 use Rattle.bindings.specs.Errors.{definedRow, rowsOf, rowsSeq, declRows, declsRows, plainRows}
 use Rattle.error.specs.Kinds.{asked}
-use Rattle.bindings.specs.Checks.{inside, ofPattern}
+use Rattle.bindings.specs.Promises.{inside, ofPattern}
 use Rattle.sentences.specs.Places.{Stands, Determines, InThen, atom, down}
 use Rattle.bindings.proofs.RowLaws.{rowsAt, declKinds, decl-child, plain-rows, term-rows, member-rows, receiver-rows, head-other, case-rows, defined-none, defined-some}
 use Rattle.sentences.proofs.Standing.{thenKind, then-node, below-is, kids-at, field-zero, is-at}

@@ -30,7 +30,7 @@ use Rattle.rows.specs.Rows.{Row}
 use Rattle.ast.proofs.Bools.{not-or, is-true, false-true, not-equal, and-true, true-is}
 use Rattle.bindings.specs.Errors.{introduces, introducedRow, isCtor, argRow, argRows, definedRow, rowsOf, rowsSeq, declRows, plainRows}
 use Rattle.error.specs.Kinds.{asked}
-use Rattle.bindings.specs.Checks.{inside, listed, declared, ofPattern, ofArgs}
+use Rattle.bindings.specs.Promises.{inside, listed, declared, ofPattern, ofArgs}
 use Rattle.sentences.specs.Places.{Node, Stands, InThen, atom, down}
 use Rattle.bindings.proofs.RowLaws.{rowsAt, declKinds, kids-of, plain-rows, term-rows, ident-rows, member-rows, receiver-rows, head-ident, head-other, case-rows, defined-none, defined-some, case-inside, arg-none, arg-ident, defined-ident, defined-wild, ctor-ident, ctor-none, decl-child, decl-none, rule-rows, model-rows, module-rows}
 use Rattle.bindings.proofs.Bodies.{atomKinds, case-pattern, no-pattern, applied, applied-yes, applied-no, Applied, case-whole, Defined, then-some}

@@ -13,10 +13,11 @@ use Rattle.ast.specs.Tests.{is, times, verdict}
 use Rattle.ast.specs.Tree.{Tree, node, block, Trees, none, _◂_, treeAt}
 use Rattle.ast.proofs.Count.{nodesOf, nodesAll, is-same, times-append, once, nothing-else}
 use Rattle.ordered.proofs.Moves.{numbers, numbersSeq}
+use Rattle.scopes.specs.Walk.{recorded, recordedAll}
 use Rattle.sight.specs.Sight.{In}
 use Rattle.ast.specs.Rules.{Rule, saysAll, rules, rulesAll, rulesOf, moduleRules}
 use Rattle.sight.proofs.Members.{Distinct}
-use Rattle.sight.proofs.Lists.{entered, enteredAll, visited, visitedAll, moduleNumbers}
+use Rattle.sight.proofs.Lists.{visited, visitedAll, moduleNumbers}
 use Rattle.sight.proofs.Verdict.{root-of}
 
 -- members and distinct numbers, by how often a number stands in a list
@@ -67,9 +68,9 @@ module _ (v : ℕ) where
         omega arith
 
   mutual
-    unfolding entered visited nodesOf times
+    unfolding recorded visited nodesOf times
 
-    marked-once : (u : Tree) → times v (entered u) + times v (visited u) ≤ times v (nodesOf u)
+    marked-once : (u : Tree) → times v (recorded u) + times v (visited u) ≤ times v (nodesOf u)
     marked-once (block ts) = omega arith
     marked-once (node n k (inner i) sh ts) = omega arith
     marked-once (node n k (outer root) sh ts) = omega arith
@@ -79,13 +80,13 @@ module _ (v : ℕ) where
     marked-once (node n k (outer enum) sh ts) = let a = markedAll-once ts in omega arith
     marked-once (node n k (outer model) sh ts) =
         let a = markedAll-once ts in
-        let b = times-append v (enteredAll ts) (visitedAll ts) in
+        let b = times-append v (recordedAll ts) (visitedAll ts) in
         omega arith
 
-    markedAll-once : (us : Trees) → times v (enteredAll us) + times v (visitedAll us) ≤ times v (nodesAll us)
+    markedAll-once : (us : Trees) → times v (recordedAll us) + times v (visitedAll us) ≤ times v (nodesAll us)
     markedAll-once none = omega arith
     markedAll-once (u ◂ us) =
-        let a = times-append v (entered u) (enteredAll us) in
+        let a = times-append v (recorded u) (recordedAll us) in
         let b = times-append v (visited u) (visitedAll us) in
         let c = times-append v (nodesOf u) (nodesAll us) in
         let d = marked-once u in
@@ -120,7 +121,7 @@ module _ (img : List ℕ) (v : ℕ) where
     rules-once m (node n k (outer enum) sh ts) = rulesAll-once m ts
     rules-once m (node n k (outer model) sh ts) =
         let a = rulesAll-once (λ x. orElse (saysAll img ts x) (m x)) ts in
-        let b = times-append v (enteredAll ts) (visitedAll ts) in
+        let b = times-append v (recordedAll ts) (visitedAll ts) in
         omega arith
 
     rulesAll-once : (m : ℕ → Option ℕ) (us : Trees) → times v (ruleNumbers (rulesAll img m us)) ≤ times v (visitedAll us)
@@ -158,7 +159,7 @@ module _ (img : List ℕ) (e : verdict img ≡ 0) where
 
   marked-times : (v : ℕ) → times v (moduleNumbers (last img) lists) ≤ times v (last img ∷ nodesAll lists)
   unfolding times
-  marked-times v = let a = times-append v (enteredAll lists) (visitedAll lists) in let b = markedAll-once v lists in omega arith
+  marked-times v = let a = times-append v (recordedAll lists) (visitedAll lists) in let b = markedAll-once v lists in omega arith
 
   pub module-small : (v : ℕ) → In v (moduleNumbers (last img) lists) → v < nodes img
   module-small v i =
@@ -184,6 +185,3 @@ module _ (img : List ℕ) (e : verdict img ≡ 0) where
   -- each node stands once among the nodes of rules
   pub rule-nodes-once : (v : ℕ) → times v (ruleNumbers (moduleRules img)) ≤ 1
   rule-nodes-once v = let a = rules-times v in let b = tree-times v in omega arith
-
-  pub rule-nodes-small : (v : ℕ) → 1 ≤ times v (ruleNumbers (moduleRules img)) → v < nodes img
-  rule-nodes-small v h = let a = rules-times v in tree-small v (omega arith)

@@ -3,61 +3,50 @@ use mathlib.Core.Path.{_≡_, refl, sym, _∙_, ap, ap₂, subst, fun-ext}
 use mathlib.Core.Logic.{_⊎_, inl, inr, _↔_}
 use mathlib.Core.List.{List}
 use mathlib.Core.Option.{Option, some}
-use Prim.Native.Nat.{ℕ, zero, suc, _≤_}
-use native.Mathlib.Omega.{arith}
+use Prim.Native.Nat.{ℕ, _≤_}
 use lib.ListN.{length}
 use borrow.Author.Tests.{eqb-true}
-use Rattle.ast.specs.Answer.{refused, result}
+use Rattle.ast.specs.Answer.{result}
 use Rattle.ast.specs.Image.{nodes, kindAt, nameOf}
 use Rattle.ast.specs.Tests.{verdict}
-use Rattle.rows.specs.Rows.{Row, row, lefts, written}
-use Rattle.scopes.specs.Resolve.{testTable, walked, headed}
-use Rattle.scopes.specs.Rows.{testRows, Outcome}
+use Rattle.rows.specs.Rows.{Row, row, lefts, held}
+use Rattle.scopes.specs.Resolve.{walked, headed, counted}
+use Rattle.scopes.specs.Calls.{testRows, RowsOutcome}
 use Rattle.scopes.specs.Walk.{done}
 use Rattle.table.specs.State.{Exit}
 use Rattle.table.specs.Table.{lookup, isKind, exitAt}
-use Rattle.ast.proofs.Accepted.{both}
+use Rattle.scopes.proofs.Calls.{rows-table, rowed-done, rowed-held, rowed-count}
 use Rattle.scopes.proofs.Headed.{headed-exit}
-use Rattle.occurrences.specs.Occurrences.{occurrenceRows, occurrencesOf, occurrences}
+use Rattle.scopes.proofs.Resolving.{table-accepted}
+use Rattle.occurrences.specs.Occurrences.{occurrenceRows, occurrences}
+use Rattle.occurrences.proofs.CollectCalls.{rows-headed}
+use Rattle.occurrences.proofs.Few.{rows-few}
 use Rattle.sight.specs.Sight.{Sort, ordinary, declared, applied, defined, Place, In, outerConst, Same}
 use Rattle.ast.specs.Rules.{Rule, moduleRules}
 use Rattle.sight.proofs.Listing.{placesOf, Occurs, AllRows}
 use Rattle.sight.proofs.Members.{Distinct}
 use Rattle.sight.proofs.Resolving.{tableOf, resolved, left-lookup}
-use Rattle.sight.proofs.RowLaws.{bindingOf, RowAt, all-only, all-all, one-row, rows-list, rows-distinct, rows-few}
+use Rattle.sight.proofs.RowLaws.{bindingOf, RowAt, all-only, all-all, one-row, rows-list, rows-distinct}
 use Rattle.sight.proofs.Spots.{ownerKind, ordered}
 use Rattle.sight.proofs.WholeModule.{WalkOf, var-is-occurrence, equal-is-same}
-use Rattle.sight.proofs.Written.{rowsIn, rows-read}
-
--- no more rows than nodes: no row is dropped
-pub few-rows : (img tab : List ℕ) (e : Exit) → verdict img ≡ 0 → walked img tab ≡ done e → length (occurrenceRows img (e .table)) ≤ nodes img
-few-rows img tab e accepted single = rows-few img (e .table) accepted ((resolved img tab e accepted single) .walks)
 
 module _ (img tab rows : List ℕ) (accepted : testRows img tab rows ≡ 0) (e : Exit) (single : walked img tab ≡ done e) where
   pub image-accepted : verdict img ≡ 0
-  unfolding testRows testTable
-  image-accepted = (both _ _ ((both _ _ accepted) .0)) .0
+  image-accepted = table-accepted img tab (rows-table img tab rows accepted)
 
   abbrev found-rows : List Row
   found-rows = occurrenceRows img (e .table)
 
-  leaves : occurrences img tab rows ≡ record { answer = result 0 (length found-rows); table = headed img (e .table); rows = written (nodes img) found-rows rows }
-  unfolding occurrences occurrencesOf
-  leaves = by-test (testRows img tab rows) accepted ∙ ap (occurrencesOf img tab rows) single
-    where
-      tested : ℕ → Outcome
-      tested = elim [ zero ↦ occurrencesOf img tab rows (walked img tab) | suc r ↦ record { answer = refused (suc r); table = tab; rows = rows } ]
-
-      by-test : (r : ℕ) → r ≡ 0 → tested r ≡ occurrencesOf img tab rows (walked img tab)
-      by-test zero q = refl
-      by-test (suc r) q = absurd (omega arith)
+  -- no more rows than nodes: no row is dropped
+  rows-fit : length (occurrenceRows img (counted img (e .table))) ≤ nodes img
+  rows-fit = rows-few img (counted img (e .table)) image-accepted
 
   -- what the call leaves, the rows that it has written, and what lookup gives in its table at the exit of a place's node
-  abbrev left : Outcome
+  abbrev left : RowsOutcome
   left = occurrences img tab rows
 
   abbrev list : List Row
-  list = rowsIn (nodes img) (left .rows)
+  list = held (nodes img) (left .rows)
 
   abbrev binding : Place → Option ℕ
   binding p = lookup img (tableOf img (left .table)) (exitAt img (left .table) (p .node)) (nameOf img (p .ident))
@@ -66,19 +55,25 @@ module _ (img tab rows : List ℕ) (accepted : testRows img tab rows ≡ 0) (e :
   walks = (resolved img tab e image-accepted single) .walks
 
   pub list-is : list ≡ found-rows
-  list-is = ap (λ (o : Outcome). rowsIn (nodes img) (o .rows)) leaves ∙ rows-read (nodes img) found-rows rows (few-rows img tab e image-accepted single)
+  unfolding occurrences
+  list-is = rowed-held img tab rows (occurrenceRows img) accepted single rows-fit ∙ sym (rows-headed img (e .table))
+
+  table-is : left .table ≡ headed img (e .table)
+  unfolding occurrences
+  table-is = ap (λ (o : RowsOutcome). o .table) (rowed-done img tab rows (occurrenceRows img) accepted single)
 
   pub binding-is : (p : Place) → binding p ≡ bindingOf img (e .table) p
   binding-is p =
-      ap (λ (o : Outcome). lookup img (tableOf img (o .table)) (exitAt img (o .table) (p .node)) (nameOf img (p .ident))) leaves
+      ap (λ (ws : List ℕ). lookup img (tableOf img ws) (exitAt img ws (p .node)) (nameOf img (p .ident))) table-is
       ∙ left-lookup img tab e image-accepted single (exitAt img (headed img (e .table)) (p .node)) (nameOf img (p .ident))
       ∙ ap (λ s. lookup img (e .table) s (nameOf img (p .ident))) (sym (headed-exit img (e .table) (p .node)))
 
   pub list-few : length list ≤ nodes img
-  list-few = subst (λ (l : List Row). length l ≤ nodes img) (sym list-is) (few-rows img tab e image-accepted single)
+  list-few = subst (λ (l : List Row). length l ≤ nodes img) (sym list-is) (rows-few img (e .table) image-accepted)
 
   pub answered : left .answer ≡ result 0 (length list)
-  answered = ap (λ (o : Outcome). o .answer) leaves ∙ ap (λ (l : List Row). result 0 (length l)) (sym list-is)
+  unfolding occurrences
+  answered = rowed-count img tab rows (occurrenceRows img) accepted single rows-fit
 
   pub lists-all : AllRows img binding (moduleRules img) list
   lists-all =

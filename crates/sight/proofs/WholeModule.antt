@@ -16,10 +16,10 @@ use Rattle.ast.specs.Tree.{node, Trees}
 use Rattle.table.specs.Layout.{allOnes, tableLength}
 use Rattle.table.specs.Rows.{parentAt}
 use Rattle.table.specs.State.{Exit, childScope, marked}
-use Rattle.table.specs.Table.{Table, mark, newScope, find, lookup, isKind, exitAt}
+use Rattle.table.specs.Table.{Table, mark, newScope, find, lookup, isKind, entryAt, exitAt}
 use Rattle.table.proofs.Frames.{find-mark, find-scope}
 use Rattle.ordered.specs.Walk.{occurs, walkSeq}
-use Rattle.scopes.specs.Walk.{done, enterAll, visitAll, resolveTree}
+use Rattle.scopes.specs.Walk.{done, recordedAll, enterAll, visitAll, resolveTree}
 use Rattle.ordered.specs.Kept.{Kept}
 use Rattle.table.proofs.Agreed.{Agree, lookup-agree}
 use Rattle.ordered.proofs.Kept.{mark-kept, scope-kept}
@@ -29,10 +29,10 @@ use Rattle.scopes.proofs.Resolving.{none-kept}
 use Rattle.sight.specs.Sight.{Place, In, rulePlaces, Naming, Occurrence, Same, outerConst}
 use Rattle.ast.specs.Rules.{Rule, saysAll, rulesAll}
 use Rattle.sight.proofs.Members.{in-left, in-right, in-split, Distinct, distinct-left, distinct-right, distinct-apart}
-use Rattle.sight.proofs.Frame.{Bounds, Later, later-next, lookup-child, lookup-root, mark-parent, mark-exit, child-parent, child-parent-other, child-empty, child-exit}
+use Rattle.sight.proofs.Frame.{Bounds, Later, later-next, lookup-child, lookup-root, mark-parent, mark-exit, mark-entry, child-parent, child-parent-other, child-empty, child-exit, child-entry}
 use Rattle.sight.proofs.Steps.{Bodies}
 use Rattle.sight.proofs.Moves.{walks-seq, framed}
-use Rattle.sight.proofs.Lists.{enteredAll, visitedAll, moduleNumbers, Decls, stays, Entered, entering, entersAll, Visits, idle, after, walks, ruled, nested, visitsAll, kind-orElse}
+use Rattle.sight.proofs.Lists.{visitedAll, moduleNumbers, Decls, stays, Entered, entering, entersAll, Visits, idle, after, walks, ruled, nested, visitsAll, kind-orElse}
 use Rattle.sight.proofs.OneRule.{Walked, place-node, occurrences, bindings, introducing}
 
 module _ (img : List ℕ) where
@@ -60,18 +60,24 @@ module _ (img : List ℕ) where
       let g₁ = g .symbols in
       record { scope = refl; scopes = omega arith; symbols = omega arith }
 
-  -- T keeps the lookups of t and the exits of the nodes ns
+  -- T keeps the lookups of t, and the entries and exits of the nodes ns
   pub record Keeps (ns : List ℕ) (t T : Table) : Type 0 where
     pub lookups : (s x : ℕ) → s < t .scopes → lookup img T s x ≡ lookup img t s x
+    pub entries : (m : ℕ) → m < nodes img → In m ns → entryAt img (T .words) m ≡ entryAt img (t .words) m
     pub exits : (m : ℕ) → m < nodes img → In m ns → exitAt img (T .words) m ≡ exitAt img (t .words) m
 
   -- the walk of a rule, from a scope where names have their outer meaning
   abbrev pub WalkOf : Rule → Table → Type 0
-  WalkOf r T = (e : Exit) × Walked img (r .statements) e T × ((x : ℕ) → lookup img (e .table) (e .scope) x ≡ r .meaning x)
+  WalkOf r T =
+      (e : Exit)
+      × Walked img (r .statements) e T
+      × ((x : ℕ) → lookup img (e .table) (e .scope) x ≡ r .meaning x)
+      × Keeps (numbersSeq (r .statements)) ((walkSeq img occurs (r .statements) e) .table) T
 
   pub record Held (ns : List ℕ) (rs : List Rule) (t t′ : Table) : Type 0 where
     pub sane : Kept img t′
     pub later : Later img t t′ ns
+    pub entries : (m : ℕ) → m < nodes img → (In m ns → ⊥) → entryAt img (t′ .words) m ≡ entryAt img (t .words) m
     pub walked : (T : Table) → Keeps ns t′ T → (r : Rule) → In r rs → WalkOf r T
 
   held-after : (ns ms : List ℕ) (rs qs : List Rule) (t t′ t″ : Table) → t .scopes ≤ t′ .scopes → t′ .scopes ≤ t″ .scopes → Distinct (ns ++ ms)
@@ -80,6 +86,7 @@ module _ (img : List ℕ) where
       record {
         sane = g .sane;
         later = later-next img t t′ t″ ns ms a (f .later) (g .later);
+        entries = λ m l k. g .entries m l (λ j. k (in-right m ns ms j)) ∙ f .entries m l (λ j. k (in-left m ns ms j));
         walked = λ T k r i. go T k r (in-split r rs qs i);
       }
     where
@@ -88,10 +95,11 @@ module _ (img : List ℕ) where
           f .walked T
           (record {
             lookups = λ s x l. k .lookups s x (omega arith) ∙ g .later .lookups s x l;
+            entries = λ m l j. k .entries m l (in-left m ns ms j) ∙ g .entries m l (λ h. distinct-apart ns ms d m j h);
             exits = λ m l j. k .exits m l (in-left m ns ms j) ∙ g .later .exits m l (λ h. distinct-apart ns ms d m j h);
           })
           r i
-      go T k r (inr i) = g .walked T (record { lookups = k .lookups; exits = λ m l j. k .exits m l (in-right m ns ms j) }) r i
+      go T k r (inr i) = g .walked T (record { lookups = k .lookups; entries = λ m l j. k .entries m l (in-right m ns ms j); exits = λ m l j. k .exits m l (in-right m ns ms j) }) r i
 
   held-rule : (ts : Trees) (body : Bodies img ts) (m : ℕ → Option ℕ) (e : Exit) → Bounds img ((walkSeq img occurs ts e) .table)
       → ((n : ℕ) → In n (numbersSeq ts) → n < nodes img) → Distinct (numbersSeq ts) → Kept img (e .table) → e .scope < e .table .scopes
@@ -99,7 +107,7 @@ module _ (img : List ℕ) where
       → Held (numbersSeq ts) (record { statements = ts; meaning = m } ∷ []) (e .table) ((walkSeq img occurs ts e) .table)
   held-rule ts body m e b sm di so i reads outs =
       let f = framed img (walks-seq img ts e) b sm so i in
-      record { sane = f .sane; later = f .later; walked = go }
+      record { sane = f .sane; later = f .later; entries = f .entries; walked = go }
     where
       go : (T : Table) → Keeps (numbersSeq ts) ((walkSeq img occurs ts e) .table) T → (r : Rule) → In r (record { statements = ts; meaning = m } ∷ []) → WalkOf r T
       go T k r (inr j) = absurd j
@@ -119,6 +127,7 @@ module _ (img : List ℕ) where
               exits = λ p j. k .exits (p .node) (sm (p .node) (place-node img ts body e p j)) (place-node img ts body e p j);
             },
             reads,
+            k,
           )
 
   -- a new list, its scope below the one of e
@@ -170,12 +179,15 @@ module _ (img : List ℕ) where
           exits = λ k l f. en .exits k l (λ j. f (inr j)) ∙ mark-exit img n K K t₀ n<N k l (λ q. f (inl q)) ∙ child-exit img s t so K<N k l;
         }
 
+    list-entries : (k : ℕ) → k < nodes img → (In k (n ∷ es) → ⊥) → entryAt img (t′ .words) k ≡ entryAt img (t .words) k
+    list-entries k l f = en .entries k l (λ j. f (inr j)) ∙ mark-entry img n K K t₀ n<N k l (λ q. f (inl q)) ∙ child-entry img s t so K<N k l
+
   holds : {ns : List ℕ} {rs : List Rule} {m : ℕ → Option ℕ} {e e′ : Exit} → Visits img ns rs m e e′ → Bounds img (e′ .table) → ((n : ℕ) → In n ns → n < nodes img)
       → Distinct ns → Kept img (e .table) → e .scope < e .table .scopes → ((x : ℕ) → lookup img (e .table) (e .scope) x ≡ m x)
       → ((x : ℕ) → isKind img 13 (m x) ≡ false) → Held ns rs (e .table) (e′ .table)
   unfolding marked childScope
   holds idle b sm di so i reads outs =
-      record { sane = so; later = record { lookups = λ s x l. refl; exits = λ m l f. refl }; walked = λ T k r j. absurd j }
+      record { sane = so; later = record { lookups = λ s x l. refl; exits = λ m l f. refl }; entries = λ m l f. refl; walked = λ T k r j. absurd j }
   holds (after {ns = ns} {ms = ms} {rs = rs} {qs = qs} {m = m} {e = e} {e′ = e′} {e″ = e″} v u) b sm di so i reads outs =
       let p = returns v in
       let p₀ = p .scope in
@@ -187,7 +199,7 @@ module _ (img : List ℕ) where
       held-after ns ms rs qs (e .table) (e′ .table) (e″ .table) (p .scopes) (q .scopes) di f g
   holds (walks {e = e} ts) b sm di so i reads outs =
       let f = framed img (walks-seq img ts e) b sm so i in
-      record { sane = f .sane; later = f .later; walked = λ T k r j. absurd j }
+      record { sane = f .sane; later = f .later; entries = f .entries; walked = λ T k r j. absurd j }
   holds (ruled {m = m} {e = e} ts body) b sm di so i reads outs = held-rule ts body m e b sm di so i reads outs
   holds (nested {es = es} {ds = ds} {ns = ns} {rs = rs} {m = m} {e = e} {e′ = e′} {e″ = e″} n v u) b sm di so i reads outs =
       let K = e .table .scopes in
@@ -204,7 +216,7 @@ module _ (img : List ℕ) where
       entering img v (omega arith) (λ k j. sm k (inr (in-left k es ns j)))
       (mark-kept img n K K (newScope img (e .scope) (e .table)) n<N (scope-kept img (e .scope) (e .table) K<N so)) (omega arith) in
       let f : Held (n ∷ es) [] (e .table) (e′ .table) =
-      record { sane = en .sane; later = list-later n es ds m e (e′ .table) so i K<N n<N en reads; walked = λ T k r j. absurd j } in
+      record { sane = en .sane; later = list-later n es ds m e (e′ .table) so i K<N n<N en reads; entries = list-entries n es ds m e (e′ .table) so i K<N n<N en reads; walked = λ T k r j. absurd j } in
       let g : Held ns rs (e′ .table) (e″ .table) =
       holds u b (λ k j. sm k (inr (in-right k es ns j))) (distinct-right es ns (di .1)) (en .sane) (omega arith)
       (λ x. ap (λ s. lookup img (e′ .table) s x) p₀ ∙ list-reads n es ds m e (e′ .table) so i K<N n<N en reads x)
@@ -226,7 +238,7 @@ module _ (img : List ℕ) where
       let t₀ : Table = record { words = ws; scopes = 0; symbols = 0 } in
       let t₁ : Table = newScope img allOnes t₀ in
       let so : Kept img t₀ = none-kept img ws size in
-      let es = enteredAll ts in
+      let es = recordedAll ts in
       let ns = visitedAll ts in
       let D = saysAll img ts in
       let n<N = sm n (inl refl) in
@@ -248,7 +260,7 @@ module _ (img : List ℕ) where
       ∙ ap (λ u. orElse u (D x)) (find-mark img n 0 0 t₁ n<N 0 x ∙ child-empty img allOnes t₀ so (omega arith) x) in
       let held : Held ns (rulesAll img D ts) (h .0 .table) (e .table) =
       holds v b (λ m i. sm m (inr (in-right m es ns i))) (distinct-right es ns (di .1)) (en .sane) (omega arith) reads (en .novar) in
-      record { bounds = b; sane = held .sane; walks = held .walked (e .table) (record { lookups = λ s x l. refl; exits = λ m l i. refl }) }
+      record { bounds = b; sane = held .sane; walks = held .walked (e .table) (record { lookups = λ s x l. refl; entries = λ m l i. refl; exits = λ m l i. refl }) }
 
   -- the third demand for a rule that was walked
   module _ (T : Table) (r : Rule) (w : WalkOf r T) where

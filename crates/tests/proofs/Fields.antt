@@ -8,7 +8,7 @@ use borrow.Author.Tests.{lt-ltb, le-ltb, le-leb, lt-leb, eq-eqb, ne-eqb}
 use Rattle.ast.specs.Image.{kindAt, opAt, operands, names}
 use Rattle.ast.specs.Kinds.{Field, name, optName, child, optChild, list, lists, cases, noChild}
 use Rattle.ast.specs.Rows.{numbers, opsFrom, afterBlocks, blockKids, after, afterFields, fieldKids, fieldsKids}
-use Rattle.ast.specs.Scan.{code, claimAll, Step, FieldTested, FieldsTested}
+use Rattle.ast.specs.Promises.{code, claimAll, Step, FieldTested, FieldsTested}
 use Rattle.ast.specs.Tests.{_▸_, need, run, inRow, isChild, childWord, testBlocks, testField, testFields}
 use Rattle.ast.proofs.Scans.{need-in, need-out, passes, refuses, restep, skips, stops, halts, follows, ▸-assoc}
 use Rattle.ast.proofs.Unfold.{numbers-ones, numbers-append}

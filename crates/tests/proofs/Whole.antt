@@ -12,7 +12,7 @@ use Rattle.ast.specs.Image.{nodes, kindAt, startAt, opAt, field, operands, name
 use Rattle.ast.specs.Kinds.{kindOf}
 use Rattle.tests.specs.Parts.{Cased, partOf, rowParts}
 use Rattle.ast.specs.Rows.{numbers, kids, kidsTo, fieldsAt, rowEnd}
-use Rattle.ast.specs.Scan.{code, Head, Within, Step, FieldsTested, FieldTested, NodeTested, claimAll}
+use Rattle.ast.specs.Promises.{code, Head, Within, Step, FieldsTested, FieldTested, NodeTested, claimAll}
 use Rattle.ast.specs.Tests.{_▸_, need, run, inRow, testFields, times, first, isVar, testVar, testSizes, testNode, testParents, testTree, endBefore}
 use Rattle.ast.proofs.Accepted.{skip, stop, stop-at, sizes-ok}
 use Rattle.tests.proofs.Fields.{in-row, out-row, fields-none, fields-halt, fields-follow}

@@ -7,7 +7,7 @@ ghost use Rattle.ast.specs.Image as «image-spec»;
 ghost use Rattle.ast.specs.Rows.{opsFrom, afterBlocks, blockKids, numbers, kidsTo};
 ghost use Rattle.ast.specs.Tests as «tests-spec»;
 ghost use Rattle.ast.specs.Kinds.{name, optName, child, optChild, list, lists, cases, kindOf};
-ghost use Rattle.ast.specs.Scan.{Head, Within, Place, Step, FieldTested, FieldsTested, NodeTested, bump, claimAll};
+ghost use Rattle.ast.specs.Promises.{Head, Within, Place, Step, FieldTested, FieldsTested, NodeTested, bump, claimAll};
 ghost use Rattle.tests.specs.Parts.{partOf, partCases, rowParts, caseKinds, Cased, Tables};
 use ast::NodeId;
 use ast::Sizes;

@@ -8,7 +8,7 @@ use Rattle.ast.specs.Image.{nodes, field}
 use Rattle.rows.proofs.Appends.{appended-next}
 use Rattle.rows.proofs.Parts.{appended-as, appended-no, Left, left-start, left-next, left-end}
 use Rattle.ast.proofs.Blocks.{BlocksFrom, blocks-from, blocks-place}
-use Rattle.bindings.specs.Checks.{inside, listed}
+use Rattle.bindings.specs.Promises.{inside, listed}
 use Rattle.bindings.proofs.Epic.{room-as, room-first, room-rest, room-left, listed-start, listed-end}
 use Rattle.bindings.proofs.Bodies.{blocksLeft, blocks-whole, block-item, blocks-end, cases-start, cases-item, case-whole, case-run, stmt-if, stmt-then, stmt-branch, stmt-match, stmt-last, stmts-item}
 use Prim.Native.Nat.{ℕ, _<_}

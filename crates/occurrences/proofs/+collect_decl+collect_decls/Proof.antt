@@ -3,7 +3,7 @@ use native.Mathlib.Omega.{arith}
 use Prim.Native.Nat.{ℕ, _+_, _*_, _-_, _≤_}
 use Rattle.ast.specs.Image.{nodes}
 use Rattle.rows.proofs.Parts.{Left, appended-no}
-use Rattle.occurrences.specs.Collect.{joined, listsAt}
+use Rattle.occurrences.specs.Promises.{joined, listsAt}
 use Rattle.occurrences.proofs.CollectRules.{declared, decl-none, modelRun, decls-start, decls-item, decls-next, decls-end}
 use Rattle.occurrences.proofs.CollectSteps.{appended-as}
 use Prim.Native.Nat.{_<_}

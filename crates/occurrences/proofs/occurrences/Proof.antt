@@ -1,6 +1,7 @@
-use mathlib.Core.Path.{sym, ap, _∙_}
-use Rattle.scopes.specs.Answers.{resolvedAnswer}
-use Rattle.occurrences.proofs.CollectCalls.{given, clashed, no-refusal, table-passes, rows-long, listed-refused, listed-twice, listed-rows}
+use mathlib.Core.Path.{sym, _∙_}
+use Rattle.scopes.proofs.Calls.{rows-table, rows-long, rowed-refused, rowed-filled, rowed-stopped}
+use Rattle.occurrences.specs.Occurrences.{occurrences}
+use Rattle.occurrences.proofs.CollectCalls.{whole, listed-wrote}
 use borrow.Author.Needs.{needs}
 use Rattle.occurrences.proofs.occurrences.Statement.{statement}
 use Rattle.occurrences.proofs.occurrences.Tie as tie
@@ -15,22 +16,20 @@ same-length-2 : tie.Need-same-length-2
 same-length-2 c = search needs
 
 returns : tie.Need-returns
-returns c = listed-refused _ _ _ _ (c .before .test-rows .ensures) (c .if1 .taken)
+unfolding occurrences
+returns c = rowed-refused _ _ _ _ _ (c .before .test-rows .ensures) (c .if1 .taken)
 
 resolve-into-requires : tie.Need-resolve-into-requires
-resolve-into-requires c κs = table-passes _ _ _ (sym (c .before .before .test-rows .ensures) ∙ c .before .if1 .left)
+resolve-into-requires c κs = rows-table _ _ _ (sym (c .before .before .test-rows .ensures) ∙ c .before .if1 .left)
 
-enum-known-number : tie.Need-enum-known-number
-enum-known-number c = search needs
+enum-known-w : tie.Need-enum-known-w
+enum-known-w c = search needs
+
+write-rows-requires : tie.Need-write-rows-requires
+write-rows-requires c κs = (whole _ _ (rows-table _ _ _ (sym (c .before .before .before .before .before .before .before .before .before .before .test-rows .ensures) ∙ c .before .before .before .before .before .before .before .before .before .if1 .left)) (c .before .before .before .before .before .before .before .resolve-into .ensures) (c .before .before .before .w .given .1), rows-long _ _ _ (sym (c .before .before .before .before .before .before .before .before .before .before .test-rows .ensures) ∙ c .before .before .before .before .before .before .before .before .before .if1 .left))
 
 enum-known-name : tie.Need-enum-known-name
 enum-known-name c = search needs
-
-enum-known-symbols : tie.Need-enum-known-symbols
-enum-known-symbols c = search needs
-
-write-rows-requires : tie.Need-write-rows-requires
-write-rows-requires c κs = ((given _ _ (sym (ap resolvedAnswer (c .before .before .before .symbols .given .1)) ∙ c .before .before .before .before .before .before .before .resolve-into .ensures .0) (c .before .before .before .before .before .before .before .resolve-into .ensures .1)) .whole, rows-long _ _ _ (sym (c .before .before .before .before .before .before .before .before .before .before .test-rows .ensures) ∙ c .before .before .before .before .before .before .before .before .before .if1 .left))
 
 same-length-3 : tie.Need-same-length-3
 same-length-3 c = search needs
@@ -39,7 +38,8 @@ same-length-4 : tie.Need-same-length-4
 same-length-4 c = search needs
 
 returns-2 : tie.Need-returns-2
-returns-2 c = absurd (no-refusal _ _ (table-passes _ _ _ (sym (c .before .before .before .before .before .before .before .before .test-rows .ensures) ∙ c .before .before .before .before .before .before .before .if1 .left)) (sym (ap resolvedAnswer (c .before .number .given .1)) ∙ c .before .before .before .before .before .resolve-into .ensures .0))
+unfolding occurrences
+returns-2 c = rowed-filled _ _ _ _ (sym (c .before .before .before .before .before .before .before .before .before .before .before .before .before .test-rows .ensures) ∙ c .before .before .before .before .before .before .before .before .before .before .before .before .if1 .left) (c .before .before .before .before .before .before .before .before .before .before .resolve-into .ensures) (c .before .before .before .before .before .before .w .given .1) (listed-wrote _ _ (rows-table _ _ _ (sym (c .before .before .before .before .before .before .before .before .before .before .before .before .before .test-rows .ensures) ∙ c .before .before .before .before .before .before .before .before .before .before .before .before .if1 .left)) (c .before .before .before .before .before .before .before .before .before .before .resolve-into .ensures) (c .before .before .before .before .before .before .w .given .1) (c .before .before .write-rows .ensures))
 
 same-length-5 : tie.Need-same-length-5
 same-length-5 c = search needs
@@ -48,16 +48,8 @@ same-length-6 : tie.Need-same-length-6
 same-length-6 c = search needs
 
 returns-3 : tie.Need-returns-3
-returns-3 c = listed-twice _ _ _ (sym (c .before .before .before .before .before .before .before .before .test-rows .ensures) ∙ c .before .before .before .before .before .before .before .if1 .left) (clashed _ _ (sym (ap resolvedAnswer (c .before .name .given .1)) ∙ c .before .before .before .before .before .resolve-into .ensures .0) (c .before .before .before .before .before .resolve-into .ensures .1))
-
-same-length-7 : tie.Need-same-length-7
-same-length-7 c = search needs
-
-same-length-8 : tie.Need-same-length-8
-same-length-8 c = search needs
-
-returns-4 : tie.Need-returns-4
-returns-4 c = listed-rows _ _ _ (sym (c .before .before .before .before .before .before .before .before .before .before .before .before .before .test-rows .ensures) ∙ c .before .before .before .before .before .before .before .before .before .before .before .before .if1 .left) (given _ _ (sym (ap resolvedAnswer (c .before .before .before .before .before .before .symbols .given .1)) ∙ c .before .before .before .before .before .before .before .before .before .before .resolve-into .ensures .0) (c .before .before .before .before .before .before .before .before .before .before .resolve-into .ensures .1)) (c .before .before .write-rows .ensures .0) (c .before .before .write-rows .ensures .1)
+unfolding occurrences
+returns-3 c = rowed-stopped _ _ _ _ (sym (c .before .before .before .before .before .before .before .before .test-rows .ensures) ∙ c .before .before .before .before .before .before .before .if1 .left) (c .before .before .before .before .before .resolve-into .ensures) (c .before .name .given .1)
 
 pub occurrences-spec : {M : Type 1} → statement M
 occurrences-spec =
@@ -68,16 +60,12 @@ occurrences-spec =
     same-length-2
     returns
     resolve-into-requires
-    enum-known-number
-    enum-known-name
-    enum-known-symbols
+    enum-known-w
     write-rows-requires
+    enum-known-name
     same-length-3
     same-length-4
     returns-2
     same-length-5
     same-length-6
-    returns-3
-    same-length-7
-    same-length-8
-    returns-4)
+    returns-3)

@@ -1,7 +1,4 @@
-use mathlib.Core.Path.{_≡_}
-use Prim.Native.Nat.{_+_, _*_}
-use Rattle.ast.specs.Image.{nodes}
-use Rattle.occurrences.proofs.CollectCalls.{rows-written}
+use Rattle.rows.proofs.Appends.{wrote}
 use borrow.Author.Needs.{needs}
 use Rattle.occurrences.proofs.write_rows.Statement.{statement}
 use Rattle.occurrences.proofs.write_rows.Tie as tie
@@ -9,40 +6,28 @@ use Rattle.occurrences.proofs.write_rows.Tie as tie
 node-count-requires : tie.Need-node-count-requires
 node-count-requires c κs = search needs
 
-wide-requires : tie.Need-wide-requires
-wide-requires c κs = search needs
-
-mul-clear : tie.Need-mul-clear
-mul-clear c = search needs
-
-add-clear : tie.Need-add-clear
-add-clear c = search needs
-
-clear-requires : tie.Need-clear-requires
-clear-requires c κs = search needs
+begin-requires : tie.Need-begin-requires
+begin-requires c κs = search needs
 
 collect-module-requires : tie.Need-collect-module-requires
 collect-module-requires c κs = search needs
 
-put-requires : tie.Need-put-requires
-put-requires c κs = search needs
+finish-requires : tie.Need-finish-requires
+finish-requires c κs = search needs
 
 same-length : tie.Need-same-length
 same-length c = search needs
 
 returns : tie.Need-returns
-returns c = rows-written _ (c .before .before .before .before .before .before .before .before .before .before .before .before .before .before .before .before .before .pre .0 .few) (let z : 1 + 2 * c .before .before .before .before .before .before .before .before .before .before .before .wide .result ≡ 1 + 2 * nodes (c .before .before .before .before .before .before .before .before .before .before .before .before .before .before .before .before .before .args .image .now) = cc (c .before .before .before .before .before .before .before .before .before .before .before .wide .ensures, c .before .before .before .before .before .before .before .before .before .before .before .before .node-count .ensures) in z) (c .before .before .before .before .before .before .before .before .before .before .clear .ensures) (c .before .before .before .before .before .before .collect-module .ensures) (c .before .before .put .ensures)
+returns c = wrote (c .before .before .before .before .before .before .before .before .before .before .before .before .before .before .before .before .pre .0 .few) (c .before .before .before .before .before .before .before .before .before .before .before .node-count .ensures) (c .before .before .before .before .before .before .before .before .before .before .begin .ensures) (c .before .before .before .before .before .before .collect-module .ensures) (c .before .before .finish .ensures)
 
 pub write-rows-spec : {M : Type 1} → statement M
 write-rows-spec =
     tie.close
     (tie.spec
     node-count-requires
-    wide-requires
-    mul-clear
-    add-clear
-    clear-requires
+    begin-requires
     collect-module-requires
-    put-requires
+    finish-requires
     same-length
     returns)

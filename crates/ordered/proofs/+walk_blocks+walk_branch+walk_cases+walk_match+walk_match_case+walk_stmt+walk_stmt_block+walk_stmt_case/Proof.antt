@@ -6,7 +6,7 @@ use Rattle.ast.specs.Kinds.{kindOf}
 use Rattle.table.specs.State.{Exit, marked, back}
 use Rattle.table.specs.Values.{exitOf}
 use Rattle.ordered.specs.Walk.{occurs}
-use Rattle.ordered.specs.Walkers.{rest, ReadyRun}
+use Rattle.ordered.specs.Promises.{rest, ReadyRun}
 use Rattle.ordered.proofs.Atoms.{plain-wrapped, plain-last}
 use Rattle.ordered.proofs.Lists.{Left, rest-end, runItem}
 use Rattle.ordered.proofs.Steps.{plain-whole}

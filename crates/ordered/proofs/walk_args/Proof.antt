@@ -3,7 +3,7 @@ use mathlib.Core.Path.{refl, sym, ap, _∙_}
 use native.Mathlib.Omega.{arith}
 use Rattle.table.specs.Values.{exitOf}
 use Rattle.ordered.specs.Walk.{occurs}
-use Rattle.ordered.specs.Walkers.{rest}
+use Rattle.ordered.specs.Promises.{rest}
 use Rattle.ordered.proofs.Lists.{Left, rest-end, runItem}
 use Prim.Native.Nat.{_-_}
 use Rattle.ordered.proofs.walk_args.Statement.{statement}

@@ -1,5 +1,5 @@
 use mathlib.Core.Path.{sym, _∙_}
-use Rattle.scopes.proofs.Rooting.{resolved-refused}
+use Rattle.scopes.proofs.Rooting.{resolve-refused, resolve-twice, resolve-done}
 use borrow.Author.Needs.{needs}
 use Rattle.scopes.proofs.resolve_scopes.Statement.{statement}
 use Rattle.scopes.proofs.resolve_scopes.Tie as tie
@@ -11,16 +11,28 @@ same-length : tie.Need-same-length
 same-length c = search needs
 
 returns : tie.Need-returns
-returns c = resolved-refused _ _ _ (c .before .test-table .ensures) (c .if1 .taken)
+returns c = resolve-refused _ _ _ (c .before .test-table .ensures) (c .if1 .taken)
 
 resolve-into-requires : tie.Need-resolve-into-requires
 resolve-into-requires c κs = sym (c .before .before .test-table .ensures) ∙ c .before .if1 .left
+
+enum-known-w : tie.Need-enum-known-w
+enum-known-w c = search needs
+
+enum-known-name : tie.Need-enum-known-name
+enum-known-name c = search needs
 
 same-length-2 : tie.Need-same-length-2
 same-length-2 c = search needs
 
 returns-2 : tie.Need-returns-2
-returns-2 c = c .before .before .resolve-into .ensures
+returns-2 c = resolve-done _ _ (sym (c .before .before .before .before .before .before .before .before .test-table .ensures) ∙ c .before .before .before .before .before .before .before .if1 .left) (c .before .before .before .before .before .resolve-into .ensures) (c .before .w .given .1)
+
+same-length-3 : tie.Need-same-length-3
+same-length-3 c = search needs
+
+returns-3 : tie.Need-returns-3
+returns-3 c = resolve-twice _ _ (sym (c .before .before .before .before .before .before .before .before .test-table .ensures) ∙ c .before .before .before .before .before .before .before .if1 .left) (c .before .before .before .before .before .resolve-into .ensures) (c .before .name .given .1)
 
 pub resolve-scopes-spec : {M : Type 1} → statement M
 resolve-scopes-spec =
@@ -30,5 +42,9 @@ resolve-scopes-spec =
     same-length
     returns
     resolve-into-requires
+    enum-known-w
+    enum-known-name
     same-length-2
-    returns-2)
+    returns-2
+    same-length-3
+    returns-3)
