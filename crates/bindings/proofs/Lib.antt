@@ -9,5 +9,4 @@ pub mod Standing
 pub mod Reached
 pub mod Sentences
 pub mod Few
-pub mod Alike
 pub mod Calls

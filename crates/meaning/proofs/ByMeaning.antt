@@ -13,7 +13,6 @@ use Rattle.scopes.proofs.Resolving.{table-accepted}
 use Rattle.scopes.proofs.Single.{single-done}
 use Rattle.bindings.specs.Checks.{ofMode}
 use Rattle.bindings.specs.Errors.{errorRows, testErrors, errors}
-use Rattle.bindings.proofs.Alike.{errors-headed}
 use Rattle.bindings.proofs.Calls.{errors-table, errors-are}
 use Rattle.bindings.proofs.Few.{rows-few}
 use Rattle.sight.proofs.Demand.{list}
@@ -39,5 +38,5 @@ module _ (img tab rows : List ℕ) where
       let v = table-accepted img tab p in
       let d = single-done img tab p once in
       rowed-held img tab rows (λ t. errorRows img t mode) unrefused (d .1) (rows-few img v _ mode)
-      ∙ sym (errors-headed img (d .0 .table) mode) ∙ sym (errors-are img (d .0 .table) mode)
+      ∙ sym (errors-are img _ mode)
       ∙ ap (λ (k : List Row). k ++ ofMode img mode) (faults-by-meaning img tab (d .0) v (d .1))

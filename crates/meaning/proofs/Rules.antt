@@ -19,9 +19,10 @@ use Rattle.ordered.specs.Walk.{occurs, walkSeq}
 use Rattle.ordered.proofs.Agreed.{lookup-agree}
 use Rattle.ordered.proofs.Kept.{mark-kept, scope-kept, mark-word, scope-word}
 use Rattle.ordered.proofs.Moves.{numbersSeq}
-use Rattle.scopes.specs.Resolve.{zeroed, walked}
+use Rattle.scopes.specs.Resolve.{zeroed, walked, counted}
 use Rattle.scopes.specs.Walk.{done, enterAll, visitAll, resolveTree}
 use Rattle.scopes.proofs.Adds.{and-inv}
+use Rattle.scopes.proofs.Headed.{headed-lookup, headed-entry, headed-exit}
 use Rattle.scopes.proofs.Resolving.{none-kept, walk-ended, zeroed-long}
 use Rattle.ast.specs.Rules.{Rule, saysAll, rulesAll, moduleRules, orElse}
 use Rattle.sight.specs.Sight.{In}
@@ -208,7 +209,7 @@ module _ (img : List ℕ) (T : Table) where
 resolve-tells : (img : List ℕ) (n k : ℕ) (c : Class) (sh : List ℕ) (ts : Trees) (ws : List ℕ) (e : Exit)
     → resolveTree img (node n k c sh ts) (record { words = ws; scopes = 0; symbols = 0 }) ≡ done e → tableLength (nodes img) ≤ length ws → Bounds img (e .table)
     → Decls img ts → Small img (moduleNumbers n ts) → Distinct (moduleNumbers n ts)
-    → (r : Rule) → In r (rulesAll img (saysAll img ts) ts) → ToldSeq img (e .table) meaning.occurs (r .statements) (r .meaning)
+    → (r : Rule) → In r (rulesAll img (saysAll img ts) ts) → ToldSeq img (counted img (e .table)) meaning.occurs (r .statements) (r .meaning)
 unfolding resolveTree newScope marked
 resolve-tells img n k c sh ts ws e q size b d sm di =
     let t₀ : Table = record { words = ws; scopes = 0; symbols = 0 } in
@@ -224,7 +225,7 @@ resolve-tells img n k c sh ts ws e q size b d sm di =
     let p = stays img E in
     let p₀ = p .scope in
     let p₁ = p .scopes in
-    let z = visited img (e .table) (visitsAll img ts d D (h .0) e (h .2)) in
+    let z = visited img (counted img (e .table)) (visitsAll img ts d D (h .0) e (h .2)) in
     let z₀ = z .scopes≤ in
     let z₁ = z .symbols≤ in
     let en : Entered img 0 es D (mark img n 0 0 t₁) (h .0 .table) =
@@ -235,20 +236,28 @@ resolve-tells img n k c sh ts ws e q size b d sm di =
       sane = en .sane;
       inside = omega arith;
       reads = λ x.
-          ap (λ s. lookup img (e .table) s x) p₀
+          ap (λ s. lookup img (counted img (e .table)) s x) p₀
+          ∙ sym (headed-lookup img (e .table) 0 x)
           ∙ o .later .lookups 0 x (omega arith)
           ∙ lookup-root img (h .0 .table) 0 x (omega arith)
           ∙ en .here x
           ∙ ap (λ u. orElse u (D x)) (find-mark img n 0 0 t₁ n<N 0 x ∙ child-empty img allOnes t₀ so (omega arith) x);
-    }) (record { few = b; small = sn; distinct = distinct-right es ns (di .1); lookups = λ s x l. refl; entries = λ m i. refl; exits = λ m i. refl })
+    }) (record {
+      few = b;
+      small = sn;
+      distinct = distinct-right es ns (di .1);
+      lookups = λ s x l. sym (headed-lookup img (e .table) s x);
+      entries = λ m i. sym (headed-entry img (e .table) m);
+      exits = λ m i. sym (headed-exit img (e .table) m);
+    })
 
 pub rules-told : (img tab : List ℕ) (e : Exit) → verdict img ≡ 0 → walked img tab ≡ done e
-    → (r : Rule) → In r (moduleRules img) → ToldSeq img (e .table) meaning.occurs (r .statements) (r .meaning)
+    → (r : Rule) → In r (moduleRules img) → ToldSeq img (counted img (e .table)) meaning.occurs (r .statements) (r .meaning)
 unfolding walked
 rules-told img tab e accepted q =
     let f = root-of img accepted in
     let d = walk-ended img tab accepted e q in
-    subst (λ (rs : List Rule). (r : Rule) → In r rs → ToldSeq img (e .table) meaning.occurs (r .statements) (r .meaning)) (sym (rules-are img accepted))
+    subst (λ (rs : List Rule). (r : Rule) → In r rs → ToldSeq img (counted img (e .table)) meaning.occurs (r .statements) (r .meaning)) (sym (rules-are img accepted))
     (resolve-tells img (last img) (f .kind) (f .class) (f .shape) (f .lists) (zeroed img tab) e
     (ap (λ (u : Tree). resolveTree img u (record { words = zeroed img tab; scopes = 0; symbols = 0 })) (sym (f .is)) ∙ q)
     (zeroed-long img tab) (d .scopes, d .symbols) (f .decls) (module-small img accepted) (module-distinct img accepted))

@@ -42,7 +42,13 @@ fn test_sizes(image: &[u8], s: Sizes) -> u32
     if 8192 < s.bytes {
         return 2;
     }
-    if n == 16 + 8 * ast::wide(s.nodes) + 4 * ast::wide(s.operands) + 4 * ast::wide(s.names) + ast::wide(s.bytes) {
+    if n
+        == 16
+            + 8 * ast::wide(s.nodes)
+            + 4 * ast::wide(s.operands)
+            + 4 * ast::wide(s.names)
+            + ast::wide(s.bytes)
+    {
         return 0;
     }
     3
