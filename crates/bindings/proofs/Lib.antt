@@ -5,5 +5,4 @@ pub mod Epic
 pub mod Bodies
 pub mod Marking
 pub mod Bound
-pub mod Alike
 pub mod Calls

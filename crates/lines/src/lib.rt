@@ -150,9 +150,7 @@ fn put_errors(image: &[u8], out: &mut [u8], at: usize) -> usize
     match bindings::check_bindings(image, &mut table, &mut rows, 1) {
         Rowed::Refused(_) => at,
         Rowed::Twice(_, _, _) => at,
-        Rowed::Rows(count) => {
-            put_rows(out, at, b"error", &rows, ast::node_count(image), count)
-        }
+        Rowed::Rows(count) => { put_rows(out, at, b"error", &rows, ast::node_count(image), count) }
     }
 }
 

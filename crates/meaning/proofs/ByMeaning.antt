@@ -17,34 +17,20 @@ use Rattle.scopes.proofs.Calls.{rows-table, rowed-held}
 use Rattle.scopes.proofs.Resolving.{table-accepted, own-counts}
 use Rattle.scopes.proofs.Single.{single-done}
 use Rattle.bindings.specs.Errors.{errorRows, testErrors, errors}
-use Rattle.bindings.proofs.Alike.{errors-headed}
 use Rattle.bindings.proofs.Calls.{errors-table, errors-are}
-use Rattle.scopes.proofs.Headed.{headed-lookup, headed-entry, headed-exit}
 use Rattle.sight.specs.Sight.{In}
 use Rattle.sound.specs.Sound.{scopesIn, symbolsIn}
-use Rattle.table.specs.Table.{Table, lookup}
+use Rattle.table.specs.Table.{Table}
 use Rattle.bindings.specs.Promises.{ofMode}
 use Rattle.bindings.proofs.Bound.{rows-few}
 use Rattle.sight.proofs.Demand.{list}
 use Rattle.sight.proofs.Leaving.{list-is}
-use Rattle.meaning.specs.Meaning.{marksIn, faultsIn, Env}
+use Rattle.sight.proofs.Resolving.{tableOf}
+use Rattle.meaning.specs.Meaning.{marksIn, faultsIn}
 use Rattle.meaning.specs.Meetings.{Meeting, ruleMeetings}
-use Rattle.meaning.proofs.Told.{Around}
 use Rattle.meaning.proofs.Recorded.{Recorded, rules-recorded}
 use Rattle.meaning.proofs.Marks.{by-meaning}
 use Rattle.meaning.proofs.Faults.{faults-by-meaning}
-
--- the counts in front change nothing of what the table has of a node
-headed-around : (img : List ℕ) (t : Table) (n : ℕ) (env env′ : Env) → Around img t n env env′ → Around img (counted img t) n env env′
-headed-around img t n env env′ a =
-    record {
-      entry = λ x. sym (headed-lookup img t _ x) ∙ ap (λ s. lookup img t s x) (sym (headed-entry img t n)) ∙ a .entry x;
-      exit = λ x. sym (headed-lookup img t _ x) ∙ ap (λ s. lookup img t s x) (sym (headed-exit img t n)) ∙ a .exit x;
-    }
-
--- words as Lookup reads them
-abbrev read : List ℕ → List ℕ → Table
-read img ws = record { words = ws; scopes = scopesIn img ws; symbols = symbolsIn img ws }
 
 -- what Resolve leaves where the walk ends
 resolve-done : (img tab : List ℕ) → testTable img tab ≡ 0 → {e : Exit} → walked img tab ≡ done e
@@ -57,18 +43,18 @@ resolve-done img tab p {e} h =
 module _ (img tab rows : List ℕ) where
   -- in the table that Resolve leaves: at every node of a rule, lookup at its entry and at its exit
   pub recorded-by-meaning : testTable img tab ≡ 0 → declaredTwice img ≡ false → (r : Rule) → In r (moduleRules img)
-      → (w : Meeting) → In w (ruleMeetings (nameOf img) (kindAt img) r) → Recorded img (read img ((resolve img tab) .table)) w
+      → (w : Meeting) → In w (ruleMeetings (nameOf img) (kindAt img) r) → Recorded img (tableOf img ((resolve img tab) .table)) w
   recorded-by-meaning p once r i w j =
       let d = single-done img tab p once in
       let t = d .0 .table in
       let z = resolve-done img tab p (d .1) in
       let o = (ap (λ (o : Outcome). o .answer) z, ap (λ (o : Outcome). o .table) z) in
       let c = own-counts img tab (t .scopes) (t .symbols) (o .0) in
-      let same : counted img t ≡ read img ((resolve img tab) .table) =
+      let same : counted img t ≡ tableOf img ((resolve img tab) .table) =
       ap₂ (λ (ws : List ℕ) (k : ℕ). record { words = ws; scopes = k; symbols = t .symbols }) (sym (o .1)) (sym (c .0))
       ∙ ap (λ (y : ℕ). record { words = (resolve img tab) .table; scopes = scopesIn img ((resolve img tab) .table); symbols = y }) (sym (c .1)) in
       subst (λ (u : Table). Recorded img u w) same
-      (headed-around img t (w .node) (w .before) (w .after) (rules-recorded img tab (d .0) (table-accepted img tab p) (d .1) r i w j))
+      (rules-recorded img tab (d .0) (table-accepted img tab p) (d .1) r i w j)
 
   -- the list that Occurrences leaves
   pub list-by-meaning : testRows img tab rows ≡ 0 → declaredTwice img ≡ false → list img tab rows ≡ marksIn img
@@ -86,5 +72,5 @@ module _ (img tab rows : List ℕ) where
       let v = table-accepted img tab p in
       let d = single-done img tab p once in
       rowed-held img tab rows (λ t. errorRows img t mode) unrefused (d .1) (rows-few img v _ mode)
-      ∙ sym (errors-headed img (d .0 .table) mode) ∙ sym (errors-are img (d .0 .table) mode)
+      ∙ sym (errors-are img _ mode)
       ∙ ap (λ (k : List Row). k ++ ofMode img mode) (faults-by-meaning img tab (d .0) v (d .1))

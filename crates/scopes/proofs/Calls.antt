@@ -19,7 +19,7 @@ use Rattle.table.specs.declared.Walked.{Walked}
 use Rattle.rows.specs.Rows.{Row, rowsLength, written, Wrote, held}
 use Rattle.rows.proofs.Reading.{held-written}
 use Rattle.scopes.specs.Walk.{Listed, done, twice}
-use Rattle.scopes.specs.Resolve.{testTable, zeroed, walked, headed, counted, Way, refuses, stops, fills, wayOf, way, answerBy, tableBy, Outcome, tableCall}
+use Rattle.scopes.specs.Resolve.{testTable, zeroed, walked, headed, counted, Way, refuses, stops, fills, wayOf, way, answerBy, tableBy, tableCall}
 use Rattle.scopes.specs.Calls.{testRows, RowsOutcome, rowsBy, rowsCall}
 use Rattle.scopes.specs.Answers.{declaredWay, Resolves}
 use Rattle.scopes.specs.declared.Declared.{Declared}

@@ -1,5 +1,5 @@
 -- What Occurrences leaves where it refuses nothing and no name is declared twice: the resolver's table, and the list.
-use mathlib.Core.Path.{_≡_, refl, sym, _∙_, ap, ap₂, subst, fun-ext}
+use mathlib.Core.Path.{_≡_, sym, _∙_, ap, ap₂, subst, fun-ext}
 use mathlib.Core.Logic.{_⊎_, inl, inr, _↔_}
 use mathlib.Core.List.{List}
 use mathlib.Core.Option.{Option, some}
@@ -14,12 +14,10 @@ use Rattle.scopes.specs.Resolve.{walked, headed, counted}
 use Rattle.scopes.specs.Calls.{testRows, RowsOutcome}
 use Rattle.scopes.specs.Walk.{done}
 use Rattle.table.specs.State.{Exit}
-use Rattle.table.specs.Table.{lookup, isKind, exitAt}
+use Rattle.table.specs.Table.{Table, lookup, isKind, exitAt}
 use Rattle.scopes.proofs.Calls.{rows-table, rowed-done, rowed-held, rowed-count}
-use Rattle.scopes.proofs.Headed.{headed-exit}
 use Rattle.scopes.proofs.Resolving.{table-accepted}
 use Rattle.occurrences.specs.Occurrences.{occurrenceRows, occurrences}
-use Rattle.occurrences.proofs.CollectCalls.{rows-headed}
 use Rattle.occurrences.proofs.Few.{rows-few}
 use Rattle.sight.specs.Sight.{Sort, ordinary, declared, applied, defined, Place, In, outerConst, Same}
 use Rattle.ast.specs.Rules.{Rule, moduleRules}
@@ -34,12 +32,15 @@ module _ (img tab rows : List ℕ) (accepted : testRows img tab rows ≡ 0) (e :
   pub image-accepted : verdict img ≡ 0
   image-accepted = table-accepted img tab (rows-table img tab rows accepted)
 
-  abbrev found-rows : List Row
-  found-rows = occurrenceRows img (e .table)
+  -- the table that the call fills, and its rows: no more than nodes, so that no row is dropped
+  abbrev filled : Table
+  filled = counted img (e .table)
 
-  -- no more rows than nodes: no row is dropped
-  rows-fit : length (occurrenceRows img (counted img (e .table))) ≤ nodes img
-  rows-fit = rows-few img (counted img (e .table)) image-accepted
+  abbrev found-rows : List Row
+  found-rows = occurrenceRows img filled
+
+  rows-fit : length found-rows ≤ nodes img
+  rows-fit = rows-few img filled image-accepted
 
   -- what the call leaves, the rows that it has written, and what lookup gives in its table at the exit of a place's node
   abbrev left : RowsOutcome
@@ -51,25 +52,24 @@ module _ (img tab rows : List ℕ) (accepted : testRows img tab rows ≡ 0) (e :
   abbrev binding : Place → Option ℕ
   binding p = lookup img (tableOf img (left .table)) (exitAt img (left .table) (p .node)) (nameOf img (p .ident))
 
-  walks : (r : Rule) → In r (moduleRules img) → WalkOf img r (e .table)
+  walks : (r : Rule) → In r (moduleRules img) → WalkOf img r filled
   walks = (resolved img tab e image-accepted single) .walks
 
   pub list-is : list ≡ found-rows
   unfolding occurrences
-  list-is = rowed-held img tab rows (occurrenceRows img) accepted single rows-fit ∙ sym (rows-headed img (e .table))
+  list-is = rowed-held img tab rows (occurrenceRows img) accepted single rows-fit
 
   table-is : left .table ≡ headed img (e .table)
   unfolding occurrences
   table-is = ap (λ (o : RowsOutcome). o .table) (rowed-done img tab rows (occurrenceRows img) accepted single)
 
-  pub binding-is : (p : Place) → binding p ≡ bindingOf img (e .table) p
+  pub binding-is : (p : Place) → binding p ≡ bindingOf img filled p
   binding-is p =
       ap (λ (ws : List ℕ). lookup img (tableOf img ws) (exitAt img ws (p .node)) (nameOf img (p .ident))) table-is
       ∙ left-lookup img tab e image-accepted single (exitAt img (headed img (e .table)) (p .node)) (nameOf img (p .ident))
-      ∙ ap (λ s. lookup img (e .table) s (nameOf img (p .ident))) (sym (headed-exit img (e .table) (p .node)))
 
   pub list-few : length list ≤ nodes img
-  list-few = subst (λ (l : List Row). length l ≤ nodes img) (sym list-is) (rows-few img (e .table) image-accepted)
+  list-few = subst (λ (l : List Row). length l ≤ nodes img) (sym list-is) rows-fit
 
   pub answered : left .answer ≡ result 0 (length list)
   unfolding occurrences
@@ -78,10 +78,10 @@ module _ (img tab rows : List ℕ) (accepted : testRows img tab rows ≡ 0) (e :
   pub lists-all : AllRows img binding (moduleRules img) list
   lists-all =
       subst (λ (f : Place → Option ℕ). AllRows img f (moduleRules img) list) (sym (fun-ext binding-is))
-      (subst (λ (l : List Row). AllRows img (bindingOf img (e .table)) (moduleRules img) l) (sym list-is) (rows-list img (e .table) image-accepted walks))
+      (subst (λ (l : List Row). AllRows img (bindingOf img filled) (moduleRules img) l) (sym list-is) (rows-list img filled image-accepted walks))
 
   pub lists-once : Distinct (lefts list)
-  lists-once = subst (λ (l : List Row). Distinct (lefts l)) (sym list-is) (rows-distinct img (e .table) image-accepted walks)
+  lists-once = subst (λ (l : List Row). Distinct (lefts l)) (sym list-is) (rows-distinct img filled image-accepted walks)
 
   -- which rows are in the list
   pub row-of : (w : Row) → In w list ↔ ((r : Rule) × In r (moduleRules img) × ((p : Place) × In p (placesOf r) × RowAt img binding r p w))
@@ -115,8 +115,8 @@ module _ (img tab rows : List ℕ) (accepted : testRows img tab rows ≡ 0) (e :
       let b = listed-binding r i q k u v y n in
       let c = binding-is p in
       let d = binding-is q in
-      let s = equal-is-same img (e .table) r (walks r i) p q j k o in (
-        (λ h. let g : bindingOf img (e .table) p ≡ bindingOf img (e .table) q = cc in s .0 g),
+      let s = equal-is-same img filled r (walks r i) p q j k o in (
+        (λ h. let g : bindingOf img filled p ≡ bindingOf img filled q = cc in s .0 g),
         (λ h. let g = s .1 h in cc),
       )
 
@@ -135,7 +135,7 @@ module _ (img tab rows : List ℕ) (accepted : testRows img tab rows ≡ 0) (e :
           → ((kindAt img (w .left) ≡ 12) ⊎ (kindAt img (w .left) ≡ 15)) × (kindAt img (w .right) ≡ 13)
       go (r, j, (p, k, (o, l, b))) =
           let m = ordered img (r .statements) ((walks r j) .1 .body) in
-          let v = (var-is-occurrence img (e .table) r (walks r j) p k) .1 o in (
+          let v = (var-is-occurrence img filled r (walks r j) p k) .1 o in (
             owner-kinds (p .sort) (kindAt img (w .left)) (ap (kindAt img) l ∙ m .kinds p (m .all p k)),
             eqb-true (kindAt img (w .right)) 13 (ap (isKind img 13) (sym b ∙ binding-is p) ∙ v),
           )

@@ -7,8 +7,7 @@ use mathlib.Core.Option.{Option, none as nothing, some}
 use Prim.Native.Nat.{ℕ, _+_, _≤_}
 use native.Mathlib.Omega.{arith}
 use lib.Dec.{eqb}
-use lib.ListN.{length}
-use Rattle.ast.specs.Image.{nodes, kindAt}
+use Rattle.ast.specs.Image.{kindAt}
 use Rattle.ast.specs.Tests.{is, times, verdict}
 use Rattle.rows.specs.Rows.{Row, row, lefts}
 use Rattle.table.specs.Table.{Table, isKind}
