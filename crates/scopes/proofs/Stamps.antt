@@ -99,7 +99,7 @@ module _ (img : List ℕ) where
       record { stamped = λ j k q. subst Stamp (sym (same .nodes j k)) (λ m. h .stamped j k (sym (same .scopes j k) ∙ q) m) }
     where
       same : SameRows (nodes img) (e .table .symbols) ((mark img n cur (e .scope) (e .table)) .words) (e .table .words)
-      same = mark-same n cur (e .scope) (e .table) l
+      same = mark-same img n cur (e .scope) (e .table) l
 
       Stamp : ℕ → Type 0
       Stamp m = nameOf img m < length seen → getD seen (nameOf img m) 0 ≡ suc (e .scope)
