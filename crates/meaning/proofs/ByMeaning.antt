@@ -48,10 +48,10 @@ module _ (img tab rows : List ℕ) where
       let d = single-done img tab p once in
       let t = d .0 .table in
       let z = resolve-done img tab p (d .1) in
-      let o = (ap (λ (o : Outcome). o .answer) z, ap (λ (o : Outcome). o .table) z) in
-      let c = own-counts img tab (t .scopes) (t .symbols) (o .0) in
+      let words = ap (λ (o : Outcome). o .table) z in
+      let c = own-counts img tab (t .scopes) (t .symbols) (ap (λ (o : Outcome). o .answer) z) in
       let same : counted img t ≡ tableOf img ((resolve img tab) .table) =
-      ap₂ (λ (ws : List ℕ) (k : ℕ). record { words = ws; scopes = k; symbols = t .symbols }) (sym (o .1)) (sym (c .0))
+      ap₂ (λ (ws : List ℕ) (k : ℕ). record { words = ws; scopes = k; symbols = t .symbols }) (sym words) (sym (c .0))
       ∙ ap (λ (y : ℕ). record { words = (resolve img tab) .table; scopes = scopesIn img ((resolve img tab) .table); symbols = y }) (sym (c .1)) in
       subst (λ (u : Table). Recorded img u w) same
       (rules-recorded img tab (d .0) (table-accepted img tab p) (d .1) r i w j)
