@@ -53,18 +53,32 @@ extern "C" {
 /* The length of the longest image. */
 #define EQLOG_MAX_IMAGE_BYTES (16 + 8 * EQLOG_MAX_NODES + 4 * EQLOG_MAX_OPERANDS + 4 * EQLOG_MAX_NAMES + EQLOG_MAX_NAME_BYTES)
 
+/* The counts in front of a table: N, K and Y; and how many they are. */
+enum eqlog_count { EQLOG_NODES, EQLOG_SCOPES, EQLOG_SYMBOLS, EQLOG_COUNTS };
+
+/* The arrays after them, in their order; and how many they are. */
+enum eqlog_array {
+    EQLOG_ENTRIES,
+    EQLOG_EXITS,
+    EQLOG_PARENTS,
+    EQLOG_SYMBOL_SCOPES,
+    EQLOG_SYMBOL_NODES,
+    EQLOG_ARRAYS
+};
+
+/* The place of word i of an array, in a table for an image of n nodes; and the places by name. */
+#define EQLOG_PLACE(array, n, i) ((size_t)EQLOG_COUNTS + (size_t)(array) * (size_t)(n) + (size_t)(i))
+#define EQLOG_ENTRY(n, node) EQLOG_PLACE(EQLOG_ENTRIES, n, node)
+#define EQLOG_EXIT(n, node) EQLOG_PLACE(EQLOG_EXITS, n, node)
+#define EQLOG_PARENT(n, scope) EQLOG_PLACE(EQLOG_PARENTS, n, scope)
+#define EQLOG_SYMBOL_SCOPE(n, i) EQLOG_PLACE(EQLOG_SYMBOL_SCOPES, n, i)
+#define EQLOG_SYMBOL_NODE(n, i) EQLOG_PLACE(EQLOG_SYMBOL_NODES, n, i)
+
 /* The words of a table, and of rows, for an image of n nodes. */
-#define EQLOG_TABLE_WORDS(n) (3 + 5 * (size_t)(n))
+#define EQLOG_TABLE_WORDS(n) EQLOG_PLACE(EQLOG_ARRAYS, n, 0)
 #define EQLOG_ROWS_WORDS(n) (1 + 2 * (size_t)(n))
 #define EQLOG_MAX_TABLE_WORDS EQLOG_TABLE_WORDS(EQLOG_MAX_NODES)
 #define EQLOG_MAX_ROWS_WORDS EQLOG_ROWS_WORDS(EQLOG_MAX_NODES)
-
-/* Places in a table for an image of n nodes. */
-#define EQLOG_ENTRY(n, node) (3 + (size_t)(node))
-#define EQLOG_EXIT(n, node) (3 + (size_t)(n) + (size_t)(node))
-#define EQLOG_PARENT(n, scope) (3 + 2 * (size_t)(n) + (size_t)(scope))
-#define EQLOG_SYMBOL_SCOPE(n, i) (3 + 3 * (size_t)(n) + (size_t)(i))
-#define EQLOG_SYMBOL_NODE(n, i) (3 + 4 * (size_t)(n) + (size_t)(i))
 
 /* Places in rows for an image of n nodes: word 0 is the count. */
 #define EQLOG_ROW_LEFT(n, i) (1 + (size_t)(i))

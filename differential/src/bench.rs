@@ -10,6 +10,7 @@ use differential::image::{Sketch, Word};
 use differential::inputs::{deep, pad, Deep};
 use differential::make::{Make, Style};
 use differential::random::Random;
+use differential::reading::layout::{rows_words, table_words};
 use differential::reading::tests::{sizes, verdict};
 use original::Built;
 use Word::{Child, MaybeName, Name, Plain};
@@ -273,8 +274,8 @@ struct Line {
 fn time(name: &str, image: &[u8], subject: &dyn Calls) -> Line {
     let n = sizes(image).n;
     let built = Built::new(image).expect("the original sources");
-    let mut table = vec![0u32; 3 + 5 * n];
-    let mut rows = vec![0u32; 1 + 2 * n];
+    let mut table = vec![0u32; table_words(n)];
+    let mut rows = vec![0u32; rows_words(n)];
     let mut rust = vec![Vec::new(); 4];
     let mut here = vec![Vec::new(); 4];
     let mut sum = 0usize;

@@ -6,6 +6,7 @@ use original::{Answers, Built};
 use crate::calls::{Answer, Calls};
 use crate::counts::Counts;
 use crate::random::Random;
+use crate::reading::layout::{place, rows_words, table_words, Array, COUNTS};
 use crate::reading::tests::{fields, name_span, sizes, verdict, Field};
 use crate::reading::walk::Rows;
 use crate::reading::{sight, Reading};
@@ -77,8 +78,8 @@ impl Compare<'_> {
         counts.see("images");
         let refused = verdict(image);
         let n = if refused.is_none() { sizes(image).n } else { r.below(40) };
-        let table_len = length(r, 3 + 5 * n, counts);
-        let rows_len = length(r, 1 + 2 * n, counts);
+        let table_len = length(r, table_words(n), counts);
+        let rows_len = length(r, rows_words(n), counts);
         let none = Answer::Refused(0);
         let start = Done { answer: none, table: lent(r, table_len), rows: lent(r, rows_len) };
 
@@ -151,7 +152,7 @@ impl Compare<'_> {
                 other_table(&mut table, image, n, k as usize, y as usize, r);
             }
             if r.one_in(20) {
-                table.truncate(r.below(3 + 5 * n));
+                table.truncate(r.below(table_words(n)));
             }
             let scope = if r.one_in(5) { r.word() as u32 } else { r.below(k as usize) as u32 };
             if let Answer::Result(..) | Answer::Other(..) = self.lookup(image, &table, scope, &name, counts)? {
@@ -174,8 +175,8 @@ impl Compare<'_> {
         counts.most("C", sizes(image).c as u64);
         counts.most("S", sizes(image).s as u64);
         counts.most("B", sizes(image).b as u64);
-        let mut table = lent(r, 3 + 5 * n);
-        let mut errors = lent(r, 1 + 2 * n);
+        let mut table = lent(r, table_words(n));
+        let mut errors = lent(r, rows_words(n));
         let mut list = errors.clone();
         let mut spare = table.clone();
         let answer = self.subject.resolve(image, &mut table);
@@ -189,7 +190,7 @@ impl Compare<'_> {
                 sight::check(image, &list)?;
                 counts.see("compared with sight");
             }
-            let mut strict = lent(r, 1 + 2 * n);
+            let mut strict = lent(r, rows_words(n));
             let strict_answer = self.subject.errors(image, &mut spare, &mut strict, 2);
             for (number, _) in pairs(&strict, n, strict_answer) {
                 counts.see(&format!("error rows {number}"));
@@ -228,29 +229,30 @@ impl Compare<'_> {
                     .and(same("errors", error_answer, twice))
                     .and(same("once", once, twice))
                     .and(same("occurrences", list_answer, twice))
-                    .and(same("table after twice", table, vec![0; 3 + 5 * n]));
+                    .and(same("table after twice", table, vec![0; table_words(n)]));
             }
             Answers::Resolved(wanted) => wanted,
         };
         let k = wanted.scopes.len();
         let y: usize = wanted.scopes.iter().map(|s| s.1.len()).sum();
         same("resolve", answer, Answer::Result(k as u32, y as u32))?;
-        same("first words", &table[..3], &[n as u32, k as u32, y as u32])?;
+        same("first words", &table[..COUNTS], &[n as u32, k as u32, y as u32])?;
+        let word = |array: Array, i: usize| table[place(array, n, i)];
         for (node, at) in wanted.places.iter().enumerate() {
             let at = at.unwrap_or((u32::MAX, u32::MAX));
-            if (table[3 + node], table[3 + n + node]) != at {
-                let got = (table[3 + node], table[3 + n + node]);
+            let got = (word(Array::Entry, node), word(Array::Exit, node));
+            if got != at {
                 return Err(format!("entry and exit of node {node}: {got:?}, the original says {at:?}"));
             }
         }
         let mut symbols: Vec<Vec<(u32, u32, u32)>> = vec![Vec::new(); k];
         for j in 0..y {
-            let (scope, node) = (table[3 + 3 * n + j], table[3 + 4 * n + j]);
+            let (scope, node) = (word(Array::SymbolScope, j), word(Array::SymbolNode, j));
             let name = rows.name(node).expect("a named node");
             symbols[scope as usize].push((name, crate::reading::walk::symbol_number(rows.kind(node)), node));
         }
         for (scope, (parent, wanted)) in wanted.scopes.iter().enumerate() {
-            same(&format!("parent of {scope}"), table[3 + 2 * n + scope], parent.unwrap_or(u32::MAX))?;
+            same(&format!("parent of {scope}"), word(Array::Parent, scope), parent.unwrap_or(u32::MAX))?;
             symbols[scope].sort_unstable();
             same(&format!("symbols of {scope}"), &symbols[scope], wanted)?;
         }
@@ -285,14 +287,15 @@ fn pairs(rows: &[u32], n: usize, answer: Answer) -> Vec<(u32, u32)> {
 fn depth(table: &[u32], n: usize, k: usize) -> u64 {
     let mut depths = vec![0u64; k];
     for scope in 1..k {
-        depths[scope] = depths[table[3 + 2 * n + scope] as usize] + 1;
+        depths[scope] = depths[table[place(Array::Parent, n, scope)] as usize] + 1;
     }
     depths.into_iter().max().unwrap_or(0)
 }
 
 /// Changes a table: some changes leave it sound, others do not.
 fn other_table(table: &mut [u32], image: &[u8], n: usize, k: usize, y: usize, r: &mut Random) {
-    let (parents, scopes, nodes) = (3 + 2 * n, 3 + 3 * n, 3 + 4 * n);
+    let start = |array: Array| place(array, n, 0);
+    let (parents, scopes, nodes) = (start(Array::Parent), start(Array::SymbolScope), start(Array::SymbolNode));
     let named = |r: &mut Random| -> u32 {
         let rows = Rows::new(image);
         let all: Vec<u32> =

@@ -58,14 +58,15 @@ fn write_records(mut args: impl Iterator<Item = String>) -> bool {
 fn deepest() {
     use differential::inputs::{deep, DEEP};
     use differential::random::Random;
+    use differential::reading::layout::{rows_words, table_words};
     let mut r = Random::new(SEED, 0);
     for form in DEEP {
         let s = deep(form, 2048, &mut r);
         let image = s.parts(&s.natural()).encode();
         let calls = move || {
             let (subject, _) = subject();
-            let mut table = vec![0; 3 + 5 * 2048];
-            let mut rows = vec![0; 1 + 2 * 2048];
+            let mut table = vec![0; table_words(2048)];
+            let mut rows = vec![0; rows_words(2048)];
             subject.resolve(&image, &mut table);
             subject.lookup(&image, &table, 0, b"x");
             subject.errors(&image, &mut table, &mut rows, 2);

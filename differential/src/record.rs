@@ -11,6 +11,7 @@ use crate::compare::Compare;
 use crate::counts::Counts;
 use crate::inputs::input;
 use crate::random::Random;
+use crate::reading::layout::{rows_words, table_words};
 use crate::reading::tests::{sizes, verdict};
 use crate::reading::Reading;
 
@@ -29,8 +30,8 @@ fn record(image: &[u8], r: &mut Random) -> Vec<u8> {
     let n = if verdict(image).is_none() { sizes(image).n } else { r.below(8) };
     let spare = if r.one_in(4) { 3 } else { 0 };
     let short = r.below(60);
-    let table_len = 3 + 5 * n - (short == 0) as usize + spare;
-    let rows_len = 1 + 2 * n - (short == 1) as usize + spare;
+    let table_len = table_words(n) - (short == 0) as usize + spare;
+    let rows_len = rows_words(n) - (short == 1) as usize + spare;
     let mode = if r.one_in(20) { 3 } else { r.below(3) as u32 };
     let mut table = vec![7; table_len];
     let resolved = Reading.resolve(image, &mut table);

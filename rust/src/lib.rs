@@ -17,9 +17,36 @@ pub const MAX_OPERANDS: usize = 8192;
 pub const MAX_NAMES: usize = 1024;
 pub const MAX_NAME_BYTES: usize = 8192;
 
+/// The counts in front of a table: N nodes, K scopes, Y symbols.
+pub const COUNTS: usize = 3;
+
+/// The arrays of a table after its counts, in their order: N words each.
+#[derive(Copy, Clone, Debug, PartialEq, Eq, Hash)]
+#[repr(usize)]
+pub enum Array {
+    /// The entry scope of each node.
+    Entry,
+    /// The exit scope of each node.
+    Exit,
+    /// The parent of each scope.
+    Parent,
+    /// The scope of each symbol.
+    SymbolScope,
+    /// The node of each symbol.
+    SymbolNode,
+}
+
+/// How many arrays a table has.
+pub const ARRAYS: usize = Array::SymbolNode as usize + 1;
+
+/// The place of a word of an array, in a table for an image of so many nodes.
+pub const fn place(array: Array, nodes: usize, i: usize) -> usize {
+    COUNTS + array as usize * nodes + i
+}
+
 /// The words that a table needs for an image of so many nodes.
 pub const fn table_len(nodes: usize) -> usize {
-    3 + 5 * nodes
+    COUNTS + ARRAYS * nodes
 }
 
 /// The words that error rows or occurrences need for an image of so many nodes.

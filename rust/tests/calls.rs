@@ -81,8 +81,10 @@ fn resolve_fills_the_table() {
     assert_eq!(resolve(&case_a(), &mut table), Resolve::Done { scopes: 2, symbols: 1 });
     assert_eq!(table[..3], [11, 2, 1]);
     // x is introduced by the first term: its entry is the module's scope, its exit the new one
-    assert_eq!((table[3], table[3 + 11]), (0, 1));
-    assert_eq!(table[3 + 22], NO_SCOPE);
+    let at = |array, i| table[place(array, 11, i)];
+    assert_eq!((at(Array::Entry, 0), at(Array::Exit, 0)), (0, 1));
+    assert_eq!((at(Array::Parent, 0), at(Array::Parent, 1)), (NO_SCOPE, 0));
+    assert_eq!((at(Array::SymbolScope, 0), at(Array::SymbolNode, 0)), (1, 0));
 }
 
 #[test]

@@ -10,7 +10,7 @@ use Rattle.ast.specs.Image.{nodes, operands, names, last, kindAt, startA
 use Rattle.ast.specs.Kinds.{Field, name, optName}
 use Rattle.ast.specs.Rows.{numbers, fieldsAt, rowEnd, kids, kidsTo, shape}
 use Rattle.ast.specs.Tests.{times, endBefore, verdict}
-use Rattle.ast.specs.Tree.{node, ordered, grow, classAt, treeAt}
+use Rattle.ast.specs.Tree.{node, ordered, grow, classAt, treeAt, size}
 use Rattle.ast.proofs.Accepted.{Sized, sized, named, name-in, formed, last-below}
 use Rattle.ast.proofs.Count.{nodesOf}
 use Rattle.ast.proofs.Count as count
@@ -101,8 +101,8 @@ module _ (img : List ℕ) (accepted : verdict img ≡ 0) where
   pub nothing-else : (v : ℕ) → nodes img ≤ v → times v (nodesOf (treeAt img (last img))) ≡ 0
   nothing-else = count.nothing-else img accepted
 
-  pub size : length (nodesOf (treeAt img (last img))) ≡ nodes img
-  size = count.size img accepted
+  pub tree-size : size (treeAt img (last img)) ≡ nodes img
+  tree-size = count.tree-size img accepted
 
   -- an if-var's term and a defined-then's variable are of case Ident or Wildcard: at each node, and everywhere in the tree
   pub var-at : (n : ℕ) → n < nodes img → PlainAt (treeAt img n)

@@ -13,7 +13,7 @@ use Rattle.ast.specs.Image.{nodes, opAt, operands, names, bytes, nameSta
 use Rattle.ast.specs.Kinds.{Field, name, optName, child, optChild, list, lists, cases, noChild}
 use Rattle.ast.specs.Rows.{after, afterBlocks, afterFields, rowEnd}
 use Rattle.ast.specs.Tests.{_▸_, need, run, same, inRow, isChild, childWord, testBlocks, testField, testFields, testNode, testTree, testSizes, testEnds, testTwice, testNames, verdict}
-use Rattle.ast.specs.Names.{Rises}
+use Rattle.ast.specs.Promises.{Rises}
 use Rattle.ast.proofs.Formed.{Child, Items, FormedBlocks, FormedField, FormedFields, FormedNode, Formed}
 
 pub both : (a b : ℕ) → a ▸ b ≡ 0 → (a ≡ 0) × (b ≡ 0)

@@ -8,12 +8,12 @@ use native.Mathlib.Nat.{zero-add}
 use native.Mathlib.Omega.{arith}
 use native.Mathlib.Decide.{decLt}
 use lib.Dec.{T, eqb, eqb→eq, eqb-refl}
-use lib.ListN.{length}
+use lib.ListN.{length, length-append}
 use Rattle.ast.specs.Image.{nodes, last}
 use Rattle.ast.specs.Kinds.{Class}
 use Rattle.ast.specs.Rows.{Kid, one, many, numbers, kids, kidsTo}
 use Rattle.ast.specs.Tests.{is, times, testParents, testTree, verdict}
-use Rattle.ast.specs.Tree.{Tree, node, block, Trees, none, _◂_, swap, swaps, ordered, growAll, grow, classAt, treeAt}
+use Rattle.ast.specs.Tree.{Tree, node, block, Trees, none, _◂_, swap, swaps, ordered, growAll, grow, classAt, treeAt, size, sizes}
 use Rattle.ast.proofs.Accepted.{both, needed, ran, passed, sized, formed}
 use Rattle.ast.proofs.Formed.{Formed}
 use Rattle.ast.proofs.Unfold.{All, nil, cons, All-append, All-map, kids-below, treeAt-is}
@@ -27,6 +27,18 @@ unfoldable mutual
   pub nodesAll : Trees → List ℕ
   nodesAll none = []
   nodesAll (t ◂ ts) = nodesOf t ++ nodesAll ts
+
+-- as many as the tree has
+mutual
+  unfolding size nodesOf
+
+  size-nodes : (u : Tree) → size u ≡ length (nodesOf u)
+  size-nodes (node n k c sh ts) = ap suc (sizes-nodes ts)
+  size-nodes (block ts) = sizes-nodes ts
+
+  sizes-nodes : (us : Trees) → sizes us ≡ length (nodesAll us)
+  sizes-nodes none = refl
+  sizes-nodes (t ◂ ts) = let a = size-nodes t in let b = sizes-nodes ts in let c = length-append (nodesOf t) (nodesAll ts) in omega arith
 
 -- sums over a list, and over the numbers below m
 unfoldable pub sumOf : (ℕ → ℕ) → List ℕ → ℕ
@@ -213,5 +225,5 @@ module _ (img : List ℕ) (e : verdict img ≡ 0) where
   pub nothing-else : (v : ℕ) → nodes img ≤ v → times v (nodesOf (treeAt img (last img))) ≡ 0
   nothing-else v l = times-sum v _ ∙ whole (is v) ∙ sumTo-none (is v) (nodes img) (λ c h. is-other v c (omega arith))
 
-  pub size : length (nodesOf (treeAt img (last img))) ≡ nodes img
-  size = length-sum _ ∙ whole (λ c. 1) ∙ sumTo-ones (nodes img)
+  pub tree-size : size (treeAt img (last img)) ≡ nodes img
+  tree-size = size-nodes _ ∙ length-sum _ ∙ whole (λ c. 1) ∙ sumTo-ones (nodes img)

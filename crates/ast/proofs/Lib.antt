@@ -3,6 +3,7 @@ pub mod Accepted
 pub mod Unfold
 pub mod Row
 pub mod Shapes
+pub mod Blocks
 pub mod Small
 pub mod Count
 pub mod Vars
@@ -10,9 +11,8 @@ pub mod RowNames
 pub mod Acceptance
 pub mod Words
 pub mod Scans
-pub mod Fields
-pub mod Parts
 pub mod Runs
-pub mod Whole
-pub mod Names
 pub mod Kids
+pub mod ByKind
+pub mod Declarations
+pub mod Bools

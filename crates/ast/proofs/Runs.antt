@@ -9,7 +9,7 @@ use lib.ListN.{length, getD, set, replicate, length-set, length-replicate, getD-
 use lib.Seq.{getD-set-same, getD-set-other}
 use borrow.Author.Tests.{eq-eqb, ne-eqb}
 use native.Mathlib.Decide.{decLt}
-use Rattle.ast.specs.Scan.{bump, claimAll}
+use Rattle.ast.specs.Promises.{bump, claimAll}
 use Rattle.ast.specs.Tests.{need, run, is, times}
 use Rattle.ast.proofs.Accepted.{skip, stop}
 use Rattle.ast.proofs.Count.{is-same, is-other}

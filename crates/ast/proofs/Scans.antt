@@ -6,7 +6,7 @@ use Prim.Native.Nat.{ℕ, zero, suc, _≤_}
 use native.Mathlib.Omega.{arith}
 use lib.ListN.{getD, set}
 use Rattle.ast.specs.Tests.{_▸_, need}
-use Rattle.ast.specs.Scan.{code, Step, bump, claimAll}
+use Rattle.ast.specs.Promises.{code, Step, bump, claimAll}
 
 pub need-in : (r : ℕ) (b : Bool) → b ≡ true → need r b ≡ 0
 unfolding need

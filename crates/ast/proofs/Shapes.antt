@@ -1,20 +1,20 @@
 -- Laws of rows by their shape, for whoever goes down a tree: the row of a node of a known kind, its tree over those of its
--- children, a case of an enum, the items of a list.
-use mathlib.Core.Path.{_≡_, ap, subst, _∙_}
+-- children, a case of an enum, the items of a list, a run of children.
+use mathlib.Core.Path.{_≡_, sym, ap, subst, _∙_}
 use mathlib.Core.Bool.{true, false}
 use mathlib.Core.List.{List, [], _∷_}
-use Prim.Native.Nat.{ℕ, suc, _+_, _-_, _<_}
+use Prim.Native.Nat.{ℕ, suc, _+_, _-_, _<_, _≤_}
 use native.Mathlib.Omega.{arith}
 use native.Mathlib.Nat.{add-assoc}
 use borrow.Author.Tests.{eqb-false}
 use lib.Dec.{eqb}
 use lib.ListN.{length, getD}
 use Rattle.ast.specs.Image.{field}
-use Rattle.ast.specs.Kinds.{Class, cases, noChild, Kind, kindOf}
+use Rattle.ast.specs.Kinds.{Class, Field, list, cases, noChild, Kind, kindOf}
 use Rattle.ast.specs.Tree.{Trees, none, _◂_, ordered, treeAt}
 use Rattle.ast.specs.Items.{items, below}
-use Rattle.ast.specs.Is.{Is, kindBy}
-use Rattle.ast.proofs.Row.{append-none, Child, FormedFields, FormedRow, nodeOf, tree-is, row-formed}
+use Rattle.ast.specs.Is.{Is, Run, kindBy}
+use Rattle.ast.proofs.Row.{append-none, Child, Items, FormedFields, FormedRow, next, ends, nodeOf, tree-is, row-formed}
 
 -- the kinds of the children of a term's cases, and of an app head's
 abbrev pub termKinds : List ℕ
@@ -66,6 +66,28 @@ module _ (img : List ℕ) where
   items-more n j count i h =
       ap (λ (c : ℕ). items img n c (j + i)) (one-more h)
       ∙ ap (λ (x : ℕ). treeAt img (field img n (j + i)) ◂ items img n (count - (i + 1)) x) (add-assoc j i 1)
+
+  -- a run of children, and one of them
+  pub run-of : {kd : Kind} {k n j count : ℕ} → Is img kd n → Items img n k count j → j + count ≤ 8192 → Run img k n j count
+  run-of is h l = record { accepted = is .accepted; below = is .below; lower = λ i m. (h i m) .below; kinds = λ i m. (h i m) .kind; short = l }
+
+  pub run-item : {k n j count i x : ℕ} → Run img k n j count → i < count → x ≡ field img n (j + i) → Child img n k x × Is img (kindOf k) x
+  run-item {k} {n} {j} {i = i} p l q =
+      subst (λ (y : ℕ). Child img n k y × Is img (kindOf k) y) (sym q) (
+        record { below = p .lower i l; kind = p .kinds i l },
+        record { accepted = p .accepted; below = (let a = p .below in let b = p .lower i l in omega arith); kind = ap kindOf (p .kinds i l) },
+      )
+
+  -- the items of a list that is a row's only field, and of one after a field of one word
+  pub run-list : {cl : Class} {k n count : ℕ} → Is img (kindBy cl (list k ∷ [])) n → count ≡ field img n 0 → Run img k n 1 count
+  unfolding FormedFields ends next
+  run-list {k = k} {n} is q = subst (Run img k n 1) (sym q) (run-of is ((row is) .0) ((formed-row is) .short))
+
+  pub run-tail : {cl : Class} {g : Field} {k n count : ℕ} → Is img (kindBy cl (g ∷ list k ∷ [])) n → next img n g 0 ≡ 1 → count ≡ field img n 1 → Run img k n 2 count
+  unfolding FormedFields ends next
+  run-tail {k = k} {n} is e q =
+      let h : FormedFields img n (list k ∷ []) 1 = subst (FormedFields img n (list k ∷ [])) e ((row is) .1) in
+      subst (Run img k n 2) (sym q) (run-of is (h .0) (subst (λ (j : ℕ). ends img n (list k ∷ []) j ≤ 8192) e ((formed-row is) .short)))
 
   pub term-last : {n : ℕ} → Is img (kindOf 12) n → field img n 0 < 8
   unfolding kindOf

@@ -6,8 +6,7 @@ pub mod Items
 pub mod Location
 pub mod Is
 pub mod Tests
-pub mod Scan
-pub mod Parts
-pub mod Names
+pub mod Promises
 pub mod Answer
+pub mod Declarations
 pub mod Rules

@@ -1,10 +1,10 @@
 -- The tree of an image: numbers, kinds, classes, shapes and children, and no names.
 use mathlib.Core.Bool.{Bool, true, false}
 use mathlib.Core.List.{List, [], _∷_}
-use Prim.Native.Nat.{ℕ, zero, suc}
+use Prim.Native.Nat.{ℕ, zero, suc, _+_}
 use lib.Dec.{ltb}
 use Rattle.ast.specs.Image.{nodes, kindAt}
-use Rattle.ast.specs.Kinds.{Class, outer, inner, plain, term, ident, head, headMember, member, branch, match, case, ifVar, definedThen, arg, kindOf}
+use Rattle.ast.specs.Kinds.{Class, outer, inner, plain, term, ident, head, headMember, member, case, ifVar, definedThen, arg, kindOf}
 use Rattle.ast.specs.Rows.{Kid, one, many, kids, shape}
 
 infixr 50 _◂_
@@ -18,6 +18,16 @@ mutual
   pub data Trees : Type 0 where
     none : Trees
     _◂_ : Tree → Trees → Trees
+
+-- how many nodes a tree has
+unfoldable mutual
+  pub size : Tree → ℕ
+  size (node n k c sh ts) = suc (sizes ts)
+  size (block ts) = sizes ts
+
+  pub sizes : Trees → ℕ
+  sizes none = 0
+  sizes (t ◂ ts) = size t + sizes ts
 
 -- the first two, the other way round
 unfoldable pub swap : Trees → Trees
@@ -34,8 +44,6 @@ swaps (inner ident) = false
 swaps (inner head) = false
 swaps (inner headMember) = false
 swaps (inner member) = false
-swaps (inner branch) = false
-swaps (inner match) = false
 swaps (inner case) = false
 swaps (inner ifVar) = true
 swaps (inner definedThen) = true

@@ -1,10 +1,9 @@
-// The image: its words, the rows by node, and the names.
+// The image: its words, and the rows by node.
 ghost use mathlib.Core.Path.{_≡_};
 ghost use Prim.Native.Nat.{_+_, _*_, _-_, _/_, _<_, _≤_};
 ghost use lib.ListN.{length, getD, set};
 ghost use Rattle.ast.specs.Image as «image-spec»;
-ghost use Rattle.ast.specs.Scan.{Head, Within};
-ghost use Rattle.ast.specs.Names.{Spanned, NameAt};
+ghost use Rattle.ast.specs.Promises.{Head, Within};
 ghost use Rattle.ast.specs.Location.{locationOf};
 
 pub fn wide(x: u32) -> usize
@@ -132,13 +131,6 @@ pub fn read_from<'a>(image: &'a [u8], at: usize) -> RowReader<'a>
     RowReader { image, at }
 }
 
-// Where a reader stands.
-pub fn place<'a>(r: RowReader<'a>) -> usize
-    ensures { λ n. ⌜ n ≡ r .entry .at ⌝ }
-{
-    r.at
-}
-
 // The next operand of a reader.
 pub fn next<'a>(r: RowReader<'a>) -> u32
     ensures { λ w. ⌜ w ≡ «image-spec».opAt (now (r .entry .image)) (r .entry .at) ⌝ }
@@ -193,42 +185,4 @@ pub fn name_of(image: &[u8], node: NodeId) -> u32
         return less_one(word);
     }
     word
-}
-
-pub fn name_end(image: &[u8], s: Sizes, i: u32) -> u32
-    requires { ⌜ Within (now image) s × (i < s .names) ⌝ }
-    ensures { λ r. ⌜ r ≡ «image-spec».nameEnd (now (image .entry)) i ⌝ }
-{
-    word_in(
-        image,
-        16 + 8 * wide(s.nodes) + 4 * wide(s.operands) + 4 * wide(i),
-    )
-}
-
-pub fn name_start(image: &[u8], s: Sizes, i: u32) -> u32
-    requires { ⌜ Within (now image) s × (i < s .names) ⌝ }
-    ensures { λ r. ⌜ r ≡ «image-spec».nameStart (now (image .entry)) i ⌝ }
-{
-    if i == 0 {
-        return 0;
-    }
-    name_end(image, s, i - 1)
-}
-
-// Where the bytes of a name stand in the image, and the name's end.
-pub struct Span {
-    pub from: usize,
-    pub to: usize,
-    pub end: u32,
-}
-
-pub fn span_of(image: &[u8], s: Sizes, i: u32, start: u32) -> Span
-    requires { ⌜ Spanned (now image) s i start ⌝ }
-    ensures { λ r. ⌜ NameAt (now (image .entry)) s i (r .from) (r .to) × (r .end ≡ «image-spec».nameEnd (now (image .entry)) i) ⌝ }
-{
-    let base = 16 + 8 * wide(s.nodes) + 4 * wide(s.operands) + 4 * wide(s.names);
-    let end = name_end(image, s, i);
-    let from = base + wide(start);
-    let to = base + wide(end);
-    Span { from, to, end }
 }

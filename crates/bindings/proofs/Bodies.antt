@@ -8,19 +8,20 @@ use native.Mathlib.Omega.{arith}
 use lib.Dec.{eqb}
 use lib.ListN.{getD}
 use Rattle.ast.specs.Image.{kindAt, field}
-use Rattle.ast.specs.Kinds.{inner, plain, term, head, case, match, definedThen, noChild, Kind, kindOf}
-use Rattle.ast.specs.Is.{Is}
+use Rattle.ast.specs.Kinds.{inner, plain, term, head, case, definedThen, noChild, kindOf}
+use Rattle.ast.specs.Is.{Is, Run}
 use Rattle.ast.specs.Tree.{Tree, node, block, none, _◂_, swaps, ordered, treeAt}
 use Rattle.ast.specs.Items.{items, blocks}
-use Rattle.ast.proofs.Row.{Child, Items, FormedFields, append, next, ends, nodeOf}
-use Rattle.ast.proofs.Shapes.{row as fields-of, formed-row, tree-of, child-is, case-child, case-last, one-more, items-more, termKinds}
+use Rattle.ast.proofs.Row.{Child, FormedFields, append, next, ends, nodeOf}
+use Rattle.ast.proofs.Shapes.{row as fields-of, tree-of, child-is, case-child, case-last, one-more, items-more, termKinds, run-item, run-list, run-tail}
 use Rattle.ast.proofs.Vars.{PlainVar, named, wildcard, PlainAt, AfterFirst, Each, vars-at}
 use Rattle.table.specs.Table.{Table}
 use Rattle.rows.specs.Rows.{Row}
-use Rattle.ordered.proofs.Blocks.{BlocksFrom, next-block}
-use Rattle.bindings.specs.Errors.{asked, definedRow, isCtor, argRow, argRows, rowsOf, rowsSeq, declRows, declsRows}
-use Rattle.bindings.specs.Checks.{Run, inside, listed, declared, ofPattern, ofCase, ofArgs}
-use Rattle.bindings.proofs.RowLaws.{rowsAt, plain-rows, term-rows, branch-rows, match-rows, case-rows, defined-none, defined-some, one-inside, two-inside, case-inside, child-list-inside, branch-inside, pattern-first, pattern-none, pattern-app, args-inside, decl-child, rule-rows, model-rows, module-rows}
+use Rattle.ast.proofs.Blocks.{BlocksFrom, next-block}
+use Rattle.bindings.specs.Errors.{definedRow, isCtor, argRow, argRows, rowsOf, rowsSeq, declRows, declsRows}
+use Rattle.error.specs.Kinds.{asked}
+use Rattle.bindings.specs.Promises.{inside, listed, declared, ofPattern, ofCase, ofArgs}
+use Rattle.bindings.proofs.RowLaws.{rowsAt, plain-rows, term-rows, case-rows, defined-none, defined-some, one-inside, two-inside, case-inside, child-list-inside, branch-inside, pattern-first, pattern-none, pattern-app, args-inside, decl-child, rule-rows, model-rows, module-rows}
 use Rattle.bindings.proofs.Quiet.{quiet}
 use Rattle.bindings.proofs.Epic.{Down, Item, listed-start, listed-more}
 
@@ -69,20 +70,9 @@ module _ (img : List ℕ) where
   unfolding kindOf
   atom-last is = case-last img _ atomKinds is
 
-  -- a run of children, from what acceptance says of a list
-  pub run-of : {kd : Kind} {k n c j : ℕ} → Is img kd n → Items img n k c j → j + c ≤ 8192 → Run img k n c j
-  run-of is h l = record { accepted = is .accepted; below = is .below; short = l; lower = λ i m. (h i m) .below; kinds = λ i m. (h i m) .kind }
-
-  run-child : {k n c j x : ℕ} (i : ℕ) → Run img k n c j → i < c → x ≡ field img n (j + i) → (x < n) × (kindAt img x ≡ k) × Is img (kindOf k) x
-  run-child {k} {n} {c} {j} {x} i h l q =
-      let low : x < n = subst (λ (y : ℕ). y < n) (sym q) (h .lower i l) in
-      let e : kindAt img x ≡ k = ap (kindAt img) q ∙ h .kinds i l in
-      (low, e, record { accepted = h .accepted; below = let b = h .below in omega arith; kind = ap kindOf e })
-
-  pub case-run : {n c : ℕ} → Is img (kindOf 35) n → c ≡ field img n 1 → Run img 36 n c 2
-  unfolding kindOf FormedFields next ends
-  case-run {n} is q =
-      subst (λ (x : ℕ). Run img 36 n x 2) (sym q) (run-of is ((fields-of img is) .1 .0) ((formed-row img is) .short))
+  pub case-run : {n c : ℕ} → Is img (kindOf 35) n → c ≡ field img n 1 → Run img 36 n 2 c
+  unfolding kindOf next
+  case-run is q = run-tail img is refl q
 
 module _ (img : List ℕ) (t : Table) where
   -- then-atoms -----------------------------------------------------------------------------------------------------
@@ -231,30 +221,32 @@ module _ (img : List ℕ) (t : Table) where
       }
 
   pub stmt-branch : {n d : ℕ} → Is img (kindOf 36) n → 2 ≡ field img n 0 → d ≡ field img n 1 → Down img t false 39 n d (inside img t false n)
+  unfolding kindOf asked
   stmt-branch {n} is q r =
       let s = stmt-down is 2 q r refl in
       let i = child-is img is (s .0) in
-      record { low = s .0 .below; is = i; same = s .1 ∙ branch-rows img t false n i }
+      record { low = s .0 .below; is = i; same = s .1 ∙ plain-rows img t false 39 _ n i (s .0 .kind) }
 
   pub stmt-match : {n d : ℕ} → Is img (kindOf 36) n → 3 ≡ field img n 0 → d ≡ field img n 1 → Down img t false 40 n d (inside img t false n)
+  unfolding kindOf asked
   stmt-match {n} is q r =
       let s = stmt-down is 3 q r refl in
       let i = child-is img is (s .0) in
-      record { low = s .0 .below; is = i; same = s .1 ∙ match-rows img t false n i }
+      record { low = s .0 .below; is = i; same = s .1 ∙ plain-rows img t false 40 _ n i (s .0 .kind) }
 
   -- the statements of a block
-  pub stmts-item : {n c j x : ℕ} (i : ℕ) → Run img 36 n c j → i < c → x ≡ field img n (j + i)
+  pub stmts-item : {n c j x : ℕ} (i : ℕ) → Run img 36 n j c → i < c → x ≡ field img n (j + i)
       → Item img t 36 n x (listed img t false n (c - i) (j + i)) (inside img t false x) (listed img t false n (c - (i + 1)) (j + (i + 1)))
   unfolding kindOf asked
   stmts-item {n} {c} {j} {x} i h l q =
-      let z = run-child img i h l q in
+      let z = run-item img h l q in
       record {
-        low = z .0;
-        is = z .2;
+        low = z .0 .below;
+        is = z .1;
         same =
             listed-more img t false n c j i l
             ∙ ap (λ (y : ℕ). rowsAt img t false n y ++ listed img t false n (c - (i + 1)) (j + (i + 1))) (sym q)
-            ∙ ap (λ (m : List Row). m ++ listed img t false n (c - (i + 1)) (j + (i + 1))) (plain-rows img t false 36 _ n (z .2) (z .1));
+            ∙ ap (λ (m : List Row). m ++ listed img t false n (c - (i + 1)) (j + (i + 1))) (plain-rows img t false 36 _ n (z .1) (z .0 .kind));
       }
 
   -- the cases of a match; the matched term gives no row
@@ -262,7 +254,7 @@ module _ (img : List ℕ) (t : Table) where
   unfolding kindOf ordered FormedFields
   cases-start {n} is =
       let h : Child img n 12 (field img n 0) = (fields-of img is) .0 in
-      child-list-inside img t false (inner match) 12 35 is (λ ts. refl)
+      child-list-inside img t false (inner plain) 12 35 is (λ ts. refl)
       ∙ ap (λ (l : List Row). l ++ listed img t false n (field img n 1) 2) (quiet img t (is .accepted) n ((child-is img is h) .below) (h .kind) tt)
       ∙ listed-start img t false n (field img n 1) 2
 
@@ -300,8 +292,7 @@ module _ (img : List ℕ) (t : Table) where
 
   -- one block more, of size s
   pub record BlockItem (n i j s : ℕ) : Type 0 where
-    pub run : Run img 36 n s (j + 1)
-    pub fits : j + 1 + s ≤ 8192
+    pub run : Run img 36 n (j + 1) s
     pub from : BlocksFrom img n (field img n 0) (i + 1) (j + 1 + s)
     pub same : blocksLeft n (field img n 0 - i) j ≡ listed img t false n s (j + 1) ++ blocksLeft n (field img n 0 - (i + 1)) (j + 1 + s)
 
@@ -310,7 +301,7 @@ module _ (img : List ℕ) (t : Table) where
   block-item {n} {i} {j} {s} is b l q =
       let k = next-block img b l in
       subst (λ (x : ℕ). BlockItem n i j x) (sym q)
-      (record { run = run-of img is (k .items) (k .fits); fits = k .fits; from = k .from; same = ap (λ (x : ℕ). blocksLeft n x j) (one-more l) })
+      (record { run = k .run; from = k .from; same = ap (λ (x : ℕ). blocksLeft n x j) (one-more l) })
 
   pub blocks-end : (n i j : ℕ) → field img n 0 ≤ i → blocksLeft n (field img n 0 - i) j ≡ []
   unfolding rowsOf blocks
@@ -324,14 +315,14 @@ module _ (img : List ℕ) (t : Table) where
   unfolding declRows items
   declared-end n c j i h = let z : c - i ≡ 0 = omega arith in ap (λ (x : ℕ). declared img t n x (j + i)) z
 
-  pub decls-item : {n c j x : ℕ} (i : ℕ) → Run img 1 n c j → i < c → x ≡ field img n (j + i)
+  pub decls-item : {n c j x : ℕ} (i : ℕ) → Run img 1 n j c → i < c → x ≡ field img n (j + i)
       → Item img t 1 n x (declared img t n (c - i) (j + i)) (declRows img t (treeAt img x)) (declared img t n (c - (i + 1)) (j + (i + 1)))
   unfolding declRows
   decls-item {n} {c} {j} {x} i h l q =
-      let z = run-child img i h l q in
+      let z = run-item img h l q in
       record {
-        low = z .0;
-        is = z .2;
+        low = z .0 .below;
+        is = z .1;
         same =
             ap (declsRows img t) (items-more img n j c i l)
             ∙ ap (λ (y : ℕ). declRows img t (treeAt img y) ++ declared img t n (c - (i + 1)) (j + (i + 1))) (sym q);
@@ -340,7 +331,7 @@ module _ (img : List ℕ) (t : Table) where
   -- what a rule, a model and a module go down to
   pub record Listing (k n d c j : ℕ) (l rows : List Row) : Type 0 where
     pub low : d < n
-    pub run : Run img k d c j
+    pub run : Run img k d j c
     pub same : l ≡ rows
 
   pub decl-rule : {n d c : ℕ} → Is img (kindOf 1) n → 4 ≡ field img n 0 → d ≡ field img n 1 → c ≡ field img d 1
@@ -350,7 +341,7 @@ module _ (img : List ℕ) (t : Table) where
       let s = decl-child img t is 4 q r refl in
       let i = child-is img is (s .0) in
       subst (λ (x : ℕ). Listing 36 n d x 2 (declRows img t (treeAt img n)) (listed img t false d x 2)) (sym z)
-      (record { low = s .0 .below; run = run-of img i ((fields-of img i) .1 .0) ((formed-row img i) .short); same = s .1 ∙ rule-rows img t i })
+      (record { low = s .0 .below; run = run-tail img i refl refl; same = s .1 ∙ rule-rows img t i })
 
   pub decl-model : {n d c : ℕ} → Is img (kindOf 1) n → 6 ≡ field img n 0 → d ≡ field img n 1 → c ≡ field img d 1
       → Listing 1 n d c 2 (declRows img t (treeAt img n)) (declared img t d c 2)
@@ -359,10 +350,10 @@ module _ (img : List ℕ) (t : Table) where
       let s = decl-child img t is 6 q r refl in
       let i = child-is img is (s .0) in
       subst (λ (x : ℕ). Listing 1 n d x 2 (declRows img t (treeAt img n)) (declared img t d x 2)) (sym z)
-      (record { low = s .0 .below; run = run-of img i ((fields-of img i) .1 .0) ((formed-row img i) .short); same = s .1 ∙ model-rows img t i })
+      (record { low = s .0 .below; run = run-tail img i refl refl; same = s .1 ∙ model-rows img t i })
 
-  pub module-run : {n c : ℕ} → Is img (kindOf 0) n → c ≡ field img n 0 → Run img 1 n c 1 × (declRows img t (treeAt img n) ≡ declared img t n c 1)
+  pub module-run : {n c : ℕ} → Is img (kindOf 0) n → c ≡ field img n 0 → Run img 1 n 1 c × (declRows img t (treeAt img n) ≡ declared img t n c 1)
   unfolding kindOf FormedFields next ends
   module-run {n} is q =
-      subst (λ (x : ℕ). Run img 1 n x 1 × (declRows img t (treeAt img n) ≡ declared img t n x 1)) (sym q)
-      (run-of img is ((fields-of img is) .0) ((formed-row img is) .short), module-rows img t is)
+      subst (λ (x : ℕ). Run img 1 n 1 x × (declRows img t (treeAt img n) ≡ declared img t n x 1)) (sym q)
+      (run-list img is refl, module-rows img t is)

@@ -24,8 +24,8 @@ use Rattle.scopes.specs.declared.Declared.the-variants.{Done}
 use Rattle.scopes.proofs.Calls.{rows-table, rows-long}
 use Rattle.scopes.proofs.Headed.{resolved-filled}
 use Rattle.bindings.specs.Errors.{isStrict, strictRows, declRows, plainRows, errorRows, testErrors}
-use Rattle.bindings.specs.Checks.{Ready, ofMode, Filled}
-use Rattle.bindings.proofs.Few.{both-few}
+use Rattle.bindings.specs.Promises.{Ready, ofMode, Filled}
+use Rattle.bindings.proofs.Bound.{both-few}
 
 -- writing the rows ------------------------------------------------------------------------------------------------------
 module _ (img : List ℕ) where

@@ -1,34 +1,27 @@
 -- Laws of single rows: what is asked of a name, and a row that stands where a test says so.
 use mathlib.Core.Path.{_≡_, sym, ap, ap₂, subst, _∙_}
 use mathlib.Core.Bool.{Bool, true, false, _&&_, not}
-use mathlib.Core.Option.{Option, none as nothing, some}
+use mathlib.Core.Option.{Option, some}
 use mathlib.Core.List.{List, [], _∷_}
 use Prim.Native.Nat.{ℕ, _+_, _<_, _^_}
 use lib.ListN.{length}
-use borrow.Author.Tests.{eq-eqb, ne-eqb}
-use Rattle.ast.specs.Image.{kindAt}
-use Rattle.table.specs.Table.{Table, isKind}
-use Rattle.rows.specs.Rows.{Row, row}
-use Rattle.bindings.specs.Errors.{when, sameNode, atEntry, atExit, introduces, introducedRow}
+use Rattle.table.specs.Table.{Table, atEntry, atExit, isVar}
+use Rattle.rows.specs.Rows.{Row, row, when}
+use Rattle.bindings.specs.Errors.{sameNode, introduces, introducedRow}
 
 module _ (img : List ℕ) (t : Table) (n i : ℕ) where
   -- introduces, by what lookup gives at the exit
-  pub introduces-none : {o : Option ℕ} → o ≡ atExit img t n i → o ≡ nothing → introduces img t n i ≡ false
-  unfolding introduces isKind
-  introduces-none e z = ap (λ (o : Option ℕ). isKind img 13 o && not (sameNode o (atEntry img t n i))) (sym e ∙ z)
+  pub introduces-other : {o : Option ℕ} → o ≡ atExit img t n i → isVar img o ≡ false → introduces img t n i ≡ false
+  unfolding introduces
+  introduces-other {o} e h =
+      ap (λ (u : Option ℕ). isVar img u && not (sameNode u (atEntry img t n i))) (sym e) ∙ ap (λ (c : Bool). c && not (sameNode o (atEntry img t n i))) h
 
-  pub introduces-other : {o : Option ℕ} {b : ℕ} → o ≡ atExit img t n i → o ≡ some b → (kindAt img b ≡ 13 → ⊥) → introduces img t n i ≡ false
-  unfolding introduces isKind
-  introduces-other {o} {b} e z h =
-      ap (λ (u : Option ℕ). isKind img 13 u && not (sameNode u (atEntry img t n i))) (sym e ∙ z)
-      ∙ ap (λ (c : Bool). c && not (sameNode (some b) (atEntry img t n i))) (ne-eqb _ _ h)
-
-  pub introduces-var : {o : Option ℕ} {b : ℕ} {seen : Bool} → o ≡ atExit img t n i → o ≡ some b → kindAt img b ≡ 13
+  pub introduces-var : {o : Option ℕ} {b : ℕ} {seen : Bool} → o ≡ atExit img t n i → isVar img o ≡ true → o ≡ some b
       → seen ≡ sameNode (some b) (atEntry img t n i) → introduces img t n i ≡ not seen
-  unfolding introduces isKind
-  introduces-var {o} {b} {seen} e z h q =
-      ap (λ (u : Option ℕ). isKind img 13 u && not (sameNode u (atEntry img t n i))) (sym e ∙ z)
-      ∙ ap₂ (λ (c d : Bool). c && not d) (eq-eqb _ _ h) (sym q)
+  unfolding introduces
+  introduces-var {o} {b} {seen} e h z q =
+      ap (λ (u : Option ℕ). isVar img u && not (sameNode u (atEntry img t n i))) (sym e)
+      ∙ ap₂ (λ (c d : Bool). c && not d) h (ap (λ (u : Option ℕ). sameNode u (atEntry img t n i)) z ∙ sym q)
 
 -- a row where the test says so
 pub when-true : {b : Bool} (w : Row) → b ≡ true → when b w ≡ w ∷ []

@@ -19,10 +19,10 @@ use Rattle.ast.proofs.Row.{Child, FormedFields}
 use Rattle.ast.proofs.Shapes.{row as fields-of, one-more}
 use Rattle.ast.proofs.Accepted.{sized}
 use Rattle.scopes.specs.Twice.{among}
-use Rattle.rows.specs.Rows.{Row, row}
+use Rattle.rows.specs.Rows.{Row, row, when}
 use Rattle.rows.proofs.Parts.{Left, left-room}
-use Rattle.bindings.specs.Errors.{when, repeated, argsOf, repeatedIn, repeatedTo, strictFrom, strictRows}
-use Rattle.bindings.specs.Checks.{marked, MarkedOne, Marks}
+use Rattle.bindings.specs.Errors.{repeated, argsOf, repeatedIn, repeatedTo, strictFrom, strictRows}
+use Rattle.bindings.specs.Promises.{marked, MarkedOne, Marks}
 
 pub marked-append : (ns ks ms : List ℕ) → marked (ns ++ ks) ms ≡ marked ks (marked ns ms)
 unfolding marked

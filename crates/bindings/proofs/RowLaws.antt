@@ -8,16 +8,17 @@ use borrow.Author.Tests.{eq-eqb, ne-eqb}
 use lib.Dec.{eqb}
 use lib.ListN.{getD}
 use Rattle.ast.specs.Image.{kindAt, field}
-use Rattle.ast.specs.Kinds.{Class, outer, inner, decl, signature, enum, plain, term, ident, head, branch, case, Field, child, list, lists, cases, noChild, Kind, kindOf}
+use Rattle.ast.specs.Kinds.{Class, outer, inner, decl, signature, enum, plain, term, ident, head, case, Field, child, list, lists, cases, noChild, Kind, kindOf}
 use Rattle.ast.specs.Is.{Is, kindBy}
 use Rattle.ast.specs.Tree.{Tree, node, Trees, none, _◂_, swap, ordered, treeAt}
 use Rattle.ast.specs.Items.{items, blocks, below}
 use Rattle.ast.proofs.Row.{append-none, Child, FormedFields, append, next, shapes, allKids, nodeOf}
 use Rattle.ast.proofs.Shapes.{row as fields-of, tree-of, child-is, case-kids, case-one, case-child, case-last, term-last, termKinds, headKinds}
-use Rattle.table.specs.Table.{Table, isKind, isVar}
-use Rattle.rows.specs.Rows.{Row, row}
-use Rattle.bindings.specs.Errors.{when, asked, atEntry, atExit, introducedRow, argRow, isCtor, appRows, listRows, argRows, definedRow, definedRows, patternRows, rowsOf, rowsSeq, rowsDefined, declRows, declsRows}
-use Rattle.bindings.specs.Checks.{inside, listed, declared, ofPattern, ofArgs}
+use Rattle.table.specs.Table.{Table, isKind, isVar, atEntry, atExit}
+use Rattle.rows.specs.Rows.{Row, row, when}
+use Rattle.bindings.specs.Errors.{introducedRow, argRow, isCtor, appRows, listRows, argRows, definedRow, definedRows, patternRows, rowsOf, rowsSeq, rowsDefined, declRows, declsRows}
+use Rattle.error.specs.Kinds.{asked}
+use Rattle.bindings.specs.Promises.{inside, listed, declared, ofPattern, ofArgs}
 
 -- the kinds of the children of a Decl's cases
 abbrev pub declKinds : List ℕ
@@ -46,14 +47,6 @@ module _ (img : List ℕ) (t : Table) (a : Bool) where
   pub term-rows : {n : ℕ} (o : ℕ) → Is img (kindOf 12) n → rowsAt o n ≡ inside img t a n
   unfolding rowsOf nodeOf kindOf
   term-rows {n} o is = subst (λ (u : Tree). rowsOf img t a o u ≡ rowsSeq img t a n (below u)) (sym (tree-of img is)) refl
-
-  pub branch-rows : {n : ℕ} (o : ℕ) → Is img (kindOf 39) n → rowsAt o n ≡ inside img t a n
-  unfolding rowsOf nodeOf kindOf
-  branch-rows {n} o is = subst (λ (u : Tree). rowsOf img t a o u ≡ rowsSeq img t a n (below u)) (sym (tree-of img is)) refl
-
-  pub match-rows : {n : ℕ} (o : ℕ) → Is img (kindOf 40) n → rowsAt o n ≡ inside img t a n
-  unfolding rowsOf nodeOf kindOf
-  match-rows {n} o is = subst (λ (u : Tree). rowsOf img t a o u ≡ rowsSeq img t a n (below u)) (sym (tree-of img is)) refl
 
   pub case-rows : {n : ℕ} (o : ℕ) → Is img (kindOf 35) n → rowsAt o n ≡ ofPattern img t n ++ inside img t a n
   unfolding rowsOf nodeOf kindOf
@@ -149,7 +142,7 @@ module _ (img : List ℕ) (t : Table) (a : Bool) where
   pub branch-inside : {n : ℕ} → Is img (kindOf 39) n → inside img t a n ≡ rowsSeq img t a n (blocks img n (field img n 0) 1)
   unfolding allKids ordered kindOf
   branch-inside {n} is =
-      ap (rowsSeq img t a n) (kids-of img (inner branch) (lists 36 ∷ []) is (λ ts. refl) ∙ append-none _)
+      ap (rowsSeq img t a n) (kids-of img (inner plain) (lists 36 ∷ []) is (λ ts. refl) ∙ append-none _)
 
 -- single rows, by the case of a term ---------------------------------------------------------------------------------
 module _ (img : List ℕ) (t : Table) where

@@ -4,46 +4,28 @@ use mathlib.Core.List.{List, [], _∷_, _++_}
 use mathlib.Core.Option.{Option, none as nothing, some}
 use Prim.Native.Nat.{ℕ, zero, suc, _+_}
 use lib.Dec.{leb, eqb}
-use Rattle.ast.specs.Image.{nodes, last, kindAt, startAt, field, nameOf}
-use Rattle.ast.specs.Kinds.{Class, outer, inner, root, decl, signature, rule, enum, model, plain, term, ident, head, headMember, member, branch, match, case, ifVar, definedThen, arg}
+use Rattle.ast.specs.Image.{nodes, last, kindAt, startAt, field}
+use Rattle.ast.specs.Kinds.{Class, outer, inner, root, decl, signature, rule, enum, model, plain, term, ident, head, headMember, member, case, ifVar, definedThen, arg}
 use Rattle.ast.specs.Tests.{_▸_, need}
 use Rattle.ast.specs.Tree.{Tree, node, block, Trees, none, _◂_, treeAt}
 use Rattle.ast.specs.Rows.{opsFrom}
-use Rattle.error.specs.Kinds.{introducedInThen, definedNotNew, patternNotFresh, repeatedArgument}
-use Rattle.table.specs.Table.{Table, lookup, isKind, isVar, entryAt, exitAt}
+use Rattle.error.specs.Kinds.{introducedInThen, definedNotNew, patternNotFresh, repeatedArgument, asked}
+use Rattle.table.specs.Table.{Table, isKind, isVar, atEntry, atExit}
 use Rattle.rows.specs.Rows.{Row, row}
 use Rattle.scopes.specs.Twice.{among}
 use Rattle.scopes.specs.Calls.{testRows, RowsOutcome, rowsCall}
-
-unfoldable pub when : Bool → Row → List Row
-when true w = w ∷ []
-when false w = []
+use Rattle.rows.specs.Rows.{when}
 
 unfoldable pub sameNode : Option ℕ → Option ℕ → Bool
 sameNode nothing o = false
 sameNode (some a) nothing = false
 sameNode (some a) (some b) = eqb a b
 
--- below a then-atom rows of number 1 are asked for, and not below Dom, Cod or a predicate's receiver
-unfoldable pub asked : ℕ → Bool → Bool
-asked k a =
-    elim (eqb k 29) [
-      | true ↦ true
-      | false ↦ elim (eqb k 18 || (eqb k 19 || eqb k 26)) [ true ↦ false | false ↦ a ]
-    ]
-
 module _ (img : List ℕ) (t : Table) where
-  -- what a name is at a node's entry, and at its exit
-  abbrev pub atEntry : ℕ → ℕ → Option ℕ
-  atEntry n i = lookup img t (entryAt img (t .words) n) (nameOf img i)
-
-  abbrev pub atExit : ℕ → ℕ → Option ℕ
-  atExit n i = lookup img t (exitAt img (t .words) n) (nameOf img i)
-
   -- the term n, of the IdentTerm i, introduces its name: it is a Var at the exit, and not that one at the entry
   unfoldable pub introduces : ℕ → ℕ → Bool
   unfolding sameNode
-  introduces n i = isVar img (atExit n i) && not (sameNode (atExit n i) (atEntry n i))
+  introduces n i = isVar img (atExit img t n i) && not (sameNode (atExit img t n i) (atEntry img t n i))
 
   -- row 1
   unfoldable pub introducedRow : Bool → ℕ → ℕ → List Row
@@ -56,7 +38,7 @@ module _ (img : List ℕ) (t : Table) where
   definedRow at (block ts) = []
   definedRow at (node n k c sh none) = []
   definedRow at (node n k c sh (block ts ◂ us)) = []
-  definedRow at (node n k c sh (node i l d sh2 ts ◂ us)) = when (isVar img (atEntry at i)) (row definedNotNew n)
+  definedRow at (node n k c sh (node i l d sh2 ts ◂ us)) = when (isVar img (atEntry img t at i)) (row definedNotNew n)
 
   unfoldable pub definedRows : ℕ → Trees → List Row
   unfolding definedRow
@@ -71,7 +53,7 @@ module _ (img : List ℕ) (t : Table) where
   argRow (node n k c (suc x ∷ sh) ts) = []
   argRow (node n k c (zero ∷ sh) none) = []
   argRow (node n k c (zero ∷ sh) (block ts ◂ us)) = []
-  argRow (node n k c (zero ∷ sh) (node i l d sh2 ts ◂ us)) = when (isVar img (atEntry n i)) (row patternNotFresh n)
+  argRow (node n k c (zero ∷ sh) (node i l d sh2 ts ◂ us)) = when (isVar img (atEntry img t n i)) (row patternNotFresh n)
 
   unfoldable pub argRows : Trees → List Row
   unfolding argRow
@@ -92,7 +74,7 @@ module _ (img : List ℕ) (t : Table) where
   isCtor (node n k c (suc x ∷ sh) ts) = false
   isCtor (node n k c (zero ∷ sh) none) = false
   isCtor (node n k c (zero ∷ sh) (block ts ◂ us)) = false
-  isCtor (node n k c (zero ∷ sh) (node i l d sh2 ts ◂ us)) = isKind img 9 (atExit n i)
+  isCtor (node n k c (zero ∷ sh) (node i l d sh2 ts ◂ us)) = isKind img 9 (atExit img t n i)
 
   unfoldable pub appRows : Trees → List Row
   unfolding isCtor listRows
@@ -123,8 +105,6 @@ module _ (img : List ℕ) (t : Table) where
     rowsOf a o (node n k (inner head) (suc x ∷ sh) ts) = rowsSeq a n ts
     rowsOf a o (node n k (inner headMember) sh ts) = rowsFirst a n ts
     rowsOf a o (node n k (inner member) sh ts) = rowsFirst a n ts
-    rowsOf a o (node n k (inner branch) sh ts) = rowsSeq a n ts
-    rowsOf a o (node n k (inner match) sh ts) = rowsSeq a n ts
     rowsOf a o (node n k (inner case) sh ts) = patternRows ts ++ rowsSeq a n ts
     rowsOf a o (node n k (inner ifVar) sh ts) = []
     rowsOf a o (node n k (inner definedThen) sh ts) = rowsDefined a o n ts

@@ -1,3 +1,2 @@
 pub mod Errors
-pub mod Checks
-pub mod Places
+pub mod Promises

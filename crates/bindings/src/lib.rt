@@ -8,50 +8,21 @@ ghost use lib.ListN.{length};
 ghost use Rattle.ast.specs.Image as «image-spec»;
 ghost use Rattle.ast.specs.Kinds.{kindOf};
 ghost use Rattle.ast.specs.Tests as «tests-spec»;
-ghost use Rattle.ast.specs.Is.{Is};
+ghost use Rattle.ast.specs.Is.{Is, twoTerms};
 ghost use Rattle.ast.specs.Tree.{treeAt};
 ghost use Rattle.table.specs.Table as «table-spec»;
 ghost use Rattle.table.specs.Rows.{Sorted};
-ghost use Rattle.table.specs.Values.{tableOf, optionOf};
-ghost use Rattle.rows.specs.Rows.{row, Appended, Wrote};
+ghost use Rattle.table.specs.Values.{tableOf};
+ghost use Rattle.rows.specs.Rows.{row, Appended, Wrote, when};
 ghost use Rattle.scopes.specs.Answers.{rowedAnswer};
-ghost use Rattle.bindings.specs.Errors.{when, sameNode, atEntry, atExit, introduces, introducedRow, definedRow, argRow, isCtor, rowsOf, declRows, repeatedIn, repeatedTo, strictRows, errorRows, testErrors, errors};
-ghost use Rattle.bindings.specs.Checks.{Room, Ready, Runs, PlainVariable, inside, listed, declared, ofPattern, ofCase, ofArgs, marked, MarkedOne, Marks, ofMode, Filled};
+ghost use Rattle.bindings.specs.Errors.{sameNode, introduces, introducedRow, definedRow, argRow, isCtor, rowsOf, declRows, repeatedIn, repeatedTo, strictRows, errorRows, testErrors, errors};
+ghost use Rattle.bindings.specs.Promises.{Room, Ready, PlainVariable, inside, listed, declared, ofPattern, ofCase, ofArgs, marked, MarkedOne, Marks, ofMode, Filled, ReadyRun};
 use ast::NodeId;
 use error::ErrorKind;
 use scopes::Declared;
 use scopes::Rowed;
 use table::Found;
-use table::ScopeId;
 use table::Walked;
-
-fn is_kind(image: &[u8], found: Found, kind: u32) -> bool
-    ensures { λ r. ⌜ r ≡ «table-spec».isKind (now (image .entry)) kind (optionOf found) ⌝ }
-{
-    match found {
-        Found::At(node) => ast::kind_at(image, node) == kind,
-        Found::Nothing => false,
-    }
-}
-
-// What the name of an IdentTerm is at a node's entry, and at its exit.
-fn at_entry(image: &[u8], table: &[u32], w: Walked, node: NodeId, id: NodeId) -> Found
-    requires { ⌜ Sorted («image-spec».nodes (now image)) (w .symbols) (now table) ⌝ }
-    ensures { λ r. ⌜ optionOf r ≡ atEntry (now (image .entry)) (tableOf w (now (table .entry))) (node .0) (id .0) ⌝ }
-{
-    let scope = table::entry_of(image, table, node);
-    let symbols = w.symbols;
-    table::seek(image, table, symbols, scope, ast::name_of(image, id))
-}
-
-fn at_exit(image: &[u8], table: &[u32], w: Walked, node: NodeId, id: NodeId) -> Found
-    requires { ⌜ Sorted («image-spec».nodes (now image)) (w .symbols) (now table) ⌝ }
-    ensures { λ r. ⌜ optionOf r ≡ atExit (now (image .entry)) (tableOf w (now (table .entry))) (node .0) (id .0) ⌝ }
-{
-    let scope = table::exit_of(image, table, node);
-    let symbols = w.symbols;
-    table::seek(image, table, symbols, scope, ast::name_of(image, id))
-}
 
 fn binding_visible_before(
     image: &[u8],
@@ -62,9 +33,10 @@ fn binding_visible_before(
     binding: NodeId,
 ) -> bool
     requires { ⌜ Sorted («image-spec».nodes (now image)) (w .symbols) (now table) ⌝ }
-    ensures { λ r. ⌜ r ≡ sameNode (some (binding .0)) (atEntry (now (image .entry)) (tableOf w (now (table .entry))) (term .0) (id .0)) ⌝ }
+    ensures { λ r. ⌜ r ≡ sameNode (some (binding .0)) («table-spec».atEntry (now (image .entry)) (tableOf w (now (table .entry))) (term .0) (id .0)) ⌝ }
 {
-    match at_entry(image, table, w, term, id) {
+    let symbols = w.symbols;
+    match table::at_entry(image, table, symbols, term, id) {
         Found::At(node) => binding.0 == node.0,
         Found::Nothing => false,
     }
@@ -75,13 +47,13 @@ fn is_introduced(image: &[u8], table: &[u32], w: Walked, term: NodeId, id: NodeI
     requires { ⌜ Sorted («image-spec».nodes (now image)) (w .symbols) (now table) ⌝ }
     ensures { λ r. ⌜ r ≡ introduces (now (image .entry)) (tableOf w (now (table .entry))) (term .0) (id .0) ⌝ }
 {
-    match at_exit(image, table, w, term, id) {
-        Found::At(binding) => {
-            if ast::kind_at(image, binding) == 13 {
-                return !binding_visible_before(image, table, w, term, id, binding);
-            }
-            false
-        }
+    let symbols = w.symbols;
+    let found = table::at_exit(image, table, symbols, term, id);
+    if !table::is_var(image, found) {
+        return false;
+    }
+    match found {
+        Found::At(binding) => !binding_visible_before(image, table, w, term, id, binding),
         Found::Nothing => false,
     }
 }
@@ -138,26 +110,26 @@ fn check_epic_term(
             let inner = NodeId(ast::field(image, child, 0));
             check_epic_term(image, table, w, rows, count, inner)
         }
-        7 => check_epic_pair(image, table, w, rows, count, child),
+        7 => check_epic_two_terms(image, table, w, rows, count, child),
         // Wildcard; and nothing is asked for below Dom and Cod
         _ => count,
     }
 }
 
-// The two terms of a CompTerm or an EqualAtom.
-fn check_epic_pair(
+// A Comp term, or an Equal atom: two terms.
+fn check_epic_two_terms(
     image: &[u8],
     table: &[u32],
     w: Walked,
     rows: &mut [u32],
     count: u32,
-    pair: NodeId,
+    id: NodeId,
 ) -> u32
-    requires { ⌜ Ready (now image) (tableOf w (now table)) (kindOf 21) (pair .0) (inside (now image) (tableOf w (now table)) true (pair .0)) count ⌝ }
-    ensures { λ r. ⌜ Appended («image-spec».nodes (now (image .entry))) (inside (now (image .entry)) (tableOf w (now (table .entry))) true (pair .0)) count (now (rows .entry)) r (now (rows .exit)) ⌝ }
+    requires { ⌜ Ready (now image) (tableOf w (now table)) twoTerms (id .0) (inside (now image) (tableOf w (now table)) true (id .0)) count ⌝ }
+    ensures { λ r. ⌜ Appended («image-spec».nodes (now (image .entry))) (inside (now (image .entry)) (tableOf w (now (table .entry))) true (id .0)) count (now (rows .entry)) r (now (rows .exit)) ⌝ }
 {
-    let first = NodeId(ast::field(image, pair, 0));
-    let second = NodeId(ast::field(image, pair, 1));
+    let first = NodeId(ast::field(image, id, 0));
+    let second = NodeId(ast::field(image, id, 1));
     let after = check_epic_term(image, table, w, rows, count, first);
     check_epic_term(image, table, w, rows, after, second)
 }
@@ -242,8 +214,9 @@ fn check_then_defined_var(
         return count;
     }
     let id = NodeId(ast::field(image, var, 1));
-    let found = at_entry(image, table, w, atom, id);
-    let test = is_kind(image, found, 13);
+    let symbols = w.symbols;
+    let found = table::at_entry(image, table, symbols, atom, id);
+    let test = table::is_var(image, found);
     let number = error::row_number(ErrorKind::ThenDefinedVarNotNew);
     put_if(image, rows, count, test, number, var)
 }
@@ -283,7 +256,7 @@ fn check_then_atom(
     let case = ast::field(image, atom, 0);
     let child = NodeId(ast::field(image, atom, 1));
     match case {
-        0 => check_epic_pair(image, table, w, rows, count, child),
+        0 => check_epic_two_terms(image, table, w, rows, count, child),
         1 => check_then_defined(image, table, w, rows, count, atom, child),
         _ => {
             // a member predicate's receiver is not asked
@@ -302,8 +275,9 @@ fn is_ctor_head(image: &[u8], table: &[u32], w: Walked, head: NodeId) -> bool
         return false;
     }
     let id = NodeId(ast::field(image, head, 1));
-    let found = at_exit(image, table, w, head, id);
-    is_kind(image, found, 9)
+    let symbols = w.symbols;
+    let found = table::at_exit(image, table, symbols, head, id);
+    table::is_kind(image, found, 9)
 }
 
 // Row 3, at an ident argument that is a Var at its own entry. (The Rust asks for a Var at the exit first: what is one at
@@ -323,8 +297,9 @@ fn check_pattern_arg(
         return count;
     }
     let id = NodeId(ast::field(image, arg, 1));
-    let found = at_entry(image, table, w, arg, id);
-    let test = is_kind(image, found, 13);
+    let symbols = w.symbols;
+    let found = table::at_entry(image, table, symbols, arg, id);
+    let test = table::is_var(image, found);
     let number = error::row_number(ErrorKind::MatchPatternArgVarIsNotFresh);
     put_if(image, rows, count, test, number, arg)
 }
@@ -388,7 +363,7 @@ fn walk_stmt_block(
     first: usize,
     len: usize,
 ) -> u32
-    requires { ⌜ Runs (now image) (tableOf w (now table)) 36 (node .0) len first (listed (now image) (tableOf w (now table)) false (node .0) len first) count ⌝ }
+    requires { ⌜ ReadyRun (now image) (tableOf w (now table)) 36 (node .0) first len (listed (now image) (tableOf w (now table)) false (node .0) len first) count ⌝ }
     ensures { λ r. ⌜ Appended («image-spec».nodes (now (image .entry))) (listed (now (image .entry)) (tableOf w (now (table .entry))) false (node .0) len first) count (now (rows .entry)) r (now (rows .exit)) ⌝ }
 {
     let mut i = 0;
@@ -498,7 +473,7 @@ fn walk_decls(
     first: usize,
     len: usize,
 ) -> u32
-    requires { ⌜ Runs (now image) (tableOf w (now table)) 1 (node .0) len first (declared (now image) (tableOf w (now table)) (node .0) len first) count ⌝ }
+    requires { ⌜ ReadyRun (now image) (tableOf w (now table)) 1 (node .0) first len (declared (now image) (tableOf w (now table)) (node .0) len first) count ⌝ }
     ensures { λ r. ⌜ Appended («image-spec».nodes (now (image .entry))) (declared (now (image .entry)) (tableOf w (now (table .entry))) (node .0) len first) count (now (rows .entry)) r (now (rows .exit)) ⌝ }
 {
     let mut i = 0;

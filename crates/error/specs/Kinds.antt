@@ -1,5 +1,7 @@
--- The numbers of the error rows, as document 01 gives them.
+-- The numbers of the error rows, as document 01 gives them, and below which kinds row 1 is asked for.
+use mathlib.Core.Bool.{Bool, true, false, _||_}
 use Prim.Native.Nat.{ℕ}
+use lib.Dec.{eqb}
 use Rattle.error.specs.declared.ErrorKind.{ErrorKind}
 use Rattle.error.specs.declared.ErrorKind.the-variants.{SymbolDeclaredTwice, VariableIntroducedInThenStmt, ThenDefinedVarNotNew, MatchPatternArgVarIsNotFresh, VariableOccursOnlyOnce}
 
@@ -23,3 +25,11 @@ rowNumber VariableIntroducedInThenStmt = introducedInThen
 rowNumber ThenDefinedVarNotNew = definedNotNew
 rowNumber MatchPatternArgVarIsNotFresh = patternNotFresh
 rowNumber VariableOccursOnlyOnce = 0
+
+-- below a then-atom rows of number 1 are asked for, and not below Dom, Cod or a predicate's receiver
+unfoldable pub asked : ℕ → Bool → Bool
+asked k a =
+    elim (eqb k 29) [
+      | true ↦ true
+      | false ↦ elim (eqb k 18 || (eqb k 19 || eqb k 26)) [ true ↦ false | false ↦ a ]
+    ]

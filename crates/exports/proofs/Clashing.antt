@@ -9,6 +9,7 @@ use native.Mathlib.Decide.{decLt, ℕ-discrete}
 use lib.Dec.{T, eqb, leb}
 use borrow.Author.Tests.{le-leb, ne-eqb, leb-true}
 use Rattle.ast.specs.Answer.{twice as twiceAnswer}
+use Rattle.ast.specs.Declarations.{modelLists, modelListsAll, moduleLists, orElse, earliest}
 use Rattle.ast.specs.Image.{nodes, names, last, kindAt, nameOf}
 use Rattle.ast.specs.Kinds.{outer, inner, root, decl, signature, rule, enum, model, Field, name, optName, child, optChild, list, lists, cases, Kind, kinds, kindOf}
 use Rattle.ast.specs.Rows.{fieldsAt}
@@ -18,15 +19,14 @@ use Rattle.ast.proofs.Acceptance.{row, name-below, opt-name-below}
 use Rattle.ast.proofs.Accepted.{sized, last-below}
 use Rattle.ast.proofs.Unfold.{All, nil, cons, All-append}
 use Rattle.ast.proofs.Vars.{Everywhere, EverywhereAll, every-kind}
-use Rattle.table.specs.Sound.{isSymbol}
-use Rattle.table.proofs.Sounds.{named-no, symbol-rule, symbol-arg, symbol-low, symbol-decl}
+use Rattle.sound.specs.Sound.{isSymbol}
+use Rattle.sound.proofs.Sounds.{named-no, symbol-rule, symbol-arg, symbol-low, symbol-decl}
 use Rattle.scopes.specs.Walk.{twice}
 use Rattle.scopes.specs.Resolve.{testTable, walked}
-use Rattle.scopes.specs.Clash.{Clash, orElse, ruleNode, declared, declaredAll, earliest, clashFrom, modelClash, modelClashes, clashIn, firstClash}
+use Rattle.scopes.specs.Clash.{Clash, clashFrom, clashIn, firstClash}
 use Rattle.scopes.proofs.Clashes.{shows}
-use Rattle.ordered.proofs.Bools.{true-not-false}
-use Rattle.ordered.proofs.Moves.{namedBy, enters}
-use Rattle.scopes.proofs.Namings.{symbol-below, Fit, tree-fits}
+use Rattle.ast.proofs.Bools.{true-not-false}
+use Rattle.scopes.proofs.Namings.{Fit, Symbols, declaredAll-symbols, symbol-below, tree-fits}
 use Rattle.scopes.proofs.Resolving.{table-accepted, walked-shown}
 use Rattle.exports.specs.Packed.{Fits}
 
@@ -98,91 +98,74 @@ module _ (img : List ℕ) where
     second : isSymbol img (c .second) ≡ true
     name : c .name ≡ nameOf img (c .second)
 
-  abbrev Symbols : List ℕ → Type 0
-  Symbols ns = All (λ n. isSymbol img n ≡ true) ns
-
   no-clash : {A : Type 0} {a : A} → nothing ≡ some a → ⊥
   no-clash e = let z : _≡_ {A = ℕ} 0 1 = cc in omega arith
 
-  earliest-symbol : (ds : List ℕ) (x m : ℕ) → Symbols ds → earliest img ds x ≡ some m → isSymbol img m ≡ true
+  earliest-symbol : (ds : List ℕ) (x m : ℕ) → Symbols img ds → earliest (nameOf img) ds x ≡ some m → isSymbol img m ≡ true
   unfolding earliest
   earliest-symbol [] x m a e = absurd (no-clash e)
   earliest-symbol (d ∷ ds) x m (cons h a) e = go (eqb (nameOf img d) x) e (earliest-symbol ds x m a)
     where
-      go : (b : Bool) → _≡_ {A = Option ℕ} (elim b [ true ↦ some d | false ↦ earliest img ds x ]) (some m) → (earliest img ds x ≡ some m → isSymbol img m ≡ true) → isSymbol img m ≡ true
+      go : (b : Bool) → _≡_ {A = Option ℕ} (elim b [ true ↦ some d | false ↦ earliest (nameOf img) ds x ]) (some m) → (earliest (nameOf img) ds x ≡ some m → isSymbol img m ≡ true) → isSymbol img m ≡ true
       go true q f = let z : d ≡ m = cc in subst (λ (y : ℕ). isSymbol img y ≡ true) z h
       go false q f = f q
 
-  from-known : (ds ns : List ℕ) → Symbols ds → Symbols ns → (c : Clash) → clashFrom img ds ns ≡ some c → Known c
+  from-known : (ds ns : List ℕ) → Symbols img ds → Symbols img ns → (c : Clash) → clashFrom (nameOf img) ds ns ≡ some c → Known c
   unfolding clashFrom
   from-known ds [] a b c e = absurd (no-clash e)
-  from-known ds (n ∷ ns) a (cons h b) c e = go (earliest img ds (nameOf img n)) refl e (from-known (ds ++ (n ∷ [])) ns (All-append a (cons h nil)) b c)
+  from-known ds (n ∷ ns) a (cons h b) c e = go (earliest (nameOf img) ds (nameOf img n)) refl e (from-known (ds ++ (n ∷ [])) ns (All-append a (cons h nil)) b c)
     where
-      go : (o : Option ℕ) → earliest img ds (nameOf img n) ≡ o
-          → _≡_ {A = Option Clash} (elim o [ some m ↦ some (record { name = nameOf img n; first = m; second = n }) | nothing ↦ clashFrom img (ds ++ (n ∷ [])) ns ]) (some c)
-          → (clashFrom img (ds ++ (n ∷ [])) ns ≡ some c → Known c) → Known c
+      go : (o : Option ℕ) → earliest (nameOf img) ds (nameOf img n) ≡ o
+          → _≡_ {A = Option Clash} (elim o [ some m ↦ some (record { name = nameOf img n; first = m; second = n }) | nothing ↦ clashFrom (nameOf img) (ds ++ (n ∷ [])) ns ]) (some c)
+          → (clashFrom (nameOf img) (ds ++ (n ∷ [])) ns ≡ some c → Known c) → Known c
       go (some m) q r f =
           let z : record { name = nameOf img n; first = m; second = n } ≡ c = cc in
           subst Known z (record { first = earliest-symbol ds (nameOf img n) m a q; second = h; name = refl })
       go nothing q r f = f r
 
   or-known : (o p : Option Clash) → ((c : Clash) → o ≡ some c → Known c) → ((c : Clash) → p ≡ some c → Known c) → (c : Clash) → orElse o p ≡ some c → Known c
-  unfolding orElse
   or-known (some d) p f g c e = f c e
   or-known nothing p f g c e = g c e
 
-  rule-symbols : (sh : List ℕ) (n : ℕ) → (namedBy sh ≡ true → isSymbol img n ≡ true) → Symbols (ruleNode img sh n)
-  unfolding ruleNode namedBy
-  rule-symbols [] n f = nil
-  rule-symbols (zero ∷ sh) n f = nil
-  rule-symbols (suc c ∷ sh) n f = cons (f refl) nil
+  -- what each list declares is symbols
+  pub data SymbolLists : List (List ℕ) → Type 0 where
+    no-list : SymbolLists []
+    a-list : {ns : List ℕ} {nss : List (List ℕ)} → Symbols img ns → SymbolLists nss → SymbolLists (ns ∷ nss)
+
+  lists-append : {nss mss : List (List ℕ)} → SymbolLists nss → SymbolLists mss → SymbolLists (nss ++ mss)
+  lists-append no-list b = b
+  lists-append (a-list h a) b = a-list h (lists-append a b)
 
   mutual
-    unfolding declared Everywhere Fit enters
+    unfolding modelLists Everywhere
 
-    declared-symbols : (u : Tree) → Everywhere (Fit img) u → Symbols (declared img u)
-    declared-symbols (block ts) q = nil
-    declared-symbols (node n k (inner i) sh ts) q = nil
-    declared-symbols (node n k (outer root) sh ts) q = nil
-    declared-symbols (node n k (outer decl) sh ts) q = all-symbols ts (q .1)
-    declared-symbols (node n k (outer signature) sh ts) q = cons (q .0 .1 refl) nil
-    declared-symbols (node n k (outer rule) sh ts) q = rule-symbols sh n (q .0 .1)
-    declared-symbols (node n k (outer enum) sh ts) q = cons (q .0 .1 refl) (all-symbols ts (q .1))
-    declared-symbols (node n k (outer model) sh ts) q = cons (q .0 .1 refl) nil
+    model-symbols : (u : Tree) → Everywhere (Fit img) u → SymbolLists (modelLists u)
+    model-symbols (block ts) q = no-list
+    model-symbols (node n k (inner i) sh ts) q = no-list
+    model-symbols (node n k (outer root) sh ts) q = no-list
+    model-symbols (node n k (outer decl) sh ts) q = models-symbols ts (q .1)
+    model-symbols (node n k (outer signature) sh ts) q = no-list
+    model-symbols (node n k (outer rule) sh ts) q = no-list
+    model-symbols (node n k (outer enum) sh ts) q = models-symbols ts (q .1)
+    model-symbols (node n k (outer model) sh ts) q = a-list (declaredAll-symbols img ts (q .1)) (models-symbols ts (q .1))
 
-    all-symbols : (us : Trees) → EverywhereAll (Fit img) us → Symbols (declaredAll img us)
-    all-symbols none q = nil
-    all-symbols (u ◂ us) q = All-append (declared-symbols u (q .0)) (all-symbols us (q .1))
+    models-symbols : (us : Trees) → EverywhereAll (Fit img) us → SymbolLists (modelListsAll us)
+    models-symbols none q = no-list
+    models-symbols (u ◂ us) q = lists-append (model-symbols u (q .0)) (models-symbols us (q .1))
 
-  list-known : (us : Trees) → EverywhereAll (Fit img) us → ((c : Clash) → modelClashes img us ≡ some c → Known c)
-      → (c : Clash) → orElse (clashFrom img [] (declaredAll img us)) (modelClashes img us) ≡ some c → Known c
-  list-known us q f c e = or-known (clashFrom img [] (declaredAll img us)) (modelClashes img us) (from-known [] (declaredAll img us) nil (all-symbols us q)) f c e
+  module-symbols : (u : Tree) → Everywhere (Fit img) u → SymbolLists (moduleLists u)
+  unfolding moduleLists Everywhere
+  module-symbols (block ts) q = no-list
+  module-symbols (node n k c sh ts) q = a-list (declaredAll-symbols img ts (q .1)) (models-symbols ts (q .1))
 
-  mutual
-    unfolding modelClash Everywhere
-
-    model-known : (u : Tree) → Everywhere (Fit img) u → (c : Clash) → modelClash img u ≡ some c → Known c
-    model-known (block ts) q c e = absurd (no-clash e)
-    model-known (node n k (inner i) sh ts) q c e = absurd (no-clash e)
-    model-known (node n k (outer root) sh ts) q c e = absurd (no-clash e)
-    model-known (node n k (outer decl) sh ts) q c e = models-known ts (q .1) c e
-    model-known (node n k (outer signature) sh ts) q c e = absurd (no-clash e)
-    model-known (node n k (outer rule) sh ts) q c e = absurd (no-clash e)
-    model-known (node n k (outer enum) sh ts) q c e = models-known ts (q .1) c e
-    model-known (node n k (outer model) sh ts) q c e = list-known ts (q .1) (λ d f. models-known ts (q .1) d f) c e
-
-    models-known : (us : Trees) → EverywhereAll (Fit img) us → (c : Clash) → modelClashes img us ≡ some c → Known c
-    models-known none q c e = absurd (no-clash e)
-    models-known (u ◂ us) q c e = or-known (modelClash img u) (modelClashes img us) (λ d f. model-known u (q .0) d f) (λ d f. models-known us (q .1) d f) c e
-
-  clash-known : (u : Tree) → Everywhere (Fit img) u → (c : Clash) → clashIn img u ≡ some c → Known c
-  unfolding clashIn Everywhere
-  clash-known (block ts) q c e = absurd (no-clash e)
-  clash-known (node n k d sh ts) q c e = list-known ts (q .1) (models-known ts (q .1)) c e
+  lists-known : (nss : List (List ℕ)) → SymbolLists nss → (c : Clash) → clashIn (nameOf img) nss ≡ some c → Known c
+  unfolding clashIn
+  lists-known [] a c e = absurd (no-clash e)
+  lists-known (ns ∷ nss) (a-list h a) c e = or-known (clashFrom (nameOf img) [] ns) (clashIn (nameOf img) nss) (from-known [] ns nil h) (lists-known nss a) c e
 
   first-known : verdict img ≡ 0 → (c : Clash) → firstClash img ≡ some c → Known c
   unfolding firstClash
-  first-known accepted c e = clash-known (treeAt img (last img)) (tree-fits img accepted (last img) (last-below img accepted)) c e
+  first-known accepted c e = lists-known (moduleLists (treeAt img (last img))) (module-symbols (treeAt img (last img)) (tree-fits img accepted (last img) (last-below img accepted))) c e
 
   -- where the walk stops, at the name x of the nodes a and b: x is below S, a and b are below N
   pub twice-below : (tab : List ℕ) (x a b : ℕ) → testTable img tab ≡ 0 → walked img tab ≡ twice x a b → (x < names img) × (a < nodes img) × (b < nodes img)

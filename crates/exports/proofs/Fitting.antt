@@ -14,21 +14,22 @@ use Rattle.ast.specs.Tests.{need, verdict}
 use Rattle.ast.proofs.Accepted.{both, needed, ran, sized}
 use Rattle.rows.specs.Rows.{Row}
 use Rattle.table.specs.Rows.{nodeAt}
-use Rattle.table.specs.Sound.{symbolsIn, scopesIn, parentBelow, rowSound, testSound}
+use Rattle.sound.specs.Sound.{symbolsIn, scopesIn, parentBelow, rowSound, testSound}
 use Rattle.table.specs.State.{Exit}
-use Rattle.table.specs.Table.{Table, symbolOf, lookup}
-use Rattle.scopes.specs.Lookup.{numberOf, testLookup, symbolAnswer, foundBy, lookupCall}
+use Rattle.table.specs.Table.{symbolOf, lookup}
+use Rattle.scopes.specs.Lookup.{testLookup, symbolAnswer, foundBy, lookupCall}
 use Rattle.scopes.specs.Resolve.{testTable, walked, counted, Way, refuses, stops, fills, way, answerBy, tableCall, resolve}
 use Rattle.scopes.specs.Calls.{testRows, rowsCall}
 use Rattle.scopes.specs.Walk.{done}
-use Rattle.ordered.proofs.Bools.{true-is}
+use Rattle.names.specs.Number.{numberOf}
+use Rattle.ast.proofs.Bools.{true-is}
 use Rattle.scopes.proofs.Namings.{symbol-below}
 use Rattle.scopes.proofs.Calls.{rows-table, Went, went}
 use Rattle.scopes.proofs.Headed.{FilledTable, counted-filled}
 use Rattle.scopes.proofs.Resolving.{walked-ended, table-accepted}
 use Rattle.bindings.specs.Errors.{errorRows, testErrors, errors}
 use Rattle.bindings.proofs.Calls.{errors-table}
-use Rattle.bindings.proofs.Few as errors-few
+use Rattle.bindings.proofs.Bound as errors-few
 use Rattle.occurrences.specs.Occurrences.{occurrenceRows, lone, rowsByRule, loneAnswer, occurrences, once}
 use Rattle.ast.specs.Rules.{moduleRules}
 use Rattle.occurrences.proofs.CollectLone.{climb-low}

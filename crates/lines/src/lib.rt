@@ -11,8 +11,8 @@ use occurrences::Once;
 use scopes::Resolved;
 use scopes::Rowed;
 
-// The words that the report lends to a call, all 0 and enough for any image: 3 + 5N and 1 + 2N at N = 2,048.
-const TABLE: usize = 10243;
+// The words that the report lends to a call, all 0 and enough for any image: those of a table, and 1 + 2N, at N = 2,048.
+const TABLE: usize = table::COUNTS + table::ARRAYS * 2048;
 
 const ROWS: usize = 4097;
 

@@ -1,36 +1,39 @@
 -- The plain error rows, read in the table that resolving leaves, are those that meanings give by the tree alone.
 use mathlib.Core.Path.{_≡_, refl, sym, _∙_, ap, ap₂, subst}
 use mathlib.Core.Logic.{_⊎_, inl, inr, _≢_}
-use mathlib.Core.Bool.{Bool, true, false, _&&_, _||_, not}
+use mathlib.Core.Bool.{Bool, true, false, _&&_, _||_, not, and-false, false≢true}
 use mathlib.Core.List.{List, [], _∷_, _++_, append-nil, append-assoc}
-use mathlib.Core.Option.{Option}
+use mathlib.Core.Option.{Option, none as nothing, some}
 use Prim.Native.Nat.{ℕ, zero, suc}
 use native.Mathlib.Decide.{ℕ-discrete}
 use native.Mathlib.Omega.{arith}
+use borrow.Author.Tests.{eq-eqb, ne-eqb, not-true}
 use lib.Dec.{T, eqb, eqb→eq}
+use Rattle.ast.specs.Declarations.{orElse}
 use Rattle.ast.specs.Image.{last, kindAt, nameOf}
-use Rattle.ast.specs.Kinds.{Class, outer, inner, root, decl, signature, rule, enum, model, plain, term, ident, head, headMember, member, branch, match, case, ifVar, definedThen, arg, kinds, kindOf}
+use Rattle.ast.specs.Kinds.{Class, outer, inner, root, decl, signature, rule, enum, model, plain, term, ident, head, headMember, member, case, ifVar, definedThen, arg, kinds, kindOf}
 use Rattle.ast.specs.Tests.{verdict}
 use Rattle.ast.specs.Tree.{Tree, node, block, Trees, none, _◂_}
 use Rattle.ast.proofs.Accepted.{formed, last-below}
 use Rattle.ast.proofs.Unfold.{treeOf}
 use Rattle.ast.proofs.Vars.{and-both, Everywhere, EverywhereAll}
-use Rattle.ordered.proofs.Bools.{not-equal}
-use Rattle.rows.specs.Rows.{Row, row}
-use Rattle.error.specs.Kinds.{introducedInThen, definedNotNew, patternNotFresh}
+use Rattle.rows.specs.Rows.{Row, row, when}
+use Rattle.error.specs.Kinds.{introducedInThen, definedNotNew, patternNotFresh, asked}
 use Rattle.scopes.specs.Resolve.{walked, counted}
+use Rattle.ast.proofs.Bools.{not-equal}
 use Rattle.scopes.specs.Walk.{done}
 use Rattle.table.specs.State.{Exit}
-use Rattle.table.specs.Table.{Table, lookup, isVar, entryAt}
-use Rattle.bindings.specs.Errors.{when, sameNode, asked, atEntry, atExit, introduces, introducedRow, definedRow, definedRows, argRow, argRows, listRows, isCtor, appRows, patternRows, rowsOf, rowsSeq, rowsFirst, rowsDefined, declRows, declsRows, plainRows}
-use Rattle.ast.specs.Rules.{Rule, orElse, saysAll, rules, rulesAll, rulesOf, moduleRules}
+use Rattle.table.specs.Table.{Table, lookup, isVar, entryAt, atEntry, atExit}
+use Rattle.bindings.specs.Errors.{sameNode, introduces, introducedRow, definedRow, definedRows, argRow, argRows, listRows, isCtor, appRows, patternRows, rowsOf, rowsSeq, rowsFirst, rowsDefined, declRows, declsRows, plainRows}
+use Rattle.ast.specs.Rules.{Rule, saysAll, rules, rulesAll, rulesOf, moduleRules}
 use Rattle.sight.specs.Sight.{In}
 use Rattle.sight.proofs.Lists.{Decl, Decls}
 use Rattle.sight.proofs.Members.{in-left, in-right}
 use Rattle.sight.proofs.Steps.{IdentOnly, Body, Bodies, Members}
 use Rattle.sight.proofs.Verdict.{root-of}
-use Rattle.meaning.specs.Meaning.{Env, Part, occurs, names, defines, headPart, isA, meetIdent, meet, fresh, notNew, notNewAll, notFresh, notFreshAll, argsFaults, isCtorHead, appFaults, patternFaults, faults, faultsSeq, faultsFirst, faultsDefined, faultsOf, faultsIn}
-use Rattle.meaning.proofs.Told.{defines-bodies, is-kind, meets, meetsSeq, Reads, Around, Told, ToldSeq, ToldThen, ToldFirst}
+use Rattle.meaning.specs.Meaning.{Env, Part, occurs, declares, names, defines, headPart, subject, inside, firstIs, identOf, isA, isValue, with, meetIdent, meet, standsFor, notNew, notNewAll, notFresh, notFreshAll, isCtorHead, appFaults, patternFaults, faults, faultsSeq, faultsFirst, faultsDefined, ruleFaults, faultsOf, faultsIn}
+use Rattle.meaning.specs.Meaning as meaning
+use Rattle.meaning.proofs.Told.{defines-bodies, is-kind, meets, meetsSeq, Reads, Around, Told, ToldSeq, ToldThen}
 use Rattle.meaning.proofs.Rules.{rules-told}
 use Rattle.meaning.proofs.Shaped.{Kinds, KindsAll, kindsAll-map, suits, NotBlock, AtMostOne, AppKids, Shaped, ShapedAt, module-shaped}
 
@@ -56,27 +59,92 @@ module _ (img : List ℕ) (T₀ : Table) where
   as-class : (c d : Class) → c ≡ d → (n k : ℕ) (sh : List ℕ) (ts : Trees) (env : Env) → Told img T₀ occurs (node n k c sh ts) env → Told img T₀ occurs (node n k d sh ts) env
   as-class c d e n k sh ts env t = subst (λ (x : Class). Told img T₀ occurs (node n k x sh ts) env) e t
 
-  is-var : (s : ℕ) (env : Env) → Reads img T₀ s env → (x : ℕ) → isVar img (lookup img T₀ s x) ≡ isA name kind 13 (env x)
-  is-var s env r x = is-kind img 13 (lookup img T₀ s x) ∙ ap (isA name kind 13) (r x)
+  is-var : (s : ℕ) (env : Env) → Reads img T₀ s env → (x : ℕ) → isVar img (lookup img T₀ s x) ≡ isA kind 13 (env x)
+  is-var s env r x = is-kind img 13 (lookup img T₀ s x) ∙ ap (isA kind 13) (r x)
 
   -- row 1 -----------------------------------------------------------------------------------------------------------------
-  introduced-is : (a : Bool) (p : Part) (o i : ℕ) (env : Env) → Around img T₀ o env (meetIdent name kind p i env) → introducedRow img T₀ a o i ≡ fresh name kind a p o i env
-  unfolding introducedRow introduces fresh
-  introduced-is a p o i env h =
-      let x = atExit img T₀ o i in
-      ap (λ (b : Bool). when (a && (b && not (sameNode x (atEntry img T₀ o i)))) (row introducedInThen o)) (is-kind img 13 x)
-      ∙ ap₂ (λ (y z : Option ℕ). when (a && (isA name kind 13 y && not (sameNode y z))) (row introducedInThen o)) (h .exit (name i)) (h .entry (name i))
+  -- the parts of IdentTerms at which row 1 is asked for: all but a defined-then's variable
+  abbrev Plainly : Part → Type 0
+  Plainly occurs = Unit {0}
+  Plainly declares = Unit {0}
+  Plainly names = Unit {0}
+  Plainly (defines before) = ⊥
 
-  lone-faults : (a : Bool) (p : Part) (n : ℕ) (ts : Trees) → IdentOnly img ts → (env : Env) → Around img T₀ n env (meetsSeq img T₀ p ts env)
-      → rowsSeq img T₀ a n ts ≡ faultsSeq name kind a p n ts env
-  unfolding rowsOf faults meet
-  lone-faults a p n ts h env =
+  -- what stands for a name after an IdentTerm that introduces it, or before one that does not
+  abbrev after : Bool → ℕ → Option ℕ → Option ℕ
+  after b i o = elim b [ true ↦ some i | false ↦ o ]
+
+  -- the name is a Var after the IdentTerm, and not that one before it
+  abbrev new : Option ℕ → Option ℕ → Bool
+  new x o = isA kind 13 x && not (sameNode x o)
+
+  same-twice : (o : Option ℕ) → new o o ≡ false
+  unfolding isA sameNode
+  same-twice nothing = refl
+  same-twice (some j) = ap (λ (b : Bool). eqb (kind j) 13 && not b) (eq-eqb j j refl) ∙ and-false (eqb (kind j) 13)
+
+  -- an IdentTerm that introduces its name is no node that the name stood for: that one is no Var
+  unlike : (i : ℕ) (o : Option ℕ) → kind i ≡ 13 → isA kind 13 o ≡ false → new (some i) o ≡ true
+  unfolding isA sameNode
+  unlike i nothing k f = ap (λ (b : Bool). b && true) (eq-eqb (kind i) 13 k)
+  unlike i (some j) k f =
+      ap (λ (b : Bool). b && not (eqb i j)) (eq-eqb (kind i) 13 k)
+      ∙ ap not (ne-eqb i j (λ q. let z = sym f ∙ ap (λ m. eqb (kind m) 13) (sym q) ∙ eq-eqb (kind i) 13 k in absurd (false≢true z)))
+
+  value-var : (o : Option ℕ) → isValue kind o ≡ false → isA kind 13 o ≡ false
+  unfolding isValue
+  value-var o f = go (isA kind 13 o) f
+    where
+      go : (b : Bool) → elim b as (λ _. Bool) [ true ↦ true | false ↦ isA kind 5 o ] ≡ false → b ≡ false
+      go true q = absurd (false≢true (sym q))
+      go false q = refl
+
+  new-is : (b : Bool) (i : ℕ) (o : Option ℕ) → kind i ≡ 13 → (b ≡ true → isA kind 13 o ≡ false) → new (after b i o) o ≡ b
+  new-is true i o k f = unlike i o k (f refl)
+  new-is false i o k f = same-twice o
+
+  -- what its name stands for after an IdentTerm
+  ident-left : (p : Part) (i : ℕ) (env : Env) → meetIdent name kind p i env (name i) ≡ after (meaning.introduces name kind p i env) i (env (name i))
+  unfolding meetIdent with
+  ident-left p i env = go (meaning.introduces name kind p i env)
+    where
+      go : (b : Bool) → (elim b as (λ _. Env) [ true ↦ with name i env | false ↦ env ]) (name i) ≡ after b i (env (name i))
+      go true = ap (λ (b : Bool). elim b as (λ _. Option ℕ) [ true ↦ some i | false ↦ env (name i) ]) (eq-eqb (name i) (name i) refl)
+      go false = refl
+
+  introduces-unlike : (p : Part) → Plainly p → (i : ℕ) (env : Env) → meaning.introduces name kind p i env ≡ true → isA kind 13 (env (name i)) ≡ false
+  unfolding meaning.introduces
+  introduces-unlike occurs h i env q = value-var (env (name i)) (not-true _ q)
+  introduces-unlike declares h i env q = not-true _ q
+  introduces-unlike names h i env q = absurd (false≢true q)
+  introduces-unlike (defines before) h i env q = absurd h
+
+  -- 'introduces its name', read off the table as the Rust does, is the walk's own introducing
+  pub introduces-is : (p : Part) → Plainly p → (o i : ℕ) (env : Env) → kind i ≡ 13 → Around img T₀ o env (meetIdent name kind p i env)
+      → introduces img T₀ o i ≡ meaning.introduces name kind p i env
+  unfolding introduces
+  introduces-is p s o i env k h =
+      let b = meaning.introduces name kind p i env in
+      ap (λ (c : Bool). c && not (sameNode (atExit img T₀ o i) (atEntry img T₀ o i))) (is-kind img 13 (atExit img T₀ o i))
+      ∙ ap₂ new (h .exit (name i) ∙ ident-left p i env) (h .entry (name i))
+      ∙ new-is b i (env (name i)) k (introduces-unlike p s i env)
+
+  lone-faults : (a : Bool) (p : Part) → Plainly p → (n : ℕ) (ts : Trees) → IdentOnly img ts → (env : Env)
+      → Around img T₀ n env (meetsSeq img T₀ p ts env) → rowsSeq img T₀ a n ts ≡ faultsSeq name kind a p n ts env
+  unfolding rowsOf introducedRow faults meet
+  lone-faults a p s n ts h env =
       subst (λ (us : Trees). Around img T₀ n env (meetsSeq img T₀ p us env) → rowsSeq img T₀ a n us ≡ faultsSeq name kind a p n us env) (sym (h .only))
-      (λ r. ap (λ (l : List Row). l ++ []) (introduced-is a p n (h .i) env r))
+      (λ r. ap (λ (b : Bool). when (a && b) (row introducedInThen n) ++ []) (introduces-is p s n (h .i) env (h .kind) r))
+
+  -- an app head's ident introduces nothing, so it has no row
+  head-faults : (a : Bool) (n : ℕ) (ts : Trees) → IdentOnly img ts → (env : Env) → [] ≡ faultsSeq name kind a names n ts env
+  unfolding faults meaning.introduces
+  head-faults a n ts h env =
+      subst (λ (us : Trees). [] ≡ faultsSeq name kind a names n us env) (sym (h .only)) (ap (λ (b : Bool). when b (row introducedInThen n) ++ []) (sym (and-false a)))
 
   -- row 2 -----------------------------------------------------------------------------------------------------------------
   defined-is : (o : ℕ) (env : Env) → Reads img T₀ (entryAt img (T₀ .words) o) env → (u : Tree) → definedRow img T₀ o u ≡ notNew name kind u env
-  unfolding definedRow notNew
+  unfolding definedRow notNew standsFor subject
   defined-is o env r (block ts) = refl
   defined-is o env r (node n k c sh none) = refl
   defined-is o env r (node n k c sh (block ts ◂ us)) = refl
@@ -89,7 +157,7 @@ module _ (img : List ℕ) (T₀ : Table) where
 
   -- row 3 -----------------------------------------------------------------------------------------------------------------
   arg-is : (u : Tree) → Kinds (λ k. k ≡ 12) u → Everywhere ShapedAt u → (env : Env) → Told img T₀ occurs u env → argRow img T₀ u ≡ notFresh name kind u env
-  unfolding argRow notFresh Kinds Everywhere Told kindOf kinds
+  unfolding argRow notFresh standsFor identOf Kinds Everywhere Told kindOf kinds
   arg-is (block ts) q s env t = refl
   arg-is (node n k c [] ts) q s env t = refl
   arg-is (node n k c (suc x ∷ sh) ts) q s env t = refl
@@ -112,8 +180,9 @@ module _ (img : List ℕ) (T₀ : Table) where
       let b = (and-both (not (eqb l 14) || false) _ a) .1 in
       eqb→eq l 12 ((and-both (eqb l 12) _ b) .0)
 
-  list-is : (u : Tree) (us : Trees) → Kinds (λ k. k ≡ 22) u → Everywhere ShapedAt u → (env : Env) → Told img T₀ occurs u env → listRows img T₀ (u ◂ us) ≡ argsFaults name kind (u ◂ us) env
-  unfolding listRows argsFaults Kinds Everywhere Told kindOf kinds
+  list-is : (u : Tree) (us : Trees) → Kinds (λ k. k ≡ 22) u → Everywhere ShapedAt u → (env : Env) → Told img T₀ occurs u env
+      → listRows img T₀ (u ◂ us) ≡ notFreshAll name kind (inside (u ◂ us)) env
+  unfolding listRows inside notFreshAll Kinds Everywhere Told kindOf kinds
   list-is (block ts) us q s env t = refl
   list-is (node n k c sh ts) us q s env t =
       let e : c ≡ inner plain = s .0 .0 .class ∙ ap (λ j. (kindOf j) .class) q in
@@ -122,11 +191,11 @@ module _ (img : List ℕ) (T₀ : Table) where
 
   -- an app head's ident leaves the environment
   lone-names : (ts : Trees) → IdentOnly img ts → (env : Env) → meetsSeq img T₀ names ts env ≡ env
-  unfolding meet
+  unfolding meet meetIdent meaning.introduces
   lone-names ts h env = subst (λ (us : Trees). meetsSeq img T₀ names us env ≡ env) (sym (h .only)) refl
 
   app-is : (ts : Trees) → AppKids ts → Bodies img ts → EverywhereAll ShapedAt ts → (env : Env) → ToldSeq img T₀ occurs ts env → appRows img T₀ ts ≡ appFaults name kind ts env
-  unfolding appRows isCtor appFaults isCtorHead AppKids Kinds Everywhere Told Body kindOf kinds meet headPart
+  unfolding appRows isCtor appFaults isCtorHead standsFor identOf AppKids Kinds Everywhere Told Body kindOf kinds meet headPart
   app-is none q b s env t = absurd q
   app-is (block hs ◂ us) q b s env t = refl
   app-is (node n k c [] hs ◂ us) q b s env t = refl
@@ -141,7 +210,7 @@ module _ (img : List ℕ) (T₀ : Table) where
       let m : meetsSeq img T₀ names hs env ≡ env = lone-names hs o env in
       let r = subst (λ (x : Class). Told img T₀ occurs (node n k x (zero ∷ sh) hs) env × Told img T₀ occurs w (meets img T₀ occurs (node n k x (zero ∷ sh) hs) env)) e (t .0, t .1 .0) in
       ap₂ (λ (x : Bool) (y : List Row). elim x as (λ _. List Row) [ true ↦ y | false ↦ [] ])
-      (is-kind img 9 (atExit img T₀ n i) ∙ ap (isA name kind 9) (r .0 .0 .exit (name i) ∙ ap (λ (g : Env). g (name i)) m))
+      (is-kind img 9 (atExit img T₀ n i) ∙ ap (isA kind 9) (r .0 .0 .exit (name i) ∙ ap (λ (g : Env). g (name i)) m))
       (list-is w us (q .1) (s .1 .0) env (subst (Told img T₀ occurs w) m (r .1)))
 
   picks : (b : Bool) (l k : List Row) → (T b → l ≡ k) → _≡_ {A = List Row} (elim b [ true ↦ l | false ↦ [] ]) (elim b [ true ↦ k | false ↦ [] ])
@@ -155,7 +224,7 @@ module _ (img : List ℕ) (T₀ : Table) where
   plain-bodies m l d sh ts vs e (inr b) = subst (λ (x : Class). Body img (node m l x sh ts)) e (b .0)
 
   pattern-is : (ts : Trees) → Bodies img ts → EverywhereAll ShapedAt ts → (env : Env) → ToldSeq img T₀ occurs ts env → patternRows img T₀ ts ≡ patternFaults name kind ts env
-  unfolding patternRows patternFaults Everywhere Told Body Kinds kindOf kinds
+  unfolding patternRows patternFaults inside firstIs Everywhere Told Body Kinds kindOf kinds
   pattern-is none b s env t = refl
   pattern-is (block ts ◂ us) b s env t = refl
   pattern-is (node n k c sh none ◂ us) b s env t = refl
@@ -193,70 +262,66 @@ module _ (img : List ℕ) (T₀ : Table) where
     unfolding rowsOf faults Told Body Everywhere Kinds Opens AtMostOne headPart meet
 
     -- the node above matters to IdentTerms alone
-    faults-are : (u : Tree) → Body img u → Everywhere ShapedAt u → (a : Bool) (p : Part) (o o′ : ℕ) (env : Env) → Opens o env u → Told img T₀ p u env
+    faults-are : (u : Tree) → Body img u → Everywhere ShapedAt u → (a : Bool) (p : Part) → Plainly p → (o o′ : ℕ) (env : Env) → Opens o env u → Told img T₀ p u env
         → rowsOf img T₀ a o u ≡ faults name kind a p o′ u env
-    faults-are (block ts) h s a p o o′ env c t = faults-along ts h s c a occurs o o′ env t
-    faults-are (node n k (outer d) sh ts) h s a p o o′ env c t = refl
-    faults-are (node n k (inner plain) sh ts) h s a p o o′ env c t =
+    faults-are (block ts) h s a p q o o′ env c t = faults-along ts h s c a occurs tt o o′ env t
+    faults-are (node n k (outer d) sh ts) h s a p q o o′ env c t = refl
+    faults-are (node n k (inner plain) sh ts) h s a p q o o′ env c t =
         elim (ℕ-discrete k 29) [
           | yes e ↦ faults-one ts h (s .1) (s .0 .1 .atom e) (asked k a) n env (t .0 .entry) (t .1)
-          | no f ↦ faults-along ts h (s .1) (calm k f ts (s .0 .0 .kids)) (asked k a) occurs n n env (t .1)
+          | no f ↦ faults-along ts h (s .1) (calm k f ts (s .0 .0 .kids)) (asked k a) occurs tt n n env (t .1)
         ]
-    faults-are (node n k (inner term) sh ts) h s a p o o′ env c t =
+    faults-are (node n k (inner term) sh ts) h s a p q o o′ env c t =
         elim (h .1) [
-          | inl i ↦ lone-faults a p n ts i env (t .0)
-          | inr b ↦ faults-along ts b (s .1) (quiet (s .0 .0) (s .0 .0 .back)) a p n n env (t .1)
+          | inl i ↦ lone-faults a p q n ts i env (t .0)
+          | inr b ↦ faults-along ts b (s .1) (quiet (s .0 .0) (s .0 .0 .back)) a p q n n env (t .1)
         ]
-    faults-are (node n k (inner ident) sh ts) h s a p o o′ env c t = absurd h
-    faults-are (node n k (inner head) [] ts) h s a p o o′ env c t = refl
-    faults-are (node n k (inner head) (zero ∷ sh) ts) h s a p o o′ env c t = refl
-    faults-are (node n k (inner head) (suc x ∷ sh) ts) h s a p o o′ env c t =
-        faults-along ts h (s .1) (quiet (s .0 .0) (s .0 .0 .back)) a occurs n n env (t .1)
-    faults-are (node n k (inner headMember) sh ts) h s a p o o′ env c t =
+    faults-are (node n k (inner ident) sh ts) h s a p q o o′ env c t = absurd h
+    faults-are (node n k (inner head) [] ts) h s a p q o o′ env c t = absurd h
+    faults-are (node n k (inner head) (zero ∷ sh) ts) h s a p q o o′ env c t = head-faults a n ts (h .1) env
+    faults-are (node n k (inner head) (suc x ∷ sh) ts) h s a p q o o′ env c t =
+        faults-along ts h (s .1) (quiet (s .0 .0) (s .0 .0 .back)) a occurs tt n n env (t .1)
+    faults-are (node n k (inner headMember) sh ts) h s a p q o o′ env c t =
         faults-first ts h (s .1) (quiet (s .0 .0) (s .0 .0 .back)) a n env t
-    faults-are (node n k (inner member) sh ts) h s a p o o′ env c t =
-        faults-first ts h (s .1) (quiet (s .0 .0) (s .0 .0 .back)) a n env t
-    faults-are (node n k (inner branch) sh ts) h s a p o o′ env c t =
-        faults-along ts h (s .1) (quiet (s .0 .0) (s .0 .0 .back)) a occurs n n env t
-    faults-are (node n k (inner match) sh ts) h s a p o o′ env c t =
-        faults-along ts h (s .1) (quiet (s .0 .0) (s .0 .0 .back)) a occurs n n env t
-    faults-are (node n k (inner case) sh ts) h s a p o o′ env c t =
-        ap₂ _++_ (pattern-is ts h (s .1) env t) (faults-along ts h (s .1) (quiet (s .0 .0) (s .0 .0 .back)) a occurs n n env t)
-    faults-are (node n k (inner ifVar) sh ts) h s a p o o′ env c t = refl
-    faults-are (node n k (inner definedThen) sh ts) h s a p o o′ env c t =
-        let q = eqb→eq k 34 (s .0 .0 .back) in
-        faults-defined ts (defines-bodies img ts h) (s .1) (calm k (λ e. omega arith) ts (s .0 .0 .kids)) a o n env (c q) t
-    faults-are (node n k (inner arg) sh ts) h s a p o o′ env c t = refl
+    faults-are (node n k (inner member) sh ts) h s a p q o o′ env c t =
+        faults-first ts h (s .1) (quiet (s .0 .0) (s .0 .0 .back)) a n env (t .1)
+    faults-are (node n k (inner case) sh ts) h s a p q o o′ env c t =
+        ap₂ _++_ (pattern-is ts h (s .1) env (t .1)) (faults-along ts h (s .1) (quiet (s .0 .0) (s .0 .0 .back)) a occurs tt n n env (t .1))
+    faults-are (node n k (inner ifVar) sh ts) h s a p q o o′ env c t = refl
+    faults-are (node n k (inner definedThen) sh ts) h s a p q o o′ env c t =
+        let e = eqb→eq k 34 (s .0 .0 .back) in
+        faults-defined ts (defines-bodies img ts h) (s .1) (calm k (λ z. omega arith) ts (s .0 .0 .kids)) a o n env (c e) (t .1)
+    faults-are (node n k (inner arg) sh ts) h s a p q o o′ env c t = refl
 
-    faults-along : (us : Trees) → Bodies img us → EverywhereAll ShapedAt us → KindsAll (λ l. l ≢ 34) us → (a : Bool) (p : Part) (o o′ : ℕ) (env : Env) → ToldSeq img T₀ p us env
-        → rowsSeq img T₀ a o us ≡ faultsSeq name kind a p o′ us env
-    faults-along none h s c a p o o′ env t = refl
-    faults-along (u ◂ us) h s c a p o o′ env t =
-        ap₂ _++_ (faults-are u (h .0) (s .0) a p o o′ env (calm-opens o env u (c .0)) (t .0))
-        (faults-along us (h .1) (s .1) (c .1) a p o o′ (meets img T₀ p u env) (t .1))
+    faults-along : (us : Trees) → Bodies img us → EverywhereAll ShapedAt us → KindsAll (λ l. l ≢ 34) us → (a : Bool) (p : Part) → Plainly p → (o o′ : ℕ) (env : Env)
+        → ToldSeq img T₀ p us env → rowsSeq img T₀ a o us ≡ faultsSeq name kind a p o′ us env
+    faults-along none h s c a p q o o′ env t = refl
+    faults-along (u ◂ us) h s c a p q o o′ env t =
+        ap₂ _++_ (faults-are u (h .0) (s .0) a p q o o′ env (calm-opens o env u (c .0)) (t .0))
+        (faults-along us (h .1) (s .1) (c .1) a p q o o′ (meets img T₀ p u env) (t .1))
 
     faults-one : (us : Trees) → Bodies img us → EverywhereAll ShapedAt us → AtMostOne us → (a : Bool) (o : ℕ) (env : Env) → Reads img T₀ (entryAt img (T₀ .words) o) env
         → ToldSeq img T₀ occurs us env → rowsSeq img T₀ a o us ≡ faultsSeq name kind a occurs o us env
     faults-one none h s m a o env r t = refl
-    faults-one (u ◂ none) h s m a o env r t = ap (λ (l : List Row). l ++ []) (faults-are u (h .0) (s .0) a occurs o o env (one-opens o env u m r) (t .0))
+    faults-one (u ◂ none) h s m a o env r t = ap (λ (l : List Row). l ++ []) (faults-are u (h .0) (s .0) a occurs tt o o env (one-opens o env u m r) (t .0))
     faults-one (u ◂ (v ◂ us)) h s m a o env r t = absurd m
 
-    faults-first : (us : Trees) → Members img us → EverywhereAll ShapedAt us → KindsAll (λ l. l ≢ 34) us → (a : Bool) (o : ℕ) (env : Env) → ToldFirst img T₀ us env
+    faults-first : (us : Trees) → Members img us → EverywhereAll ShapedAt us → KindsAll (λ l. l ≢ 34) us → (a : Bool) (o : ℕ) (env : Env) → ToldThen img T₀ names us env
         → rowsFirst img T₀ a o us ≡ faultsFirst name kind a o us env
     faults-first none h s c a o env t = refl
-    faults-first (u ◂ us) h s c a o env t = faults-are u (h .0) (s .0) a occurs o o env (calm-opens o env u (c .0)) t
+    faults-first (u ◂ us) h s c a o env t = faults-are u (h .0) (s .0) a occurs tt o o env (calm-opens o env u (c .0)) (t .0)
 
     faults-defined : (us : Trees) → Bodies img us → EverywhereAll ShapedAt us → KindsAll (λ l. l ≢ 34) us → (a : Bool) (at o : ℕ) (env : Env)
         → Reads img T₀ (entryAt img (T₀ .words) at) env → ToldThen img T₀ (defines env) us env → rowsDefined img T₀ a at o us ≡ faultsDefined name kind a o us env
     faults-defined none h s c a at o env r t = refl
-    faults-defined (u ◂ us) h s c a at o env r t = ap₂ _++_ (defineds-are at env r us) (faults-are u (h .0) (s .0) a occurs o o env (calm-opens o env u (c .0)) (t .0))
+    faults-defined (u ◂ us) h s c a at o env r t = ap₂ _++_ (defineds-are at env r us) (faults-are u (h .0) (s .0) a occurs tt o o env (calm-opens o env u (c .0)) (t .0))
 
   -- declarations ----------------------------------------------------------------------------------------------------------
   faults-append : (rs qs : List Rule) → faultsOf name kind (rs ++ qs) ≡ faultsOf name kind rs ++ faultsOf name kind qs
   unfolding faultsOf
   faults-append [] qs = refl
   faults-append (r ∷ rs) qs =
-      let l = faultsSeq name kind false occurs 0 (r .statements) (r .meaning) in
+      let l = ruleFaults name kind r in
       ap (λ (k : List Row). l ++ k) (faults-append rs qs) ∙ sym (append-assoc l (faultsOf name kind rs) (faultsOf name kind qs))
 
   -- an EnumDecl has CtorDecls alone
@@ -289,7 +354,7 @@ module _ (img : List ℕ) (T₀ : Table) where
   Tells rs = (r : Rule) → In r rs → ToldSeq img T₀ occurs (r .statements) (r .meaning)
 
   mutual
-    unfolding declRows rules faultsOf Everywhere Kinds Decl
+    unfolding declRows rules faultsOf ruleFaults Everywhere Kinds Decl
 
     decl-faults : (u : Tree) → Decl img u → Everywhere ShapedAt u → Kinds (λ l. l ≢ 0) u → (m : Env) → Tells (rules img m u) → declRows img T₀ u ≡ faultsOf name kind (rules img m u)
     decl-faults (block ts) d s z m t = refl
@@ -298,7 +363,7 @@ module _ (img : List ℕ) (T₀ : Table) where
     decl-faults (node n k (outer decl) sh ts) d s z m t = decls-faults ts d (s .1) (kindsAll-map (no-module k) ts (s .0 .0 .kids)) m t
     decl-faults (node n k (outer signature) sh ts) d s z m t = refl
     decl-faults (node n k (outer rule) sh ts) d s z m t =
-        faults-along ts (d .1) (s .1) (quiet (s .0 .0) (s .0 .0 .back)) false occurs n 0 m (t (record { statements = ts; meaning = m }) (inl refl))
+        faults-along ts (d .1) (s .1) (quiet (s .0 .0) (s .0 .0 .back)) false occurs tt n 0 m (t (record { statements = ts; meaning = m }) (inl refl))
         ∙ sym (append-nil (faultsSeq name kind false occurs 0 ts m))
     decl-faults (node n k (outer enum) sh ts) d s z m t =
         let q = eqb→eq k 7 (s .0 .0 .back) in

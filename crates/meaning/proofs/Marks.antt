@@ -7,7 +7,7 @@ use mathlib.Core.Option.{Option, none as nothing, some}
 use Prim.Native.Nat.{ℕ, zero, suc}
 use lib.Dec.{eqb}
 use Rattle.ast.specs.Image.{kindAt, nameOf}
-use Rattle.ast.specs.Kinds.{outer, inner, plain, term, ident, head, headMember, member, branch, match, case, ifVar, definedThen, arg}
+use Rattle.ast.specs.Kinds.{outer, inner, plain, term, ident, head, headMember, member, case, ifVar, definedThen, arg}
 use Rattle.ast.specs.Tests.{verdict}
 use Rattle.ast.specs.Tree.{Tree, node, block, Trees, none, _◂_}
 use Rattle.rows.specs.Rows.{Row, row}
@@ -21,8 +21,8 @@ use Rattle.occurrences.specs.Spots.{Spot, spots, spotsSeq, spotsBack, spotsFirs
 use Rattle.sight.specs.Sight.{In}
 use Rattle.sight.proofs.Resolving.{resolved}
 use Rattle.sight.proofs.Steps.{IdentOnly, Body, Bodies, Members}
-use Rattle.meaning.specs.Meaning.{Env, Part, occurs, declares, defines, names, meetIdent, meet, mark, marks, marksSeq, marksThen, marksBack, marksFirst, marksOf, marksIn}
-use Rattle.meaning.proofs.Told.{defines-bodies, meets, meetsSeq, Reads, Told, ToldSeq, ToldThen, ToldFirst}
+use Rattle.meaning.specs.Meaning.{Env, Part, occurs, declares, defines, names, meetIdent, meet, mark, marks, marksSeq, marksThen, marksBack, marksFirst, ruleMarks, marksOf, marksIn}
+use Rattle.meaning.proofs.Told.{defines-bodies, meets, meetsSeq, Reads, Told, ToldSeq, ToldThen}
 use Rattle.meaning.proofs.Rules.{rules-told}
 
 module _ (img : List ℕ) (T : Table) where
@@ -42,7 +42,7 @@ module _ (img : List ℕ) (T : Table) where
       let o = lookup img T (exitAt img (T .words) (s .node)) (nameOf img (s .ident)) in
       ap (listed img T (s .node) o) (rows-append l k) ∙ sym (listed-append (s .node) o (rowsFor img T l) (rowsFor img T k))
 
-  listed-mark : (n : ℕ) (o : Option ℕ) → listed img T n o [] ≡ mark (nameOf img) (kindAt img) n o
+  listed-mark : (n : ℕ) (o : Option ℕ) → listed img T n o [] ≡ mark (kindAt img) n o
   unfolding listed mark
   listed-mark n nothing = refl
   listed-mark n (some i) = refl
@@ -61,12 +61,12 @@ module _ (img : List ℕ) (T : Table) where
       subst (λ (us : Trees). Reads img T (exitAt img (T .words) n) (meetsSeq img T p us env) → rowsFor img T (spotsSeq n us) ≡ marksAll p n us env) (sym (h .only))
       (λ r.
       let o = meetIdent (nameOf img) (kindAt img) p (h .i) env (nameOf img (h .i)) in
-      ap (λ x. listed img T n x []) (r (nameOf img (h .i))) ∙ listed-mark n o ∙ sym (append-nil (mark (nameOf img) (kindAt img) n o)))
+      ap (λ x. listed img T n x []) (r (nameOf img (h .i))) ∙ listed-mark n o ∙ sym (append-nil (mark (kindAt img) n o)))
 
   mutual
     unfolding spots marks Told Body rowsFor
 
-    marks-are : (u : Tree) → Body img u → (p : Part) (o : ℕ) (env : Env) → Told img T p u env → rowsFor img T (spots o u) ≡ marksAt p o u env
+    pub marks-are : (u : Tree) → Body img u → (p : Part) (o : ℕ) (env : Env) → Told img T p u env → rowsFor img T (spots o u) ≡ marksAt p o u env
     marks-are (block ts) h p o env t = marks-along ts h occurs o env t
     marks-are (node n k (outer c) sh ts) h p o env t = absurd h
     marks-are (node n k (inner plain) sh ts) h p o env t = marks-along ts h occurs n env (t .1)
@@ -77,15 +77,13 @@ module _ (img : List ℕ) (T : Table) where
     marks-are (node n k (inner head) (zero ∷ sh) ts) h p o env t = lone-marks names n ts (h .1) env (t .0 .exit)
     marks-are (node n k (inner head) (suc c ∷ sh) ts) h p o env t = marks-along ts h occurs n env (t .1)
     marks-are (node n k (inner headMember) sh ts) h p o env t = marks-first ts h n env t
-    marks-are (node n k (inner member) sh ts) h p o env t = marks-first ts h n env t
-    marks-are (node n k (inner branch) sh ts) h p o env t = marks-along ts h occurs n env t
-    marks-are (node n k (inner match) sh ts) h p o env t = marks-along ts h occurs n env t
-    marks-are (node n k (inner case) sh ts) h p o env t = marks-along ts h occurs n env t
-    marks-are (node n k (inner ifVar) sh ts) h p o env t = marks-then ts h declares n env t
-    marks-are (node n k (inner definedThen) sh ts) h p o env t = marks-back ts (defines-bodies img ts h) (defines env) n env t
+    marks-are (node n k (inner member) sh ts) h p o env t = marks-first ts h n env (t .1)
+    marks-are (node n k (inner case) sh ts) h p o env t = marks-along ts h occurs n env (t .1)
+    marks-are (node n k (inner ifVar) sh ts) h p o env t = marks-then ts h declares n env (t .1)
+    marks-are (node n k (inner definedThen) sh ts) h p o env t = marks-back ts (defines-bodies img ts h) (defines env) n env (t .1)
     marks-are (node n k (inner arg) sh ts) h p o env t = absurd h
 
-    marks-along : (us : Trees) → Bodies img us → (p : Part) (o : ℕ) (env : Env) → ToldSeq img T p us env → rowsFor img T (spotsSeq o us) ≡ marksAll p o us env
+    pub marks-along : (us : Trees) → Bodies img us → (p : Part) (o : ℕ) (env : Env) → ToldSeq img T p us env → rowsFor img T (spotsSeq o us) ≡ marksAll p o us env
     marks-along none h p o env t = refl
     marks-along (u ◂ us) h p o env t =
         rows-append (spots o u) (spotsSeq o us) ∙ ap₂ _++_ (marks-are u (h .0) p o env (t .0)) (marks-along us (h .1) p o (meets img T p u env) (t .1))
@@ -102,14 +100,14 @@ module _ (img : List ℕ) (T : Table) where
     marks-back (u ◂ us) h p o env t =
         rows-append (spotsSeq o us) (spots o u) ∙ ap₂ _++_ (marks-along us (h .1) p o (meets img T occurs u env) (t .1)) (marks-are u (h .0) occurs o env (t .0))
 
-    marks-first : (us : Trees) → Members img us → (o : ℕ) (env : Env) → ToldFirst img T us env → rowsFor img T (spotsFirst o us) ≡ marksFirst (nameOf img) (kindAt img) o us env
+    marks-first : (us : Trees) → Members img us → (o : ℕ) (env : Env) → ToldThen img T names us env → rowsFor img T (spotsFirst o us) ≡ marksFirst (nameOf img) (kindAt img) o us env
     marks-first none h o env t = refl
-    marks-first (u ◂ us) h o env t = marks-are u (h .0) occurs o env t
+    marks-first (u ◂ us) h o env t = marks-are u (h .0) occurs o env (t .0)
 
   -- of the rules of a module
   rules-marks : (rs : List Rule) → ((r : Rule) → In r rs → Bodies img (r .statements) × ToldSeq img T occurs (r .statements) (r .meaning))
       → allRows img T rs ≡ marksOf (nameOf img) (kindAt img) rs
-  unfolding allRows ruleRows ruleSpots marksOf
+  unfolding allRows ruleRows ruleSpots marksOf ruleMarks
   rules-marks [] f = refl
   rules-marks (r ∷ rs) f =
       ap₂ _++_ (let g = f r (inl refl) in marks-along (r .statements) (g .0) occurs 0 (r .meaning) (g .1)) (rules-marks rs (λ q i. f q (inr i)))

@@ -1,14 +1,15 @@
 -- Along a rule, what lookup gives in the table at the entry and at the exit of each node is what the environment says there.
 use mathlib.Core.Path.{_≡_, refl, sym, _∙_, ap, subst}
 use mathlib.Core.Logic.{inl, inr}
-use mathlib.Core.Bool.{Bool, true, false}
+use mathlib.Core.Bool.{Bool, true, false, not}
 use mathlib.Core.List.{List, [], _∷_, _++_}
 use mathlib.Core.Option.{Option, none as nothing, some}
 use Prim.Native.Nat.{ℕ, zero, suc, _≤_, _<_}
 use native.Mathlib.Omega.{arith}
 use lib.Dec.{eqb}
+use Rattle.ast.specs.Declarations.{orElse, earliest}
 use Rattle.ast.specs.Image.{nodes, kindAt, nameOf}
-use Rattle.ast.specs.Kinds.{Class, outer, inner, plain, term, ident, head, headMember, member, branch, match, case, ifVar, definedThen, arg}
+use Rattle.ast.specs.Kinds.{Class, outer, inner, plain, term, ident, head, headMember, member, case, ifVar, definedThen, arg}
 use Rattle.ast.specs.Tree.{Tree, node, block, Trees, none, _◂_}
 use Rattle.table.specs.Layout.{allOnes}
 use Rattle.table.specs.State.{Exit, introduce, back, marked}
@@ -18,14 +19,13 @@ use Rattle.ordered.specs.Walk.{Role, walkIdent, walk, walkSeq, walkFirst}
 use Rattle.ordered.specs.Walk as walking
 use Rattle.ordered.proofs.Kept.{mark-kept}
 use Rattle.ordered.proofs.Moves.{numbers, numbersSeq, marks, drops}
-use Rattle.ast.specs.Rules.{orElse, own}
-use Rattle.sight.proofs.Frame.{mark-lookup, mark-exit-same, new-lookup, new-kept}
+use Rattle.sight.proofs.Frame.{mark-lookup, mark-entry-same, mark-exit-same, new-lookup, new-kept}
 use Rattle.sight.proofs.Members.{in-right}
-use Rattle.sight.proofs.Moves.{Walks}
+use Rattle.sight.proofs.Moves.{Walks, walks-over, walks-along, framed}
 use Rattle.sight.proofs.Steps.{IdentOnly, VarTerm, VarTerms, Idents, Body, Bodies, Members, Defines}
-use Rattle.meaning.specs.Meaning.{Env, Part, occurs, declares, names, defines, headPart, isA, with, meetIdent, meet, meetSeq, meetThen}
+use Rattle.meaning.specs.Meaning.{Env, Part, occurs, declares, names, defines, headPart, isA, with, introduces, meetIdent, meet, meetSeq, meetThen}
 use Rattle.meaning.specs.Meaning as meaning
-use Rattle.meaning.proofs.Keeps.{walks-over, walks-along, walks-first, walks-rise, mark-entry, walks-onward, Ends, ends-after, ends-between}
+use Rattle.meaning.proofs.Keeps.{walks-first, walks-rise, Ends, ends-after, ends-between}
 
 -- a defined-then's variable is a body, and what the walk meets below a defined-then are bodies
 module _ (img : List ℕ) where
@@ -45,12 +45,12 @@ module _ (img : List ℕ) where
   defines-bodies (u ◂ us) d = (d .0, vars-bodies us (d .1))
 
   -- the tests of kinds
-  pub is-kind : (k : ℕ) (o : Option ℕ) → isKind img k o ≡ isA (nameOf img) (kindAt img) k o
+  pub is-kind : (k : ℕ) (o : Option ℕ) → isKind img k o ≡ isA (kindAt img) k o
   unfolding isKind isA
   is-kind k nothing = refl
   is-kind k (some n) = refl
 
-  is-value : (o : Option ℕ) → isValue img o ≡ meaning.isValue (nameOf img) (kindAt img) o
+  is-value : (o : Option ℕ) → isValue img o ≡ meaning.isValue (kindAt img) o
   unfolding isValue meaning.isValue isKind isA
   is-value nothing = refl
   is-value (some n) = refl
@@ -61,6 +61,12 @@ module _ (img : List ℕ) (T : Table) where
 
   abbrev pub meetsSeq : Part → Trees → Env → Env
   meetsSeq p us env = meetSeq (nameOf img) (kindAt img) p us env
+
+  abbrev meetsThen : Part → Trees → Env → Env
+  meetsThen p us env = meetThen (nameOf img) (kindAt img) p us env
+
+  abbrev meetsIdent : Part → ℕ → Env → Env
+  meetsIdent p i env = meetIdent (nameOf img) (kindAt img) p i env
 
   -- lookup at the scope s gives what the environment says
   abbrev pub Reads : ℕ → Env → Type 0
@@ -79,15 +85,13 @@ module _ (img : List ℕ) (T : Table) where
     Told p (node n k (outer c) sh ts) env = Unit {0}
     Told p (node n k (inner plain) sh ts) env = Around n env (meetsSeq occurs ts env) × ToldSeq occurs ts env
     Told p (node n k (inner term) sh ts) env = Around n env (meetsSeq p ts env) × ToldSeq p ts env
-    Told p (node n k (inner ident) sh ts) env = Unit {0}
+    Told p (node n k (inner ident) sh ts) env = Around n env (meetsIdent p n env)
     Told p (node n k (inner head) sh ts) env = Around n env (meetsSeq (headPart sh) ts env) × ToldSeq (headPart sh) ts env
-    Told p (node n k (inner headMember) sh ts) env = ToldFirst ts env
-    Told p (node n k (inner member) sh ts) env = ToldFirst ts env
-    Told p (node n k (inner branch) sh ts) env = ToldSeq occurs ts env
-    Told p (node n k (inner match) sh ts) env = ToldSeq occurs ts env
-    Told p (node n k (inner case) sh ts) env = ToldSeq occurs ts env
-    Told p (node n k (inner ifVar) sh ts) env = ToldThen declares ts env
-    Told p (node n k (inner definedThen) sh ts) env = ToldThen (defines env) ts env
+    Told p (node n k (inner headMember) sh ts) env = ToldThen names ts env
+    Told p (node n k (inner member) sh ts) env = Around n env (meetsThen names ts env) × ToldThen names ts env
+    Told p (node n k (inner case) sh ts) env = Around n env env × ToldSeq occurs ts env
+    Told p (node n k (inner ifVar) sh ts) env = Around n env (meetsThen declares ts env) × ToldThen declares ts env
+    Told p (node n k (inner definedThen) sh ts) env = Around n env (meetsThen (defines env) ts env) × ToldThen (defines env) ts env
     Told p (node n k (inner arg) sh ts) env = Unit {0}
 
     pub ToldSeq : Part → Trees → Env → Type 0
@@ -97,10 +101,6 @@ module _ (img : List ℕ) (T : Table) where
     pub ToldThen : Part → Trees → Env → Type 0
     ToldThen p none env = Unit {0}
     ToldThen p (u ◂ us) env = Told occurs u env × ToldSeq p us (meets occurs u env)
-
-    pub ToldFirst : Trees → Env → Type 0
-    ToldFirst none env = Unit {0}
-    ToldFirst (u ◂ us) env = Told occurs u env
 
   -- where the walk stands, with the environment there
   pub record At (env : Env) (e : Exit) : Type 0 where
@@ -129,6 +129,17 @@ module _ (img : List ℕ) (T : Table) where
   unfolding mark
   marked-at n c x e l a = record { sane = mark-kept img n c x (e .table) l (a .sane); inside = a .inside; reads = a .reads }
 
+  -- what T has at the node n, which is entered at e and left at e′
+  around : (n : ℕ) (env env′ : Env) (e e′ : Exit)
+      → entryAt img (T .words) n ≡ entryAt img ((mark img n (e .scope) (e′ .scope) (e′ .table)) .words) n
+      → exitAt img (T .words) n ≡ exitAt img ((mark img n (e .scope) (e′ .scope) (e′ .table)) .words) n
+      → n < nodes img → At env e → At env′ e′ → Around n env env′
+  around n env env′ e e′ p q l a a′ =
+      record {
+        entry = subst (λ s. Reads s env) (sym (p ∙ mark-entry-same img n (e .scope) (e′ .scope) (e′ .table) l (a′ .sane))) (a .reads);
+        exit = subst (λ s. Reads s env′) (sym (q ∙ mark-exit-same img n (e .scope) (e′ .scope) (e′ .table) l (a′ .sane))) (a′ .reads);
+      }
+
   -- the node n around what stands below it
   wrapped : (n : ℕ) (ns : List ℕ) {env env′ : Env} {X : Type 0} (e e′ : Exit) → Walks img ns e e′ → At env e → (Kept-by ns (e′ .table) → X × At env′ e′)
       → Kept-by (ns ++ (n ∷ [])) (mark img n (e .scope) (e′ .scope) (e′ .table)) → (Around n env env′ × X) × At env′ (marked img n (e .scope) e′)
@@ -136,15 +147,8 @@ module _ (img : List ℕ) (T : Table) where
   wrapped n ns {env} {env′} e e′ w a below k =
       let i = in-right n ns (n ∷ []) (inl refl) in
       let l = k .small n i in
-      let f = below (ends-between img T w (marks {e = e′} n (e .scope) (e′ .scope) tt) (a .sane) (a .inside) k) in
-      let s = f .1 .sane in (
-        (
-          record {
-            entry = subst (λ s. Reads s env) (sym (k .entries n i ∙ mark-entry img n (e .scope) (e′ .scope) (e′ .table) l s)) (a .reads);
-            exit = subst (λ s. Reads s env′) (sym (k .exits n i ∙ mark-exit-same img n (e .scope) (e′ .scope) (e′ .table) l s)) (f .1 .reads);
-          },
-          f .0,
-        ),
+      let f = below (ends-between img T w (marks {e = e′} n (e .scope) (e′ .scope) tt) (a .sane) (a .inside) k) in (
+        (around n env env′ e e′ (k .entries n i) (k .exits n i) l a (f .1), f .0),
         marked-at n (e .scope) (e′ .scope) e′ l (f .1),
       )
 
@@ -154,10 +158,10 @@ module _ (img : List ℕ) (T : Table) where
 
   -- an ident ------------------------------------------------------------------------------------------------------------
   abbrev named : ℕ → Env → Env
-  named i env = with (nameOf img) (kindAt img) i env
+  named i env = with (nameOf img) i env
 
-  own-with : (i : ℕ) (env : Env) (x : ℕ) → orElse (own img i x) (env x) ≡ named i env x
-  unfolding own with
+  own-with : (i : ℕ) (env : Env) (x : ℕ) → orElse (earliest (nameOf img) (i ∷ []) x) (env x) ≡ named i env x
+  unfolding earliest with
   own-with i env x = go (eqb (nameOf img i) x)
     where
       go : (b : Bool) → orElse (elim b [ true ↦ some i | false ↦ nothing ]) (env x) ≡ elim b [ true ↦ some i | false ↦ env x ]
@@ -165,11 +169,12 @@ module _ (img : List ℕ) (T : Table) where
       go false = refl
 
   module _ (i : ℕ) (env : Env) (e : Exit) (a : At env e) where
+    -- the walk goes on from a test that says whether the name is known
     abbrev stepped : Bool → Exit
     stepped b = elim b [ true ↦ e | false ↦ introduce img i e ]
 
     abbrev said : Bool → Env
-    said b = elim b [ true ↦ env | false ↦ named i env ]
+    said b = elim (not b) [ true ↦ named i env | false ↦ env ]
 
     picked : (b : Bool) → ((s x : ℕ) → s < e .table .scopes → lookup img T s x ≡ lookup img (e .table) s x)
         → Kept-by (i ∷ []) (mark img i (e .scope) ((stepped b) .scope) ((stepped b) .table)) → At (said b) (stepped b)
@@ -187,42 +192,46 @@ module _ (img : List ℕ) (T : Table) where
               k .lookups K x (omega arith)
               ∙ mark-lookup img i (e .scope) K t (k .small i (inl refl)) K x
               ∙ new-lookup img i e (a .sane) (a .inside) (omega arith) (omega arith) x
-              ∙ ap (orElse (own img i x)) (sym (old (e .scope) x (a .inside)) ∙ a .reads x)
+              ∙ ap (orElse (earliest (nameOf img) (i ∷ []) x)) (sym (old (e .scope) x (a .inside)) ∙ a .reads x)
               ∙ own-with i env x;
         }
 
     ident-at : {r : Role} {p : Part} → Alike (e .table .scopes) r p → ((s x : ℕ) → s < e .table .scopes → lookup img T s x ≡ lookup img (e .table) s x)
         → Kept-by (i ∷ []) (mark img i (e .scope) ((walkIdent img r i e) .scope) ((walkIdent img r i e) .table))
-        → At (meetIdent (nameOf img) (kindAt img) p i env) (walkIdent img r i e)
-    unfolding walkIdent meetIdent
+        → At (meetsIdent p i env) (walkIdent img r i e)
+    unfolding walkIdent meetIdent introduces
     ident-at as-names old k = a
     ident-at as-occurs old k =
         let o = lookup img (e .table) (e .scope) (nameOf img i) in
         subst (λ (c : Bool). At (said c) (stepped (isValue img o)))
-        (is-value img o ∙ ap (meaning.isValue (nameOf img) (kindAt img)) (sym (old (e .scope) (nameOf img i) (a .inside)) ∙ a .reads (nameOf img i)))
+        (is-value img o ∙ ap (meaning.isValue (kindAt img)) (sym (old (e .scope) (nameOf img i) (a .inside)) ∙ a .reads (nameOf img i)))
         (picked (isValue img o) old k)
     ident-at as-declares old k =
         let o = lookup img (e .table) (e .scope) (nameOf img i) in
         subst (λ (c : Bool). At (said c) (stepped (isKind img 13 o)))
-        (is-kind img 13 o ∙ ap (isA (nameOf img) (kindAt img) 13) (sym (old (e .scope) (nameOf img i) (a .inside)) ∙ a .reads (nameOf img i)))
+        (is-kind img 13 o ∙ ap (isA (kindAt img) 13) (sym (old (e .scope) (nameOf img i) (a .inside)) ∙ a .reads (nameOf img i)))
         (picked (isKind img 13 o) old k)
     ident-at (as-defines {b = b} l f) old k =
         let o = lookup img (e .table) b (nameOf img i) in
         subst (λ (c : Bool). At (said c) (stepped (isKind img 13 o)))
-        (is-kind img 13 o ∙ ap (isA (nameOf img) (kindAt img) 13) (sym (old b (nameOf img i) l) ∙ f (nameOf img i)))
+        (is-kind img 13 o ∙ ap (isA (kindAt img) 13) (sym (old b (nameOf img i) l) ∙ f (nameOf img i)))
         (picked (isKind img 13 o) old k)
 
   -- an IdentTerm, marked
   ident-told : {r : Role} {p : Part} (i k : ℕ) (sh : List ℕ) (us : Trees) {env : Env} (e : Exit) → Alike (e .table .scopes) r p → At env e
       → Kept-by (i ∷ []) ((walk img r (node i k (inner ident) sh us) e) .table)
-      → At (meets p (node i k (inner ident) sh us) env) (walk img r (node i k (inner ident) sh us) e)
-  unfolding walk meet numbers marked
+      → Around i env (meetsIdent p i env) × At (meetsIdent p i env) (walk img r (node i k (inner ident) sh us) e)
+  unfolding walk numbers marked
   ident-told {r} {p} i k sh us {env} e q a h =
-      let f = (walks-onward img (walks-over img r (node i k (inner ident) sh us) e) (h .few) (h .small) (a .sane) (a .inside)) .0 in
-      let m = f .scopes≤ in
+      let v = walks-over img r (node i k (inner ident) sh us) e in
+      let f = framed img v (h .few) (h .small) (a .sane) (a .inside) in
+      let m = walks-rise img v in
       let w = walkIdent img r i e in
-      marked-at i (e .scope) (w .scope) w (h .small i (inl refl))
-      (ident-at i env e a q (λ s x l. h .lookups s x (omega arith) ∙ f .later .lookups s x l) h)
+      let l = h .small i (inl refl) in
+      let z : At (meetsIdent p i env) w = ident-at i env e a q (λ s x l. h .lookups s x (omega arith) ∙ f .later .lookups s x l) h in (
+        around i env (meetsIdent p i env) e w (h .entries i (inl refl)) (h .exits i (inl refl)) l a z,
+        marked-at i (e .scope) (w .scope) w l z,
+      )
 
   -- trees ---------------------------------------------------------------------------------------------------------------
   -- the one child is an IdentTerm
@@ -231,24 +240,25 @@ module _ (img : List ℕ) (T : Table) where
   unfolding numbers walk meet Told
   lone-told {r} {p} ts h {env} e q a =
       subst (λ (us : Trees). Kept-by (numbersSeq us) ((walkSeq img r us e) .table) → ToldSeq p us env × At (meetsSeq p us env) (walkSeq img r us e)) (sym (h .only))
-      (λ k. ((tt, tt), ident-told (h .i) (h .k) (h .sh) (h .us) e q a k))
+      (λ k. let f = ident-told (h .i) (h .k) (h .sh) (h .us) e q a k in ((f .0, tt), f .1))
 
   -- member names
   names-told : (us : Trees) → Idents img us → {env : Env} (e : Exit) → At env e → Kept-by (numbersSeq us) ((walkSeq img walking.names us e) .table)
-      → At (meetsSeq names us env) (walkSeq img walking.names us e)
-  unfolding numbers walk meet Idents
-  names-told none h e a k = a
+      → ToldSeq names us env × At (meetsSeq names us env) (walkSeq img walking.names us e)
+  unfolding numbers walk meet meetIdent introduces Told Idents
+  names-told none h e a k = (tt, a)
   names-told (block ts ◂ us) h e a k = absurd h
   names-told (node n k c sh ts ◂ us) h {env} e a kept =
       subst
       (λ (d : Class). Kept-by (numbersSeq (node n k d sh ts ◂ us)) ((walkSeq img walking.names (node n k d sh ts ◂ us) e) .table)
-      → At (meetsSeq names (node n k d sh ts ◂ us) env) (walkSeq img walking.names (node n k d sh ts ◂ us) e))
+      → ToldSeq names (node n k d sh ts ◂ us) env × At (meetsSeq names (node n k d sh ts ◂ us) env) (walkSeq img walking.names (node n k d sh ts ◂ us) e))
       (sym (h .0))
       (λ kp.
       let u = node n k (inner ident) sh ts in
       let e′ = walk img walking.names u e in
-      let f : At env e′ = ident-told n k sh ts e as-names a (ends-between img T (walks-over img walking.names u e) (walks-along img walking.names us e′) (a .sane) (a .inside) kp) in
-      names-told us (h .1) e′ f (ends-after img T (n ∷ []) (numbersSeq us) ((walkSeq img walking.names us e′) .table) kp)) kept
+      let f = ident-told {p = names} n k sh ts {env = env} e as-names a (ends-between img T (walks-over img walking.names u e) (walks-along img walking.names us e′) (a .sane) (a .inside) kp) in
+      let g = names-told us (h .1) {env = env} e′ (f .1) (ends-after img T (n ∷ []) (numbersSeq us) ((walkSeq img walking.names us e′) .table) kp) in
+      ((f .0, g .0), g .1)) kept
 
   mutual
     unfolding numbers walk meet Told Body
@@ -275,28 +285,18 @@ module _ (img : List ℕ) (T : Table) where
         let f = toldFirst ts h e a (ends-between img T (walks-first img walking.names ts e) (marks {e = e′} n allOnes allOnes tt) (a .sane) (a .inside) kp) in
         (f .0, marked-at n allOnes allOnes e′ (kp .small n (in-right n (numbersSeq ts) (n ∷ []) (inl refl))) (f .1))
     told (node n k (inner member) sh ts) h e q a kp =
-        let f = wrapped n (numbersSeq ts) e (walkFirst img walking.names ts e) (walks-first img walking.names ts e) a (λ kq. toldFirst ts h e a kq) kp in
-        (f .0 .1, f .1)
-    told (node n k (inner branch) sh ts) h e q a kp =
-        let f = wrapped n (numbersSeq ts) e (walkSeq img walking.occurs ts e) (walks-along img walking.occurs ts e) a (λ kq. toldSeq ts h e as-occurs a kq) kp in
-        (f .0 .1, f .1)
-    told (node n k (inner match) sh ts) h e q a kp =
-        let f = wrapped n (numbersSeq ts) e (walkSeq img walking.occurs ts e) (walks-along img walking.occurs ts e) a (λ kq. toldSeq ts h e as-occurs a kq) kp in
-        (f .0 .1, f .1)
+        wrapped n (numbersSeq ts) e (walkFirst img walking.names ts e) (walks-first img walking.names ts e) a (λ kq. toldFirst ts h e a kq) kp
     told (node n k (inner case) sh ts) h {env = env} e q a kp =
         let e′ = walkSeq img walking.occurs ts e in
         let w = walks-along img walking.occurs ts e in
-        let f = wrapped n (numbersSeq ts) e (back img (e .scope) e′) (drops w) a
-        (λ kq. let g = toldSeq ts h {env = env} e as-occurs a kq in (g .0, back-at e e′ (walks-rise img w) a (g .1))) kp in
-        (f .0 .1, f .1)
+        wrapped n (numbersSeq ts) e (back img (e .scope) e′) (drops w) a
+        (λ kq. let g = toldSeq ts h {env = env} e as-occurs a kq in (g .0, back-at e e′ (walks-rise img w) a (g .1))) kp
     told (node n k (inner ifVar) sh ts) h e q a kp =
-        let f = wrapped n (numbersSeq ts) e (walkFirst img walking.declares ts e) (walks-first img walking.declares ts e) a (λ kq. toldThen ts h e as-declares a kq) kp in
-        (f .0 .1, f .1)
+        wrapped n (numbersSeq ts) e (walkFirst img walking.declares ts e) (walks-first img walking.declares ts e) a (λ kq. toldThen ts h e as-declares a kq) kp
     told (node n k (inner definedThen) sh ts) h e q a kp =
         let r = walking.defines (e .scope) in
-        let f = wrapped n (numbersSeq ts) e (walkFirst img r ts e) (walks-first img r ts e) a
-        (λ kq. toldThen ts (defines-bodies img ts h) e (as-defines (a .inside) (a .reads)) a kq) kp in
-        (f .0 .1, f .1)
+        wrapped n (numbersSeq ts) e (walkFirst img r ts e) (walks-first img r ts e) a
+        (λ kq. toldThen ts (defines-bodies img ts h) e (as-defines (a .inside) (a .reads)) a kq) kp
     told (node n k (inner arg) sh ts) h e q a kp = absurd h
 
     toldSeq : (us : Trees) → Bodies img us → {r : Role} {p : Part} {env : Env} (e : Exit) → Alike (e .table .scopes) r p → At env e
@@ -320,12 +320,13 @@ module _ (img : List ℕ) (T : Table) where
         ((f .0, g .0), g .1)
 
     toldFirst : (us : Trees) → Members img us → {env : Env} (e : Exit) → At env e → Kept-by (numbersSeq us) ((walkFirst img walking.names us e) .table)
-        → ToldFirst us env × At (meetThen (nameOf img) (kindAt img) names us env) (walkFirst img walking.names us e)
+        → ToldThen names us env × At (meetsThen names us env) (walkFirst img walking.names us e)
     toldFirst none h e a k = (tt, a)
     toldFirst (u ◂ us) h {env} e a k =
         let e′ = walk img walking.occurs u e in
         let f = told u (h .0) {env = env} e as-occurs a (ends-between img T (walks-over img walking.occurs u e) (walks-along img walking.names us e′) (a .sane) (a .inside) k) in
-        (f .0, names-told us (h .1) e′ (f .1) (ends-after img T (numbers u) (numbersSeq us) ((walkSeq img walking.names us e′) .table) k))
+        let g = names-told us (h .1) e′ (f .1) (ends-after img T (numbers u) (numbersSeq us) ((walkSeq img walking.names us e′) .table) k) in
+        ((f .0, g .0), g .1)
 
   -- a rule's statements, from where the environment says what lookup gives
   pub rule-told : (ts : Trees) → Bodies img ts → {env : Env} (e : Exit) → At env e → Kept-by (numbersSeq ts) ((walkSeq img walking.occurs ts e) .table) → ToldSeq occurs ts env

@@ -5,6 +5,7 @@ use mathlib.Core.List.{List}
 use mathlib.Core.Option.{Option}
 use Prim.Native.Nat.{ℕ}
 use Rattle.ast.specs.Image.{nodes}
+use Rattle.table.specs.Values.{sought}
 use Rattle.ast.specs.Rules.{moduleRules}
 use Rattle.table.specs.Table.{Table, lookup}
 use Rattle.table.specs.Values.{tableOf}
@@ -19,7 +20,7 @@ use Rattle.scopes.proofs.Calls.{call-filled}
 use Rattle.scopes.proofs.Headed.{resolved-filled}
 use Rattle.occurrences.specs.Spots.{Spot}
 use Rattle.occurrences.specs.Occurrences.{found, occurrenceRows, lone, rowsByRule, loneAnswer, once}
-use Rattle.occurrences.specs.Collect.{sought, Whole, Nodes}
+use Rattle.occurrences.specs.Promises.{Whole, Nodes}
 use Rattle.occurrences.proofs.Few.{rows-few}
 use Rattle.occurrences.proofs.CollectRules.{same-lists, same-all}
 

@@ -13,7 +13,7 @@ use borrow.Author.Tests.{eqb-true, eqb-false, le-leb, lt-leb}
 use Rattle.ast.specs.Image.{nodes, kindAt, field, nameOf}
 use Rattle.ast.specs.Kinds.{kindOf}
 use Rattle.ast.specs.Items.{items}
-use Rattle.ast.specs.Scan.{bump, claimAll}
+use Rattle.ast.specs.Promises.{bump, claimAll}
 use Rattle.ast.specs.declared.NodeId.{NodeId}
 use Rattle.ast.specs.Tests.{is, times}
 use Rattle.ast.proofs.Accepted.{sized}
@@ -21,12 +21,12 @@ use Rattle.ast.proofs.Count.{is-same, is-other}
 use Rattle.ast.proofs.Runs.{sat, claimed-times}
 use Rattle.ast.proofs.Unfold.{All, nil, cons, All-map}
 use Rattle.table.specs.Table.{Table, rowIs, findFrom, climb, lookup, exitAt}
-use Rattle.table.specs.Rows.{nodeAt}
+use Rattle.table.specs.Rows.{nodeAt, parentAt}
 use Rattle.rows.specs.Rows.{Row, row, rights, Appended, readRows}
 use Rattle.rows.proofs.Reading.{read-appended, read-more, read-end, read-all}
 use Rattle.occurrences.specs.Spots.{Spot, spotsSeq}
 use Rattle.occurrences.specs.Occurrences.{found, listed, rowsFor, timesBound, loneIn, lone}
-use Rattle.occurrences.specs.Collect.{rowsAt, joined, listsIn, listsAt, Listing, ListingRun, under, uncounted, recount, recounted, loneOf, Scratch, Searched}
+use Rattle.occurrences.specs.Promises.{rowsAt, joined, listsIn, listsAt, Listing, ListingRun, under, uncounted, recount, recounted, loneOf, Scratch, Searched}
 use Rattle.occurrences.specs.declared.Checked.{Checked}
 use Rattle.occurrences.specs.declared.Checked.the-variants.{Ok, Lone}
 use Rattle.occurrences.proofs.CollectRules.{joined-append, items-done, items-all, RuleRun, ruleRun, DeclItem, declItem}
@@ -120,10 +120,10 @@ module _ (img : List ℕ) (t : Table) (low : (j : ℕ) → j < t .symbols → no
   pub climb-low : (f s x m : ℕ) → climb img f (t .words) (t .symbols) s x ≡ some m → m < nodes img
   unfolding climb
   climb-low zero s x m e = absurd (let z : _≡_ {A = ℕ} 0 1 = cc in omega arith)
-  climb-low (suc f) s x m e = go (findFrom img (t .symbols) (t .words) 0 s x) refl e (λ q. climb-low f (getD (t .words) (3 + 2 * nodes img + s) 0) x m q)
+  climb-low (suc f) s x m e = go (findFrom img (t .symbols) (t .words) 0 s x) refl e (λ q. climb-low f (parentAt (nodes img) (t .words) s) x m q)
     where
       p : ℕ
-      p = getD (t .words) (3 + 2 * nodes img + s) 0
+      p = parentAt (nodes img) (t .words) s
 
       up : (b : Bool) → _≡_ {A = Option ℕ} (elim b [ true ↦ climb img f (t .words) (t .symbols) p x | false ↦ nothing ]) (some m) → (climb img f (t .words) (t .symbols) p x ≡ some m → m < nodes img) → m < nodes img
       up true q h = h q

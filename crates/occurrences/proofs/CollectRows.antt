@@ -8,17 +8,17 @@ use native.Mathlib.Omega.{arith}
 use lib.Dec.{eqb}
 use lib.ListN.{getD}
 use Rattle.ast.specs.Image.{kindAt, field}
-use Rattle.ast.specs.Kinds.{Class, outer, inner, plain, term, ident, head, headMember, member, branch, match, case, ifVar, definedThen, arg, Field, name, child, list, cases, noChild, Kind, kindOf}
+use Rattle.ast.specs.Kinds.{Class, outer, inner, plain, term, ident, head, headMember, member, case, ifVar, definedThen, arg, Field, name, child, list, cases, noChild, Kind, kindOf}
 use Rattle.ast.specs.Tree.{Tree, node, block, Trees, none, _◂_, swap, ordered, treeAt}
 use Rattle.ast.specs.Items.{items, blocks, below}
 use Rattle.ast.specs.Is.{Is, kindBy}
 use Rattle.ast.proofs.Row.{append, append-none, allKids, shapes, nodeOf}
 use Rattle.ast.proofs.Shapes.{tree-of, items-more, caseKids, case-kids, case-one}
-use Rattle.table.specs.Table.{Table}
+use Rattle.table.specs.Table.{Table, isVar}
 use Rattle.rows.specs.Rows.{Row, row}
 use Rattle.occurrences.specs.Spots.{Spot, spots, spotsSeq, spotsBack, spotsFirst}
 use Rattle.occurrences.specs.Occurrences.{listed, found, rowsFor}
-use Rattle.occurrences.specs.Collect.{spot, identRows, rowsIn, rowsAt}
+use Rattle.occurrences.specs.Promises.{spot, identRows, rowsIn, rowsAt}
 
 -- any class but an IdentTerm's: its spots do not depend on the node above
 unfoldable pub bare : Class → Bool
@@ -29,8 +29,6 @@ bare (inner ident) = false
 bare (inner head) = true
 bare (inner headMember) = true
 bare (inner member) = true
-bare (inner branch) = true
-bare (inner match) = true
 bare (inner case) = true
 bare (inner ifVar) = true
 bare (inner definedThen) = true
@@ -45,8 +43,6 @@ threads (inner ident) = false
 threads (inner head) = true
 threads (inner headMember) = false
 threads (inner member) = false
-threads (inner branch) = true
-threads (inner match) = true
 threads (inner case) = true
 threads (inner ifVar) = true
 threads (inner definedThen) = false
@@ -64,8 +60,6 @@ owner-class (inner ident) n k sh ts b o p = never b
 owner-class (inner head) n k sh ts b o p = refl
 owner-class (inner headMember) n k sh ts b o p = refl
 owner-class (inner member) n k sh ts b o p = refl
-owner-class (inner branch) n k sh ts b o p = refl
-owner-class (inner match) n k sh ts b o p = refl
 owner-class (inner case) n k sh ts b o p = refl
 owner-class (inner ifVar) n k sh ts b o p = refl
 owner-class (inner definedThen) n k sh ts b o p = refl
@@ -80,8 +74,6 @@ threads-class (inner ident) n k sh ts b o = never b
 threads-class (inner head) n k sh ts b o = refl
 threads-class (inner headMember) n k sh ts b o = never b
 threads-class (inner member) n k sh ts b o = never b
-threads-class (inner branch) n k sh ts b o = refl
-threads-class (inner match) n k sh ts b o = refl
 threads-class (inner case) n k sh ts b o = refl
 threads-class (inner ifVar) n k sh ts b o = refl
 threads-class (inner definedThen) n k sh ts b o = never b
@@ -103,17 +95,14 @@ module _ (img : List ℕ) (t : Table) where
   rows-append (s ∷ l) k = ap (listed img t (s .node) (found img t s)) (rows-append l k) ∙ listed-append (s .node) (found img t s) (rowsFor img t l) (rowsFor img t k)
 
   -- an ident: its row if lookup gives a Var, else none
-  pub ident-var : (n i b : ℕ) → found img t (spot n i) ≡ some b → kindAt img b ≡ 13 → identRows img t n i ≡ row n b ∷ []
+  pub ident-var : (n i b : ℕ) → found img t (spot n i) ≡ some b → isVar img (some b) ≡ true → identRows img t n i ≡ row n b ∷ []
   unfolding rowsFor listed
-  ident-var n i b e q = ap (λ (o : Option ℕ). listed img t n o []) e ∙ ap (λ (x : ℕ). elim (eqb x 13) as (λ _. List Row) [ true ↦ row n b ∷ [] | false ↦ [] ]) q
+  ident-var n i b e q = ap (λ (o : Option ℕ). listed img t n o []) e ∙ ap (λ (x : Bool). elim x as (λ _. List Row) [ true ↦ row n b ∷ [] | false ↦ [] ]) q
 
-  pub ident-other : (n i b : ℕ) → found img t (spot n i) ≡ some b → eqb (kindAt img b) 13 ≡ false → identRows img t n i ≡ []
+  pub ident-other : (n i : ℕ) (o : Option ℕ) → found img t (spot n i) ≡ o → isVar img o ≡ false → identRows img t n i ≡ []
   unfolding rowsFor listed
-  ident-other n i b e q = ap (λ (o : Option ℕ). listed img t n o []) e ∙ ap (λ (x : Bool). elim x as (λ _. List Row) [ true ↦ row n b ∷ [] | false ↦ [] ]) q
-
-  pub ident-none : (n i : ℕ) → found img t (spot n i) ≡ nothing → identRows img t n i ≡ []
-  unfolding rowsFor listed
-  ident-none n i e = ap (λ (o : Option ℕ). listed img t n o []) e
+  ident-other n i nothing e q = ap (λ (o : Option ℕ). listed img t n o []) e
+  ident-other n i (some b) e q = ap (λ (o : Option ℕ). listed img t n o []) e ∙ ap (λ (x : Bool). elim x as (λ _. List Row) [ true ↦ row n b ∷ [] | false ↦ [] ]) q
 
   pub ident-rows : {i : ℕ} → Is img (kindOf 13) i → (n : ℕ) → rowsFor img t (spots n (treeAt img i)) ≡ identRows img t n i
   unfolding spots nodeOf kindOf

@@ -15,17 +15,16 @@ use Rattle.ast.specs.Items.{items, below}
 use Rattle.ast.specs.Is.{Is, kindBy}
 use Rattle.ast.specs.Tests.{verdict}
 use Rattle.ast.proofs.Row.{append, append-none, Child, Items, FormedFields, allKids, next, ends, nodeOf}
-use Rattle.ast.proofs.Shapes.{tree-of, formed-row, row, child-is, case-kids, case-one, case-child, case-last}
+use Rattle.ast.proofs.Shapes.{tree-of, row, child-is, case-kids, case-one, case-child, case-last, run-item, run-list, run-tail}
 use Rattle.ast.proofs.Accepted.{sized}
 use Rattle.table.specs.Table.{Table}
-use Rattle.table.specs.Rows.{Sorted}
 use Rattle.rows.specs.Rows.{Row, Appended}
 use Rattle.scopes.proofs.Rooting.{root-is}
 use Rattle.rows.proofs.Parts.{Left, left-start, left-next, left-end}
 use Rattle.occurrences.specs.Spots.{Spot, spots, spotsSeq, ruleSpots}
 use Rattle.ast.specs.Rules.{Rule, rules, rulesAll, rulesOf, moduleRules}
 use Rattle.occurrences.specs.Occurrences.{found, listed, rowsFor, ruleRows, allRows, occurrenceRows, rowsByRule}
-use Rattle.occurrences.specs.Collect.{rowsAt, joined, listsIn, listsAt, Run, Listing, ListingRun, Whole}
+use Rattle.occurrences.specs.Promises.{rowsAt, joined, listsIn, listsAt, ReadyRun, Listing, ListingRun, Whole}
 use Rattle.occurrences.proofs.CollectRows.{bare, rows-append, owner}
 use Rattle.occurrences.proofs.CollectSteps.{left-count}
 
@@ -178,7 +177,7 @@ module _ (img : List ℕ) (t : Table) where
       ∙ ap (λ (us : Trees). rowsFor img t (spotsSeq 0 us) ∷ []) (append-none (items img n (field img n 1) 2))
 
   pub record RuleRun (n size c : ℕ) : Type 0 where
-    pub run : Run img t 36 n 2 size c
+    pub run : ReadyRun img t 36 n 2 size c
     pub single : listsIn img t n ≡ rowsAt img t n size 2 ∷ []
     pub whole : joined (listsIn img t n) ≡ rowsAt img t n size 2
 
@@ -188,11 +187,7 @@ module _ (img : List ℕ) (t : Table) where
       subst (λ (x : ℕ). RuleRun n x c) (sym q)
       (record {
         run = record {
-          accepted = p .is .accepted;
-          below = p .is .below;
-          lower = λ i l. hs i l .below;
-          kinds = λ i l. hs i l .kind;
-          short = (formed-row img (p .is)) .short;
+          run = run-tail img (p .is) refl refl;
           room = record { sorted = p .sorted; fits = (let f = subst (λ (l : List Row). c + length l ≤ nodes img) w (p .few) in let z = (sized img (p .is .accepted)) .fewNodes in omega arith) };
         };
         single = s;
@@ -209,11 +204,6 @@ module _ (img : List ℕ) (t : Table) where
       w = ap joined s ∙ append-nil (rowsAt img t n (field img n 1) 2)
 
   -- a list of declarations ------------------------------------------------------------------------------------------------------
-  runOf : {kd : Kind} {n j count c : ℕ} → Is img kd n → Items img n 1 count j → j + count ≤ 8192 → Sorted (nodes img) (t .symbols) (t .words)
-      → c + length (joined (listsAt img t n count j)) ≤ nodes img → ListingRun img t n j count c
-  runOf is h s r f =
-      record { accepted = is .accepted; below = is .below; lower = λ i l. h i l .below; kinds = λ i l. h i l .kind; short = s; sorted = r; few = f }
-
   pub record ModelRun (n size c : ℕ) : Type 0 where
     pub run : ListingRun img t n 2 size c
     pub whole : listsIn img t n ≡ listsAt img t n size 2
@@ -231,7 +221,7 @@ module _ (img : List ℕ) (t : Table) where
       let w = model-lists (p .is) in
       subst (λ (x : ℕ). ModelRun n x c) (sym q)
       (record {
-        run = runOf (p .is) ((row img (p .is)) .1 .0) ((formed-row img (p .is)) .short) (p .sorted) (subst (λ (l : List (List Row)). c + length (joined l) ≤ nodes img) w (p .few));
+        run = record { run = run-tail img (p .is) refl refl; sorted = p .sorted; few = subst (λ (l : List (List Row)). c + length (joined l) ≤ nodes img) w (p .few) };
         whole = w;
       })
 
@@ -245,11 +235,12 @@ module _ (img : List ℕ) (t : Table) where
       → d + length (joined (listsAt img t n (count - i) (j + i))) ≤ nodes img → DeclItem n j count i x d
   declItem {n} {j} {count} {i} {x} {d = d} p l q f =
       let m = items-lists n j count i l in
+      let h = run-item img (p .run) l refl in
       subst (λ (y : ℕ). DeclItem n j count i y d) (sym q)
       (record {
-        low = p .lower i l;
+        low = h .0 .below;
         listing = record {
-          is = record { accepted = p .accepted; below = (let a = p .below in let b = p .lower i l in omega arith); kind = ap kindOf (p .kinds i l) };
+          is = h .1;
           sorted = p .sorted;
           few = (let g = subst (λ (k : List Row). d + length k ≤ nodes img) (ap joined m ∙ joined-append (listsIn img t (field img n (j + i))) (listsAt img t n (count - (i + 1)) (j + (i + 1)))) f in let a = length-append (joined (listsIn img t (field img n (j + i)))) (joined (listsAt img t n (count - (i + 1)) (j + (i + 1)))) in omega arith);
         };
@@ -259,7 +250,7 @@ module _ (img : List ℕ) (t : Table) where
   -- the loop over a list of declarations
   pub decls-start : {n j count c : ℕ} {ws : List ℕ} → ListingRun img t n j count c
       → Left (nodes img) (joined (listsAt img t n count j)) (joined (listsAt img t n (count - 0) (j + 0))) c ws c ws
-  decls-start {n} {j} {count} p = left-start _ _ (ap joined (items-all n j count)) (let f = p .few in let z = (sized img (p .accepted)) .fewNodes in omega arith)
+  decls-start {n} {j} {count} p = left-start _ _ (ap joined (items-all n j count)) (let f = p .few in let z = (sized img (p .run .accepted)) .fewNodes in omega arith)
 
   pub decls-item : {n j count i x c d : ℕ} {ws us : List ℕ} → ListingRun img t n j count c → i < count → x ≡ field img n (j + i)
       → Left (nodes img) (joined (listsAt img t n count j)) (joined (listsAt img t n (count - i) (j + i))) c ws d us → DeclItem n j count i x d
@@ -293,7 +284,7 @@ module _ (img : List ℕ) (t : Table) where
   unfolding kindOf FormedFields ends next occurrenceRows
   moduleRun {n} {size} p q r =
       subst (λ (x : ℕ). ModuleRun n x) (sym r) (subst (λ (x : ℕ). ModuleRun x (field img x 0)) (sym q)
-      (record { run = runOf is ((row img is) .0) ((formed-row img is) .short) (p .sorted) (subst (λ (l : List Row). 0 + length l ≤ nodes img) w (let f = p .few in omega arith)); by-rule = b; whole = w }))
+      (record { run = record { run = run-list img is refl; sorted = p .sorted; few = subst (λ (l : List Row). 0 + length l ≤ nodes img) w (let f = p .few in omega arith) }; by-rule = b; whole = w }))
     where
       is : Is img (kindOf 0) (last img)
       is = root-is img (p .accepted)

@@ -9,19 +9,19 @@ use native.Mathlib.Omega.{arith}
 use native.Mathlib.Nat.{sub-zero, add-zero, eq-or-lt-of-le}
 use lib.Dec.{eqb}
 use lib.ListN.{length, getD, length-append}
-use Rattle.ast.specs.Image.{nodes, kindAt, field}
-use Rattle.ast.specs.Kinds.{Class, inner, plain, term, head, headMember, member, match, case, name, child, list, cases, noChild, Kind, kindOf}
+use Rattle.ast.specs.Image.{nodes, field}
+use Rattle.ast.specs.Kinds.{Class, inner, plain, term, head, headMember, member, case, name, child, list, cases, noChild, Kind, kindOf}
 use Rattle.ast.specs.Tree.{Trees, ordered, treeAt}
-use Rattle.ast.specs.Is.{Is, kindBy}
-use Rattle.ast.proofs.Row.{Child, Items, FormedFields, next, ends}
-use Rattle.ast.proofs.Shapes.{termKinds, headKinds, one-more, formed-row, row, child-is, case-child, case-last}
-use Rattle.table.specs.Table.{Table}
+use Rattle.ast.specs.Is.{Is, kindBy, twoTerms}
+use Rattle.ast.proofs.Row.{Child, FormedFields, next}
+use Rattle.ast.proofs.Shapes.{termKinds, headKinds, one-more, row, child-is, case-child, case-last, run-item, run-list, run-tail}
+use Rattle.table.specs.Table.{Table, isVar}
 use Rattle.rows.specs.Rows.{Row, row as rowOf, putRows, Appended}
 use Rattle.rows.proofs.Parts.{appended-as as appended-to, Left, left-start, left-next, left-end}
-use Rattle.ordered.proofs.Blocks.{BlocksFrom, blocks-from, blocks-place as place-of-blocks, NextBlock, next-block}
+use Rattle.ast.proofs.Blocks.{BlocksFrom, blocks-from, blocks-place as place-of-blocks, NextBlock, next-block}
 use Rattle.occurrences.specs.Spots.{spots}
 use Rattle.occurrences.specs.Occurrences.{found, rowsFor}
-use Rattle.occurrences.specs.Collect.{spot, identRows, rowsIn, rowsAt, Room, Ready, Run}
+use Rattle.occurrences.specs.Promises.{spot, identRows, rowsIn, rowsAt, Room, Ready, ReadyRun}
 use Rattle.occurrences.proofs.CollectRows.{bare, threads, ident-var, ident-rows, owner, one-rows, two-rows, leaf-rows, first-rows, ifVar-rows, undefined-rows, defined-rows, case-rows, case-none, list-rows, items-rows, child-list-rows, blockRows, branch-rows, block-more, block-none}
 
 -- rows that are equal to what was appended
@@ -187,9 +187,9 @@ module _ (img : List ℕ) (t : Table) where
   unfolding kindOf bare
   term-app p q r u v = let s = term-sub p 2 q r refl refl in pair-under s (two refl refl (s .ready) u v)
 
-  pub term-comp : {n d a b c : ℕ} → Ready img t (kindOf 12) n c → 7 ≡ field img n 0 → d ≡ field img n 1 → a ≡ field img d 0 → b ≡ field img d 1 → Pair 12 12 n a b c
+  pub term-two : {n d c : ℕ} → Ready img t (kindOf 12) n c → 7 ≡ field img n 0 → d ≡ field img n 1 → Sub twoTerms n d c
   unfolding kindOf bare
-  term-comp p q r u v = let s = term-sub p 7 q r refl refl in pair-under s (two refl refl (s .ready) u v)
+  term-two p q r = term-sub p 7 q r refl refl
 
   -- a Member, Dom, Cod or Id term: the one term in it
   pub term-inner : {n d e c x : ℕ} → Ready img t (kindOf 12) n c → 3 ≤ x → x ≤ 6 → x ≡ field img n 0 → d ≡ field img n 1 → e ≡ field img d 0 → Sub (kindOf 12) n e c
@@ -214,47 +214,42 @@ module _ (img : List ℕ) (t : Table) where
     pub ready : Ready img t (kindOf k) x d
     pub more : rowsAt img t n (count - i) (j + i) ≡ rowsIn img t x ++ rowsAt img t n (count - (i + 1)) (j + (i + 1))
 
-  pub item : {k n j count i x b c d N : ℕ} {w : List Row} {ws us : List ℕ} → bare ((kindOf k) .class) ≡ true → Run img t k n j count b → i < count → x ≡ field img n (j + i)
+  pub item : {k n j count i x b c d N : ℕ} {w : List Row} {ws us : List ℕ} → bare ((kindOf k) .class) ≡ true → ReadyRun img t k n j count b → i < count → x ≡ field img n (j + i)
       → Left N w (rowsAt img t n (count - i) (j + i)) c ws d us → Item k n j count i x d
   item {k} {n} {j} {count} {i} {x} {d = d} u p l q left =
       subst (λ (y : ℕ). Item k n j count i y d) (sym q)
       (record {
-        low = p .lower i l;
-        ready = record { is = is; room = room-first _ _ (room-as more (record { sorted = p .room .sorted; fits = left .fits })) };
+        low = h .0 .below;
+        ready = record { is = h .1; room = room-first _ _ (room-as more (record { sorted = p .room .sorted; fits = left .fits })) };
         more = more;
       })
     where
-      is : Is img (kindOf k) (field img n (j + i))
-      is = record { accepted = p .accepted; below = (let m = p .below in let o = p .lower i l in omega arith); kind = ap kindOf (p .kinds i l) }
+      h : Child img n k (field img n (j + i)) × Is img (kindOf k) (field img n (j + i))
+      h = run-item img (p .run) l refl
 
       more : rowsAt img t n (count - i) (j + i) ≡ rowsIn img t (field img n (j + i)) ++ rowsAt img t n (count - (i + 1)) (j + (i + 1))
-      more = items-rows img t n j count i l is u
-
-  runOf : {kd : Kind} {k n j count c : ℕ} → Is img kd n → Items img n k count j → j + count ≤ 8192 → Room img t (rowsAt img t n count j) c → Run img t k n j count c
-  runOf is h s room =
-      record { accepted = is .accepted; below = is .below; lower = λ i l. h i l .below; kinds = λ i l. h i l .kind; short = s; room = room }
+      more = items-rows img t n j count i l (h .1) u
 
   pub run-start : (n j count : ℕ) → rowsAt img t n count j ≡ rowsAt img t n (count - 0) (j + 0)
   run-start n j count = ap₂ (rowsAt img t n) (sym (sub-zero count)) (sym (add-zero j))
 
   -- a list: the run of its items
   pub record ListRun (k n count c : ℕ) : Type 0 where
-    pub run : Run img t k n 1 count c
+    pub run : ReadyRun img t k n 1 count c
     pub whole : rowsIn img t n ≡ rowsAt img t n (count - 0) (1 + 0)
 
   pub listRun : {k n count c : ℕ} → Ready img t (kindBy (inner plain) (list k ∷ [])) n c → count ≡ field img n 0 → ListRun k n count c
-  unfolding FormedFields ends next
   listRun {k} {n} {count} {c} p q =
       let w = list-rows img t (p .is) in
       subst (λ (x : ℕ). ListRun k n x c) (sym q)
-      (record { run = runOf (p .is) ((row img (p .is)) .0) ((formed-row img (p .is)) .short) (room-as w (p .room)); whole = w ∙ run-start n 1 (field img n 0) })
+      (record { run = record { run = run-list img (p .is) refl; room = room-as w (p .room) }; whole = w ∙ run-start n 1 (field img n 0) })
 
   -- an ident's row, written by one that knows the number of nodes as N
-  pub ident-put : (n i : ℕ) {b N c r : ℕ} {ws vs : List ℕ} → found img t (spot n i) ≡ some b → kindAt img b ≡ 13 → N ≡ nodes img → Appended N (rowOf n b ∷ []) c ws r vs
+  pub ident-put : (n i : ℕ) {b N c r : ℕ} {ws vs : List ℕ} → found img t (spot n i) ≡ some b → isVar img (some b) ≡ true → N ≡ nodes img → Appended N (rowOf n b ∷ []) c ws r vs
       → Appended (nodes img) (identRows img t n i) c ws r vs
   ident-put n i {b} {N} {c} {r} {ws} {vs} e k q a = appended-as (ident-var img t n i b e k) (subst (λ (x : ℕ). Appended x (rowOf n b ∷ []) c ws r vs) q a)
 
-  pub ident-fits : (n i : ℕ) {b c : ℕ} → found img t (spot n i) ≡ some b → kindAt img b ≡ 13 → Room img t (identRows img t n i) c → c + 1 < 2 ^ 32
+  pub ident-fits : (n i : ℕ) {b c : ℕ} → found img t (spot n i) ≡ some b → isVar img (some b) ≡ true → Room img t (identRows img t n i) c → c + 1 < 2 ^ 32
   ident-fits n i {b} e k p = (room-as (ident-var img t n i b e k) p) .fits
 
   -- type and predicate expressions: the receiver of a member, else nothing
@@ -285,18 +280,18 @@ module _ (img : List ℕ) (t : Table) where
   pub record ChildList (k n a size c : ℕ) : Type 0 where
     pub low : a < n
     pub first : Ready img t (kindOf 12) a c
-    pub second : {r : ℕ} → r ≡ c + length (rowsIn img t a) → Run img t k n 2 size r
+    pub second : {r : ℕ} → r ≡ c + length (rowsIn img t a) → ReadyRun img t k n 2 size r
     pub whole : rowsIn img t n ≡ rowsIn img t a ++ rowsAt img t n size 2
 
   childList : (cl : Class) {k n a size c : ℕ} → threads cl ≡ true → ((ts : Trees) → ordered cl ts ≡ ts) → Ready img t (kindBy cl (child 12 ∷ list k ∷ [])) n c
       → a ≡ field img n 0 → size ≡ field img n 1 → ChildList k n a size c
-  unfolding FormedFields ends next kindOf bare
+  unfolding FormedFields next kindOf bare
   childList cl {k} {n} {a} {size} {c} u straight p q r =
       subst (λ (x : ℕ). ChildList k n x size c) (sym q) (subst (λ (x : ℕ). ChildList k n (field img n 0) x c) (sym r)
       (record {
         low = h .below;
         first = record { is = is; room = room-first _ _ room };
-        second = λ e. runOf (p .is) ((row img (p .is)) .1 .0) ((formed-row img (p .is)) .short) (room-second (rowsIn img t (field img n 0)) (rowsAt img t n (field img n 1) 2) room e);
+        second = λ e. record { run = run-tail img (p .is) refl refl; room = room-second (rowsIn img t (field img n 0)) (rowsAt img t n (field img n 1) 2) room e };
         whole = w;
       }))
     where
@@ -318,7 +313,7 @@ module _ (img : List ℕ) (t : Table) where
 
   pub matchOf : {n a size c : ℕ} → Ready img t (kindOf 40) n c → a ≡ field img n 0 → size ≡ field img n 1 → ChildList 35 n a size c
   unfolding kindOf threads ordered
-  matchOf p q r = childList (inner match) refl (λ ts. refl) p q r
+  matchOf p q r = childList (inner plain) refl (λ ts. refl) p q r
 
   -- a loop over the blocks of a branch: after i of them it stands at place j
   pub record BlocksLeft (N n count i j c : ℕ) (ws : List ℕ) (d : ℕ) (us : List ℕ) : Type 0 where
@@ -337,16 +332,14 @@ module _ (img : List ℕ) (t : Table) where
   blocks-place b = place-of-blocks img (b .from)
 
   pub record Block (N n count i j s c : ℕ) (ws : List ℕ) (d : ℕ) (us : List ℕ) : Type 0 where
-    pub run : Run img t 36 n (j + 1) s d
-    pub fits : j + 1 + s ≤ 8192
+    pub run : ReadyRun img t 36 n (j + 1) s d
     pub more : {e : ℕ} {vs : List ℕ} → Appended N (rowsAt img t n s (j + 1)) d us e vs → length vs ≡ length us → BlocksLeft N n count (i + 1) (j + 1 + s) c ws e vs
 
   pub blockOf : {N n count i j s c b d : ℕ} {ws us : List ℕ} → Ready img t (kindOf 39) n b → BlocksLeft N n count i j c ws d us → i < count → s ≡ field img n j → Block N n count i j s c ws d us
   blockOf {N} {n} {count} {i} {j} {s} {c} {d = d} {ws} {us} p b l q =
       subst (λ (x : ℕ). Block N n count i j x c ws d us) (sym q)
       (record {
-        run = runOf (p .is) (k .items) (k .fits) (room-first _ _ (room-as m (record { sorted = p .room .sorted; fits = b .left .fits })));
-        fits = k .fits;
+        run = record { run = k .run; room = room-first _ _ (room-as m (record { sorted = p .room .sorted; fits = b .left .fits })) };
         more = λ a long. record { from = k .from; left = left-next (b .left) m a long };
       })
     where

@@ -8,26 +8,27 @@ use native.Mathlib.Omega.{arith}
 use native.Mathlib.Decide.{decLt}
 use lib.Dec.{eqb, leb}
 use lib.ListN.{length, length-append}
+use Rattle.ast.specs.Declarations.{orElse}
 use Rattle.ast.specs.Image.{nodes, kindAt, nameOf, last}
-use Rattle.ast.specs.Kinds.{outer, inner, root, decl, signature, rule, enum, model, plain, term, ident, head, headMember, member, branch, match, case, ifVar, definedThen, arg}
+use Rattle.ast.specs.Kinds.{outer, inner, root, decl, signature, rule, enum, model, plain, term, ident, head, headMember, member, case, ifVar, definedThen, arg}
 use Rattle.ast.specs.Tests.{times, verdict}
-use Rattle.ast.specs.Tree.{Tree, node, block, Trees, none, _◂_, treeAt}
+use Rattle.ast.specs.Tree.{Tree, node, block, Trees, none, _◂_, treeAt, size, sizes}
 use Rattle.ast.proofs.Accepted.{sized}
-use Rattle.ast.proofs.Count.{nodesOf, nodesAll, is-same, nothing-else, size}
+use Rattle.ast.proofs.Count.{nodesOf, nodesAll, is-same, nothing-else, tree-size}
 use Rattle.ast.proofs.Unfold.{All, nil, cons, All-append, All-split}
 use Rattle.table.specs.Table.{Table, lookup, exitAt}
 use Rattle.rows.specs.Rows.{Row, row}
 use Rattle.occurrences.specs.Spots.{Spot, spots, spotsSeq, spotsBack, spotsFirst, ruleSpots}
-use Rattle.ast.specs.Rules.{Rule, orElse, saysAll, rules, rulesAll, rulesOf, moduleRules}
+use Rattle.ast.specs.Rules.{Rule, saysAll, rules, rulesAll, rulesOf, moduleRules}
 use Rattle.occurrences.specs.Occurrences.{found, listed, rowsFor, ruleRows, allRows, occurrenceRows, loneIn, lone, rowsByRule, timesBound}
-use Rattle.occurrences.specs.Collect.{Nodes}
+use Rattle.occurrences.specs.Promises.{Nodes}
 use Rattle.occurrences.proofs.CollectLone.{climb-low}
 
 -- no more spots than nodes -----------------------------------------------------------------------------------------------
 mutual
-  unfolding spots nodesOf
+  unfolding spots size
 
-  spots-few : (o : ℕ) (u : Tree) → length (spots o u) ≤ length (nodesOf u)
+  spots-few : (o : ℕ) (u : Tree) → length (spots o u) ≤ size u
   spots-few o (block ts) = seq-few o ts
   spots-few o (node n k (outer c) sh ts) = omega arith
   spots-few o (node n k (inner plain) sh ts) = let a = seq-few n ts in omega arith
@@ -36,34 +37,30 @@ mutual
   spots-few o (node n k (inner head) sh ts) = let a = seq-few n ts in omega arith
   spots-few o (node n k (inner headMember) sh ts) = let a = first-few n ts in omega arith
   spots-few o (node n k (inner member) sh ts) = let a = first-few n ts in omega arith
-  spots-few o (node n k (inner branch) sh ts) = let a = seq-few n ts in omega arith
-  spots-few o (node n k (inner match) sh ts) = let a = seq-few n ts in omega arith
   spots-few o (node n k (inner case) sh ts) = let a = seq-few n ts in omega arith
   spots-few o (node n k (inner ifVar) sh ts) = let a = seq-few n ts in omega arith
   spots-few o (node n k (inner definedThen) sh ts) = let a = back-few n ts in omega arith
   spots-few o (node n k (inner arg) sh ts) = omega arith
 
-  seq-few : (o : ℕ) (us : Trees) → length (spotsSeq o us) ≤ length (nodesAll us)
+  seq-few : (o : ℕ) (us : Trees) → length (spotsSeq o us) ≤ sizes us
   seq-few o none = omega arith
   seq-few o (u ◂ us) =
       let a = spots-few o u in
       let b = seq-few o us in
       let c = length-append (spots o u) (spotsSeq o us) in
-      let d = length-append (nodesOf u) (nodesAll us) in
       omega arith
 
-  back-few : (o : ℕ) (us : Trees) → length (spotsBack o us) ≤ length (nodesAll us)
+  back-few : (o : ℕ) (us : Trees) → length (spotsBack o us) ≤ sizes us
   back-few o none = omega arith
   back-few o (u ◂ us) =
       let a = spots-few o u in
       let b = seq-few o us in
       let c = length-append (spotsSeq o us) (spots o u) in
-      let d = length-append (nodesOf u) (nodesAll us) in
       omega arith
 
-  first-few : (o : ℕ) (us : Trees) → length (spotsFirst o us) ≤ length (nodesAll us)
+  first-few : (o : ℕ) (us : Trees) → length (spotsFirst o us) ≤ sizes us
   first-few o none = omega arith
-  first-few o (u ◂ us) = let a = spots-few o u in let d = length-append (nodesOf u) (nodesAll us) in omega arith
+  first-few o (u ◂ us) = let a = spots-few o u in omega arith
 
 -- the nodes of spots are nodes of the tree, or the one above -----------------------------------------------------------------
 abbrev pub owners : List Spot → List ℕ
@@ -90,8 +87,6 @@ module _ {P : ℕ → Type 0} where
     owners-of o (node n k (inner head) sh ts) h (cons b a) = owners-seq n ts b a
     owners-of o (node n k (inner headMember) sh ts) h (cons b a) = owners-first n ts b a
     owners-of o (node n k (inner member) sh ts) h (cons b a) = owners-first n ts b a
-    owners-of o (node n k (inner branch) sh ts) h (cons b a) = owners-seq n ts b a
-    owners-of o (node n k (inner match) sh ts) h (cons b a) = owners-seq n ts b a
     owners-of o (node n k (inner case) sh ts) h (cons b a) = owners-seq n ts b a
     owners-of o (node n k (inner ifVar) sh ts) h (cons b a) = owners-seq n ts b a
     owners-of o (node n k (inner definedThen) sh ts) h (cons b a) = owners-back n ts b a
@@ -129,7 +124,7 @@ module _ (img : List ℕ) (t : Table) where
   for-few [] = omega arith
   for-few (s ∷ l) = let a = for-few l in let b = listed-few (s .node) (found img t s) (rowsFor img t l) in omega arith
 
-  rule-few : (r : Rule) → length (ruleRows img t r) ≤ length (nodesAll (r .statements))
+  rule-few : (r : Rule) → length (ruleRows img t r) ≤ sizes (r .statements)
   unfolding ruleRows ruleSpots
   rule-few r = let a = for-few (ruleSpots (r .statements)) in let b = seq-few 0 (r .statements) in omega arith
 
@@ -143,9 +138,9 @@ module _ (img : List ℕ) (t : Table) where
       omega arith
 
   mutual
-    unfolding rules nodesOf allRows
+    unfolding rules size allRows
 
-    rules-few : (m : ℕ → Option ℕ) (u : Tree) → length (allRows img t (rules img m u)) ≤ length (nodesOf u)
+    rules-few : (m : ℕ → Option ℕ) (u : Tree) → length (allRows img t (rules img m u)) ≤ size u
     rules-few m (block ts) = omega arith
     rules-few m (node n k (inner i) sh ts) = omega arith
     rules-few m (node n k (outer root) sh ts) = omega arith
@@ -159,24 +154,23 @@ module _ (img : List ℕ) (t : Table) where
     rules-few m (node n k (outer enum) sh ts) = let a = rulesAll-few m ts in omega arith
     rules-few m (node n k (outer model) sh ts) = let a = rulesAll-few (λ x. orElse (saysAll img ts x) (m x)) ts in omega arith
 
-    rulesAll-few : (m : ℕ → Option ℕ) (us : Trees) → length (allRows img t (rulesAll img m us)) ≤ length (nodesAll us)
+    rulesAll-few : (m : ℕ → Option ℕ) (us : Trees) → length (allRows img t (rulesAll img m us)) ≤ sizes us
     rulesAll-few m none = omega arith
     rulesAll-few m (u ◂ us) =
         let a = all-append (rules img m u) (rulesAll img m us) in
-        let b = length-append (nodesOf u) (nodesAll us) in
         let c = rules-few m u in
         let d = rulesAll-few m us in
         omega arith
 
-  module-few : (u : Tree) → length (allRows img t (rulesOf img u)) ≤ length (nodesOf u)
-  unfolding rulesOf nodesOf allRows
+  module-few : (u : Tree) → length (allRows img t (rulesOf img u)) ≤ size u
+  unfolding rulesOf size allRows
   module-few (block ts) = omega arith
   module-few (node n k c sh ts) = let a = rulesAll-few (saysAll img ts) ts in omega arith
 
   -- no more rows than nodes: no row is dropped
   pub rows-few : verdict img ≡ 0 → length (occurrenceRows img t) ≤ nodes img
   unfolding occurrenceRows moduleRules
-  rows-few e = let a = module-few (treeAt img (last img)) in let b = size img e in omega arith
+  rows-few e = let a = module-few (treeAt img (last img)) in let b = tree-size img e in omega arith
 
 -- both numbers of a row are nodes ------------------------------------------------------------------------------------------
 -- a number that never stands in a list is none of it

@@ -1,4 +1,4 @@
 pub mod Spots
 pub mod Occurrences
-pub mod Collect
+pub mod Promises
 pub mod Answers

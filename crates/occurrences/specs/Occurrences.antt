@@ -4,9 +4,8 @@ use mathlib.Core.List.{List, [], _∷_, _++_}
 use mathlib.Core.Option.{Option, none as nothing, some}
 use Prim.Native.Nat.{ℕ, suc}
 use lib.Dec.{eqb, leb}
-use Rattle.ast.specs.Image.{kindAt, nameOf}
 use Rattle.ast.specs.Answer.{Answer, result, other}
-use Rattle.table.specs.Table.{Table, lookup, exitAt}
+use Rattle.table.specs.Table.{Table, isKind, isVar, atExit}
 use Rattle.rows.specs.Rows.{Row, row}
 use Rattle.scopes.specs.Resolve.{testTable, Outcome, tableCall}
 use Rattle.scopes.specs.Calls.{testRows, RowsOutcome, rowsCall}
@@ -16,11 +15,12 @@ use Rattle.ast.specs.Rules.{Rule, moduleRules}
 module _ (img : List ℕ) (t : Table) where
   -- the binding: what lookup of its name gives, in the table, at the exit of the occurrence's node
   abbrev pub found : Spot → Option ℕ
-  found s = lookup img t (exitAt img (t .words) (s .node)) (nameOf img (s .ident))
+  found s = atExit img t (s .node) (s .ident)
 
   unfoldable pub listed : ℕ → Option ℕ → List Row → List Row
+  unfolding isKind
   listed n nothing l = l
-  listed n (some i) l = elim (eqb (kindAt img i) 13) [ true ↦ row n i ∷ l | false ↦ l ]
+  listed n (some i) l = elim (isVar img (some i)) [ true ↦ row n i ∷ l | false ↦ l ]
 
   -- the rows for spots: those that lookup gives as a Var
   unfoldable pub rowsFor : List Spot → List Row

@@ -1,7 +1,7 @@
 -- The Terms and AppHeads of a rule that have an IdentTerm directly below, in the order of the list of occurrences.
 use mathlib.Core.List.{List, [], _∷_, _++_}
 use Prim.Native.Nat.{ℕ}
-use Rattle.ast.specs.Kinds.{outer, inner, plain, term, ident, head, headMember, member, branch, match, case, ifVar, definedThen, arg}
+use Rattle.ast.specs.Kinds.{outer, inner, plain, term, ident, head, headMember, member, case, ifVar, definedThen, arg}
 use Rattle.ast.specs.Tree.{Tree, node, block, Trees, none, _◂_}
 
 -- a Term or AppHead, and the IdentTerm directly below it
@@ -20,8 +20,6 @@ unfoldable mutual
   spots o (node n k (inner head) sh ts) = spotsSeq n ts
   spots o (node n k (inner headMember) sh ts) = spotsFirst n ts
   spots o (node n k (inner member) sh ts) = spotsFirst n ts
-  spots o (node n k (inner branch) sh ts) = spotsSeq n ts
-  spots o (node n k (inner match) sh ts) = spotsSeq n ts
   spots o (node n k (inner case) sh ts) = spotsSeq n ts
   spots o (node n k (inner ifVar) sh ts) = spotsSeq n ts
   spots o (node n k (inner definedThen) sh ts) = spotsBack n ts

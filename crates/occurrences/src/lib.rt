@@ -4,29 +4,21 @@ ghost use mathlib.Core.List.{[], _∷_};
 ghost use Prim.Native.Nat.{_+_, _<_, _≤_, _^_};
 ghost use lib.ListN.{length, getD, set};
 ghost use Rattle.ast.specs.Image as «image-spec»;
+ghost use Rattle.ast.specs.Is.{twoTerms};
 ghost use Rattle.ast.specs.Kinds.{kindOf};
 ghost use Rattle.table.specs.Rows.{Sorted};
-ghost use Rattle.table.specs.Values.{optionOf};
+ghost use Rattle.table.specs.Values.{sought};
 ghost use Rattle.rows.specs.Rows.{rights, rowsLength, Appended, Wrote, readRows};
 ghost use Rattle.scopes.specs.Answers.{rowedAnswer};
 ghost use Rattle.ast.specs.Rules.{moduleRules};
 ghost use Rattle.occurrences.specs.Answers.{onceAnswer};
 ghost use Rattle.occurrences.specs.Occurrences as «occurrences-spec»;
 ghost use Rattle.occurrences.specs.Occurrences.{found, occurrenceRows, lone, rowsByRule};
-ghost use Rattle.occurrences.specs.Collect.{sought, spot, identRows, rowsIn, rowsAt, Room, Ready, Run, joined, listsIn, listsAt, Listing, ListingRun, Whole, Nodes, under, recount, recounted, loneOf, Scratch, Searched};
+ghost use Rattle.occurrences.specs.Promises.{spot, identRows, rowsIn, rowsAt, Room, Ready, joined, listsIn, listsAt, Listing, ListingRun, Whole, Nodes, under, recount, recounted, loneOf, Scratch, Searched, ReadyRun};
 use ast::NodeId;
 use scopes::Declared;
 use scopes::Rowed;
 use table::Found;
-
-// What lookup of the ident's name gives at the exit of the node.
-fn lookup_at(image: &[u8], table: &[u32], symbols: u32, node: NodeId, ident: NodeId) -> Found
-    requires { ⌜ Sorted («image-spec».nodes (now image)) symbols (now table) ⌝ }
-    ensures { λ r. ⌜ optionOf r ≡ found (now (image .entry)) (sought (now (table .entry)) symbols) (spot (node .0) (ident .0)) ⌝ }
-{
-    let exit = table::exit_of(image, table, node);
-    table::seek(image, table, symbols, exit, ast::name_of(image, ident))
-}
 
 // An ident directly under a Term or AppHead: a row if it is a Var.
 fn collect_ident(
@@ -41,14 +33,14 @@ fn collect_ident(
     requires { ⌜ Room (now image) (sought (now table) symbols) (identRows (now image) (sought (now table) symbols) (node .0) (ident .0)) count ⌝ }
     ensures { λ r. ⌜ Appended («image-spec».nodes (now (image .entry))) (identRows (now (image .entry)) (sought (now (table .entry)) symbols) (node .0) (ident .0)) count (now (rows .entry)) r (now (rows .exit)) ⌝ }
 {
-    match lookup_at(image, table, symbols, node, ident) {
+    let found = table::at_exit(image, table, symbols, node, ident);
+    if !table::is_var(image, found) {
+        return count;
+    }
+    match found {
         Found::At(binding) => {
-            if ast::kind_at(image, binding) == 13 {
-                let n = ast::node_count(image);
-                rows::put_row(rows, n, count, node.0, binding.0)
-            } else {
-                count
-            }
+            let n = ast::node_count(image);
+            rows::put_row(rows, n, count, node.0, binding.0)
         }
         Found::Nothing => count,
     }
@@ -79,14 +71,27 @@ fn collect_term(
             let inner = NodeId(ast::field(image, id, 0));
             collect_term(image, table, symbols, rows, count, inner)
         }
-        7 => {
-            let first = NodeId(ast::field(image, id, 0));
-            let second = NodeId(ast::field(image, id, 1));
-            let after = collect_term(image, table, symbols, rows, count, first);
-            collect_term(image, table, symbols, rows, after, second)
-        }
+        7 => collect_two_terms(image, table, symbols, rows, count, id),
         _ => count,
     }
+}
+
+// A Comp term, or an Equal atom: two terms.
+fn collect_two_terms(
+    image: &[u8],
+    table: &[u32],
+    symbols: u32,
+    rows: &mut [u32],
+    count: u32,
+    id: NodeId,
+) -> u32
+    requires { ⌜ Ready (now image) (sought (now table) symbols) twoTerms (id .0) count ⌝ }
+    ensures { λ r. ⌜ Appended («image-spec».nodes (now (image .entry))) (rowsIn (now (image .entry)) (sought (now (table .entry)) symbols) (id .0)) count (now (rows .entry)) r (now (rows .exit)) ⌝ }
+{
+    let first = NodeId(ast::field(image, id, 0));
+    let second = NodeId(ast::field(image, id, 1));
+    let after = collect_term(image, table, symbols, rows, count, first);
+    collect_term(image, table, symbols, rows, after, second)
 }
 
 fn collect_app_head(
@@ -174,24 +179,6 @@ fn collect_pred_expr(
     count
 }
 
-// Two terms: an Equal atom.
-fn collect_equal(
-    image: &[u8],
-    table: &[u32],
-    symbols: u32,
-    rows: &mut [u32],
-    count: u32,
-    id: NodeId,
-) -> u32
-    requires { ⌜ Ready (now image) (sought (now table) symbols) (kindOf 30) (id .0) count ⌝ }
-    ensures { λ r. ⌜ Appended («image-spec».nodes (now (image .entry))) (rowsIn (now (image .entry)) (sought (now (table .entry)) symbols) (id .0)) count (now (rows .entry)) r (now (rows .exit)) ⌝ }
-{
-    let lhs = NodeId(ast::field(image, id, 0));
-    let rhs = NodeId(ast::field(image, id, 1));
-    let after = collect_term(image, table, symbols, rows, count, lhs);
-    collect_term(image, table, symbols, rows, after, rhs)
-}
-
 fn collect_pred(
     image: &[u8],
     table: &[u32],
@@ -245,7 +232,7 @@ fn collect_if_atom(
     let case = ast::field(image, atom, 0);
     let id = NodeId(ast::field(image, atom, 1));
     match case {
-        0 => collect_equal(image, table, symbols, rows, count, id),
+        0 => collect_two_terms(image, table, symbols, rows, count, id),
         1 => {
             let term = NodeId(ast::field(image, id, 0));
             collect_term(image, table, symbols, rows, count, term)
@@ -274,7 +261,7 @@ fn collect_then_atom(
     let case = ast::field(image, atom, 0);
     let id = NodeId(ast::field(image, atom, 1));
     match case {
-        0 => collect_equal(image, table, symbols, rows, count, id),
+        0 => collect_two_terms(image, table, symbols, rows, count, id),
         1 => collect_defined(image, table, symbols, rows, count, id),
         _ => collect_pred(image, table, symbols, rows, count, id),
     }
@@ -291,7 +278,7 @@ fn collect_stmts(
     first: usize,
     size: usize,
 ) -> u32
-    requires { ⌜ Run (now image) (sought (now table) symbols) 36 (node .0) first size count ⌝ }
+    requires { ⌜ ReadyRun (now image) (sought (now table) symbols) 36 (node .0) first size count ⌝ }
     ensures { λ r. ⌜ Appended («image-spec».nodes (now (image .entry))) (rowsAt (now (image .entry)) (sought (now (table .entry)) symbols) (node .0) size first) count (now (rows .entry)) r (now (rows .exit)) ⌝ }
 {
     let mut i = 0;

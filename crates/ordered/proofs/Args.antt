@@ -11,7 +11,7 @@ use Rattle.table.specs.State.{Exit, introduce, marked}
 use Rattle.ast.proofs.Row.{next, nodeOf, Child, FormedFields}
 use Rattle.ast.proofs.Shapes.{row, tree-of, child-is}
 use Rattle.ordered.specs.Walk.{occurs, walkArg, walk}
-use Rattle.ordered.specs.Walkers.{over, Room, Ready}
+use Rattle.ordered.specs.Promises.{over, Room, Ready}
 use Rattle.ordered.proofs.Grows.{stays, introduces}
 use Rattle.ordered.proofs.Steps.{part-room}
 

@@ -15,7 +15,7 @@ use Rattle.table.specs.Table.{climb, isKind}
 use Rattle.ast.proofs.Row.{append, next, nodeOf, Child, FormedFields}
 use Rattle.ast.proofs.Shapes.{row, tree-of, child-is, case-last, termKinds, term-last}
 use Rattle.ordered.specs.Walk.{Role, occurs, declares, defines, walkIdent, walk, walkFirst}
-use Rattle.ordered.specs.Walkers.{over, inside, Room, Ready, Variable}
+use Rattle.ordered.specs.Promises.{over, inside, Room, Ready, Variable}
 use Rattle.ordered.proofs.Grows.{stays, marked-grows}
 use Rattle.ordered.proofs.Steps.{room-in, part-room, tree-grows, ident-step, found-from, Wrapped, case-of, term-case, term-wild, term-whole-as, term-whole, plain-whole}
 

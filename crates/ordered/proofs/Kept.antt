@@ -1,57 +1,41 @@
 -- The steps of a walk keep what it keeps of its table.
 use mathlib.Core.Path.{_≡_, refl, ap, _∙_}
-use mathlib.Core.Logic.{⊎-elim, _≢_}
+use mathlib.Core.Logic.{⊎-elim}
 use mathlib.Core.List.{List}
-use Prim.Native.Nat.{ℕ, suc, _+_, _*_, _<_, _≤_}
+use Prim.Native.Nat.{ℕ, suc, _<_, _≤_}
 use native.Mathlib.Omega.{arith}
 use native.Mathlib.Nat.{eq-or-lt-of-le}
-use lib.ListN.{length, getD, set, drop, length-set}
-use lib.Seq.{getD-set-other, drop-set-lt}
+use lib.ListN.{length, set, drop, length-set}
+use lib.Seq.{drop-set-lt}
 use Rattle.ast.specs.Image.{nodes}
 use Rattle.table.specs.Layout.{entryPlace, exitPlace, parentPlace, scopePlace, nodePlace, tableLength}
 use Rattle.table.specs.Rows.{scopeOf}
 use Rattle.table.specs.Table.{Table, mark, newScope, newSymbol}
-use Rattle.table.proofs.Frames.{symbol-scope}
+use Rattle.table.proofs.Frames.{mark-word, scope-word, symbol-word, symbol-scope}
 use Rattle.ordered.specs.Kept.{Kept}
 
 module _ (img : List ℕ) where
-  -- a word that the step does not store stays
-  pub mark-word : (n a b : ℕ) (t : Table) (i : ℕ) → i ≢ entryPlace (nodes img) n → i ≢ exitPlace (nodes img) n → getD ((mark img n a b t) .words) i 0 ≡ getD (t .words) i 0
-  unfolding mark
-  mark-word n a b t i f g =
-      getD-set-other (set (t .words) (entryPlace (nodes img) n) a) (exitPlace (nodes img) n) i b 0 g ∙ getD-set-other (t .words) (entryPlace (nodes img) n) i a 0 f
-
-  pub scope-word : (p : ℕ) (t : Table) (i : ℕ) → i ≢ parentPlace (nodes img) (t .scopes) → getD ((newScope img p t) .words) i 0 ≡ getD (t .words) i 0
-  unfolding newScope
-  scope-word p t i f = getD-set-other (t .words) (parentPlace (nodes img) (t .scopes)) i p 0 f
-
-  pub symbol-word : (s n : ℕ) (t : Table) (i : ℕ) → i ≢ scopePlace (nodes img) (t .symbols) → i ≢ nodePlace (nodes img) (t .symbols) → getD ((newSymbol img s n t) .words) i 0 ≡ getD (t .words) i 0
-  unfolding newSymbol
-  symbol-word s n t i f g =
-      getD-set-other (set (t .words) (scopePlace (nodes img) (t .symbols)) s) (nodePlace (nodes img) (t .symbols)) i n 0 g
-      ∙ getD-set-other (t .words) (scopePlace (nodes img) (t .symbols)) i s 0 f
-
-  -- so the scopes of the rows stay
+  -- the scopes of the rows stay
   pub mark-rows : (n a b : ℕ) (t : Table) → n < nodes img → (j : ℕ) → scopeOf (nodes img) ((mark img n a b t) .words) j ≡ scopeOf (nodes img) (t .words) j
-  mark-rows n a b t h j = mark-word n a b t (scopePlace (nodes img) j) (omega arith) (omega arith)
+  mark-rows n a b t h j = mark-word img n a b t (scopePlace (nodes img) j) (omega arith) (omega arith)
 
   pub scope-rows : (p : ℕ) (t : Table) → t .scopes < nodes img → (j : ℕ) → scopeOf (nodes img) ((newScope img p t) .words) j ≡ scopeOf (nodes img) (t .words) j
-  scope-rows p t h j = scope-word p t (scopePlace (nodes img) j) (omega arith)
+  scope-rows p t h j = scope-word img p t (scopePlace (nodes img) j) (omega arith)
 
   pub symbol-rows : (s n : ℕ) (t : Table) (j : ℕ) → j < t .symbols → scopeOf (nodes img) ((newSymbol img s n t) .words) j ≡ scopeOf (nodes img) (t .words) j
-  symbol-rows s n t j h = symbol-word s n t (scopePlace (nodes img) j) (omega arith) (omega arith)
+  symbol-rows s n t j h = symbol-word img s n t (scopePlace (nodes img) j) (omega arith) (omega arith)
 
   pub mark-length : (n a b : ℕ) (t : Table) → length ((mark img n a b t) .words) ≡ length (t .words)
   unfolding mark
-  mark-length n a b t = length-set (set (t .words) (3 + n) a) (3 + nodes img + n) b ∙ length-set (t .words) (3 + n) a
+  mark-length n a b t = length-set (set (t .words) (entryPlace (nodes img) n) a) (exitPlace (nodes img) n) b ∙ length-set (t .words) (entryPlace (nodes img) n) a
 
   pub scope-length : (p : ℕ) (t : Table) → length ((newScope img p t) .words) ≡ length (t .words)
   unfolding newScope
-  scope-length p t = length-set (t .words) (3 + 2 * nodes img + t .scopes) p
+  scope-length p t = length-set (t .words) (parentPlace (nodes img) (t .scopes)) p
 
   pub symbol-length : (s n : ℕ) (t : Table) → length ((newSymbol img s n t) .words) ≡ length (t .words)
   unfolding newSymbol
-  symbol-length s n t = length-set (set (t .words) (3 + 3 * nodes img + t .symbols) s) (3 + 4 * nodes img + t .symbols) n ∙ length-set (t .words) (3 + 3 * nodes img + t .symbols) s
+  symbol-length s n t = length-set (set (t .words) (scopePlace (nodes img) (t .symbols)) s) (nodePlace (nodes img) (t .symbols)) n ∙ length-set (t .words) (scopePlace (nodes img) (t .symbols)) s
 
   -- the words past the table
   abbrev pub past : Table → List ℕ
@@ -60,18 +44,18 @@ module _ (img : List ℕ) where
   pub mark-past : (n a b : ℕ) (t : Table) → n < nodes img → past (mark img n a b t) ≡ past t
   unfolding mark
   mark-past n a b t h =
-      drop-set-lt (tableLength (nodes img)) (set (t .words) (3 + n) a) (3 + nodes img + n) b (omega arith)
-      ∙ drop-set-lt (tableLength (nodes img)) (t .words) (3 + n) a (omega arith)
+      drop-set-lt (tableLength (nodes img)) (set (t .words) (entryPlace (nodes img) n) a) (exitPlace (nodes img) n) b (omega arith)
+      ∙ drop-set-lt (tableLength (nodes img)) (t .words) (entryPlace (nodes img) n) a (omega arith)
 
   pub scope-past : (p : ℕ) (t : Table) → t .scopes < nodes img → past (newScope img p t) ≡ past t
   unfolding newScope
-  scope-past p t h = drop-set-lt (tableLength (nodes img)) (t .words) (3 + 2 * nodes img + t .scopes) p (omega arith)
+  scope-past p t h = drop-set-lt (tableLength (nodes img)) (t .words) (parentPlace (nodes img) (t .scopes)) p (omega arith)
 
   pub symbol-past : (s n : ℕ) (t : Table) → t .symbols < nodes img → past (newSymbol img s n t) ≡ past t
   unfolding newSymbol
   symbol-past s n t h =
-      drop-set-lt (tableLength (nodes img)) (set (t .words) (3 + 3 * nodes img + t .symbols) s) (3 + 4 * nodes img + t .symbols) n (omega arith)
-      ∙ drop-set-lt (tableLength (nodes img)) (t .words) (3 + 3 * nodes img + t .symbols) s (omega arith)
+      drop-set-lt (tableLength (nodes img)) (set (t .words) (scopePlace (nodes img) (t .symbols)) s) (nodePlace (nodes img) (t .symbols)) n (omega arith)
+      ∙ drop-set-lt (tableLength (nodes img)) (t .words) (scopePlace (nodes img) (t .symbols)) s (omega arith)
 
   -- the same rows, and as many
   kept-same : (t u : Table) → u .symbols ≡ t .symbols → t .scopes ≤ u .scopes → length (u .words) ≡ length (t .words)

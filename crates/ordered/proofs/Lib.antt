@@ -6,7 +6,4 @@ pub mod Lists
 pub mod Atoms
 pub mod Stmts
 pub mod Args
-pub mod Bools
-pub mod Blocks
 pub mod Moves
-pub mod Agreed

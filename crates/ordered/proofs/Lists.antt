@@ -1,5 +1,5 @@
 -- The walk over what is left of a list, and over a run of items of one kind.
-use mathlib.Core.Path.{_≡_, sym, ap, subst, _∙_}
+use mathlib.Core.Path.{_≡_, refl, sym, ap, subst, _∙_}
 use mathlib.Core.List.{List, [], _∷_}
 use Prim.Native.Nat.{ℕ, _+_, _-_, _<_, _≤_}
 use native.Mathlib.Omega.{arith}
@@ -8,14 +8,14 @@ use lib.ListN.{length}
 use Rattle.ast.specs.Image.{field}
 use Rattle.ast.specs.Items.{items}
 use Rattle.ast.specs.Is.{Is, kindBy}
-use Rattle.ast.specs.Kinds.{inner, plain, list, Kind, kindOf}
+use Rattle.ast.specs.Kinds.{inner, plain, list, kindOf}
 use Rattle.ast.specs.Tree.{Tree, Trees, treeAt}
 use Rattle.table.specs.State.{Exit, marked, unmarked}
-use Rattle.ast.proofs.Row.{append-none, Child, Items, FormedFields, next, ends, nodeOf}
-use Rattle.ast.proofs.Shapes.{formed-row, row, tree-of, child-is, items-more}
+use Rattle.ast.proofs.Row.{append-none, Child, FormedFields, next, nodeOf}
+use Rattle.ast.proofs.Shapes.{row, tree-of, child-is, items-more, run-item, run-list}
 use Rattle.ast.proofs.Small.{items-small}
 use Rattle.ordered.specs.Walk.{Role, occurs, names, walk, walkSeq}
-use Rattle.ordered.specs.Walkers.{over, rest, Room, Ready, Run}
+use Rattle.ordered.specs.Promises.{over, rest, Ready, ReadyRun}
 use Rattle.ordered.proofs.Grows.{Grows, stays, unmarked-grows, seq-grows}
 use Rattle.ordered.proofs.Steps.{room-in, part-room, name-step}
 
@@ -49,35 +49,28 @@ module _ (img : List ℕ) where
   rest-start r n j count e = ap (λ (us : Trees). walkSeq img r us e) (ap (λ (c : ℕ). items img n c j) (sym (sub-zero count)) ∙ ap (items img n (count - 0)) (sym (add-zero j)))
 
   -- a run of items: one of them, walked from f, where what is left from there is the whole ---------------------------
-  pub runOf : {kd : Kind} {k n j count : ℕ} {e : Exit} → Is img kd n → Items img n k count j → j + count ≤ 8192 → Room img (rest img occurs n j count 0 e) → Run img k n j count e
-  runOf is h l r = record { accepted = is .accepted; below = is .below; lower = λ i m. (h i m) .below; kinds = λ i m. (h i m) .kind; short = l; room = r }
-
   pub record RunItem (k n j count i c : ℕ) (e f : Exit) : Type 0 where
     pub low : c < n
     pub ready : Ready img (kindOf k) c f
     pub more : rest img occurs n j count 0 e ≡ rest img occurs n j count (i + 1) (over img c f)
 
-  pub runItem : {k n j count i c : ℕ} {e f : Exit} → Run img k n j count e → i < count → c ≡ field img n (j + i)
+  pub runItem : {k n j count i c : ℕ} {e f : Exit} → ReadyRun img k n j count e → i < count → c ≡ field img n (j + i)
       → rest img occurs n j count 0 e ≡ rest img occurs n j count i f → RunItem k n j count i c e f
   runItem {k} {n} {j} {count} {i} {c} {e} {f} p l q w =
-      let h = p .lower i l in
+      let h = run-item img (p .run) l refl in
       let m = w ∙ rest-more occurs n j count i f l in
       subst (λ (x : ℕ). RunItem k n j count i x e f) (sym q)
       (record {
-        low = h;
-        ready = record {
-          is = record { accepted = p .accepted; below = (let b = p .below in omega arith); kind = ap kindOf (p .kinds i l) };
-          room = room-in img m (rest-grows occurs n j count (i + 1) _) (p .room);
-        };
+        low = h .0 .below;
+        ready = record { is = h .1; room = room-in img m (rest-grows occurs n j count (i + 1) _) (p .room) };
         more = m;
       })
 
   -- a plain list as a run of its items
-  pub list-run : {k n count : ℕ} {e : Exit} → Ready img (kindBy (inner plain) (list k ∷ [])) n e → count ≡ field img n 0 → Run img k n 1 count e
-  unfolding FormedFields ends next
+  pub list-run : {k n count : ℕ} {e : Exit} → Ready img (kindBy (inner plain) (list k ∷ [])) n e → count ≡ field img n 0 → ReadyRun img k n 1 count e
   list-run {k} {n} {count} {e} p q =
-      subst (λ (x : ℕ). Run img k n 1 x e) (sym q)
-      (runOf (p .is) ((row img (p .is)) .0) ((formed-row img (p .is)) .short) (part-room img p (list-whole e (p .is)) (stays _)))
+      subst (λ (x : ℕ). ReadyRun img k n 1 x e) (sym q)
+      (record { run = run-list img (p .is) refl; room = part-room img p (list-whole e (p .is)) (stays _) })
 
   -- an app head's member: a term, and names that introduce nothing -----------------------------------------------------
   pub record HeadMember (n c : ℕ) (e : Exit) : Type 0 where

@@ -5,7 +5,7 @@ use mathlib.Core.List.{List, [], _∷_, _++_}
 use Prim.Native.Nat.{ℕ, zero, suc, _≤_}
 use native.Mathlib.Omega.{arith}
 use Rattle.ast.specs.Image.{nameOf}
-use Rattle.ast.specs.Kinds.{Class, outer, inner, root, decl, signature, rule, enum, model, plain, term, ident, head, headMember, member, branch, match, case, ifVar, definedThen, arg}
+use Rattle.ast.specs.Kinds.{Class, outer, inner, root, decl, signature, rule, enum, model, plain, term, ident, head, headMember, member, case, ifVar, definedThen, arg}
 use Rattle.ast.specs.Tree.{Tree, node, block, Trees, none, _◂_}
 use Rattle.ast.proofs.Vars.{Everywhere, EverywhereAll}
 use Rattle.table.specs.Layout.{allOnes}
@@ -24,8 +24,6 @@ unfoldable mutual
   numbers (node n k (inner head) sh ts) = numbersSeq ts ++ (n ∷ [])
   numbers (node n k (inner headMember) sh ts) = numbersSeq ts ++ (n ∷ [])
   numbers (node n k (inner member) sh ts) = numbersSeq ts ++ (n ∷ [])
-  numbers (node n k (inner branch) sh ts) = numbersSeq ts ++ (n ∷ [])
-  numbers (node n k (inner match) sh ts) = numbersSeq ts ++ (n ∷ [])
   numbers (node n k (inner case) sh ts) = numbersSeq ts ++ (n ∷ [])
   numbers (node n k (inner ifVar) sh ts) = numbersSeq ts ++ (n ∷ [])
   numbers (node n k (inner definedThen) sh ts) = numbersSeq ts ++ (n ∷ [])
@@ -56,8 +54,6 @@ enters (inner ident) sh = true
 enters (inner head) sh = false
 enters (inner headMember) sh = false
 enters (inner member) sh = false
-enters (inner branch) sh = false
-enters (inner match) sh = false
 enters (inner case) sh = false
 enters (inner ifVar) sh = false
 enters (inner definedThen) sh = false
@@ -115,8 +111,6 @@ module _ (img : List ℕ) (M A : ℕ → Type 0) where
       walk-moves r (node n k (inner head) sh ts) q e = then (known n k _ sh ts (q .0) .0) (e .scope) (seq-moves (headRole img sh) ts (q .1) e)
       walk-moves r (node n k (inner member) sh ts) q e = then (known n k _ sh ts (q .0) .0) (e .scope) (first-moves names ts (q .1) e)
       walk-moves r (node n k (inner headMember) sh ts) q e = next (first-moves names ts (q .1) e) (marks n allOnes allOnes (known n k _ sh ts (q .0) .0))
-      walk-moves r (node n k (inner branch) sh ts) q e = then (known n k _ sh ts (q .0) .0) (e .scope) (seq-moves occurs ts (q .1) e)
-      walk-moves r (node n k (inner match) sh ts) q e = then (known n k _ sh ts (q .0) .0) (e .scope) (seq-moves occurs ts (q .1) e)
       walk-moves r (node n k (inner case) sh ts) q e = then (known n k _ sh ts (q .0) .0) (e .scope) (drops (seq-moves occurs ts (q .1) e))
       walk-moves r (node n k (inner ifVar) sh ts) q e = then (known n k _ sh ts (q .0) .0) (e .scope) (first-moves declares ts (q .1) e)
       walk-moves r (node n k (inner definedThen) sh ts) q e = then (known n k _ sh ts (q .0) .0) (e .scope) (first-moves (defines (e .scope)) ts (q .1) e)

@@ -1,30 +1,14 @@
 -- A walk raises each count by at most the number of nodes of the tree, and leaves at a scope that is there.
-use mathlib.Core.Path.{_≡_, refl, ap}
 use mathlib.Core.Bool.{Bool, true, false}
 use mathlib.Core.List.{List, [], _∷_}
 use Prim.Native.Nat.{ℕ, zero, suc, _+_, _≤_, _<_}
 use native.Mathlib.Omega.{arith}
-use lib.ListN.{length, length-append}
 use Rattle.ast.specs.Image.{nameOf}
-use Rattle.ast.specs.Kinds.{outer, inner, plain, term, ident, head, headMember, member, branch, match, case, ifVar, definedThen, arg}
-use Rattle.ast.specs.Tree.{Tree, node, block, Trees, none, _◂_}
+use Rattle.ast.specs.Kinds.{outer, inner, plain, term, ident, head, headMember, member, case, ifVar, definedThen, arg}
+use Rattle.ast.specs.Tree.{Tree, node, block, Trees, none, _◂_, size, sizes}
 use Rattle.table.specs.State.{Exit, introduce, childScope, ownSymbol, marked, unmarked, back}
 use Rattle.table.specs.Table.{lookup, isKind, isValue, mark, newScope, newSymbol}
-use Rattle.ast.proofs.Count.{nodesOf, nodesAll}
-use Rattle.ordered.specs.Size.{size, sizes}
 use Rattle.ordered.specs.Walk.{Role, occurs, declares, names, defines, walkIdent, headRole, walkArg, walk, walkSeq, walkFirst}
-
--- as many as the numbers of its nodes
-mutual
-  unfolding size nodesOf
-
-  pub size-nodes : (u : Tree) → size u ≡ length (nodesOf u)
-  size-nodes (node n k c sh ts) = ap suc (sizes-nodes ts)
-  size-nodes (block ts) = sizes-nodes ts
-
-  pub sizes-nodes : (us : Trees) → sizes us ≡ length (nodesAll us)
-  sizes-nodes none = refl
-  sizes-nodes (t ◂ ts) = let a = size-nodes t in let b = sizes-nodes ts in let c = length-append (nodesOf t) (nodesAll ts) in omega arith
 
 -- f is e with at most k scopes and k symbols more
 pub record Within (k : ℕ) (e f : Exit) : Type 0 where
@@ -91,8 +75,6 @@ module _ (img : List ℕ) where
     walk-within r (node n k (inner head) sh ts) e = in-marked n (e .scope) (one-less (seq-within (headRole img sh) ts e))
     walk-within r (node n k (inner member) sh ts) e = in-marked n (e .scope) (one-less (first-within names ts e))
     walk-within r (node n k (inner headMember) sh ts) e = in-unmarked n (one-less (first-within names ts e))
-    walk-within r (node n k (inner branch) sh ts) e = in-marked n (e .scope) (one-less (seq-within occurs ts e))
-    walk-within r (node n k (inner match) sh ts) e = in-marked n (e .scope) (one-less (seq-within occurs ts e))
     walk-within r (node n k (inner case) sh ts) e = in-marked n (e .scope) (one-less (in-back (seq-within occurs ts e)))
     walk-within r (node n k (inner ifVar) sh ts) e = in-marked n (e .scope) (one-less (first-within declares ts e))
     walk-within r (node n k (inner definedThen) sh ts) e = in-marked n (e .scope) (one-less (first-within (defines (e .scope)) ts e))

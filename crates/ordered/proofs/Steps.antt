@@ -21,7 +21,7 @@ use Rattle.ast.proofs.Row.{Child, FormedFields, next, nodeOf}
 use Rattle.ast.proofs.Shapes.{termKinds, headKinds, row, tree-of, child-is, case-kids, case-one, case-child}
 use Rattle.ast.proofs.Small.{tree-small}
 use Rattle.ordered.specs.Walk.{Role, occurs, names, walkIdent, headRole, walk, walkSeq}
-use Rattle.ordered.specs.Walkers.{over, inside, Room, Ready}
+use Rattle.ordered.specs.Promises.{over, inside, Room, Ready}
 use Rattle.ordered.proofs.Grows.{Grows, few-below, sorted-below, stays, marked-grows, ident-grows, walk-grows}
 
 pub room-below : {img : List ℕ} {e f : Exit} → Grows img e f → Room img f → Room img e

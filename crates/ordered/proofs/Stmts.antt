@@ -1,31 +1,26 @@
 -- What a walk over a statement is.
 use mathlib.Core.Path.{_≡_, refl, sym, ap, subst, _∙_}
-use mathlib.Core.List.{List, [], _∷_}
+use mathlib.Core.List.{List}
 use Prim.Native.Nat.{ℕ, suc, _+_, _-_, _<_, _≤_}
 use native.Mathlib.Nat.{sub-zero}
 use lib.ListN.{length}
 use Rattle.ast.specs.Image.{field}
-use Rattle.ast.specs.Is.{Is, kindBy}
+use Rattle.ast.specs.Is.{Is}
 use Rattle.ast.specs.Items.{items, blocks}
-use Rattle.ast.specs.Kinds.{Class, child, list, kindOf}
+use Rattle.ast.specs.Kinds.{kindOf}
 use Rattle.ast.specs.Tree.{Tree, Trees}
 use Rattle.table.specs.State.{Exit, marked, back}
-use Rattle.ast.proofs.Row.{append-none, next, ends, nodeOf, Child, Items, FormedFields}
-use Rattle.ast.proofs.Shapes.{one-more, formed-row, row, tree-of, child-is}
+use Rattle.ast.proofs.Row.{append-none, next, nodeOf, Child, FormedFields}
+use Rattle.ast.proofs.Shapes.{one-more, row, tree-of, child-is, run-tail}
 use Rattle.ast.proofs.Small.{blocks-small}
 use Rattle.ordered.specs.Walk.{occurs, walk, walkSeq}
-use Rattle.ordered.specs.Walkers.{over, rest, Ready, Run}
-use Rattle.ordered.proofs.Blocks.{BlocksFrom, blocks-from, blocks-place, NextBlock, next-block}
+use Rattle.ordered.specs.Promises.{over, rest, Ready, ReadyRun}
+use Rattle.ast.proofs.Blocks.{BlocksFrom, blocks-from, blocks-place, NextBlock, next-block}
 use Rattle.ordered.proofs.Grows.{Grows, stays, further, back-grows, seq-grows}
 use Rattle.ordered.proofs.Steps.{part-room}
-use Rattle.ordered.proofs.Lists.{rest-start, rest-grows, runOf}
+use Rattle.ordered.proofs.Lists.{rest-start, rest-grows}
 
 module _ (img : List ℕ) where
-  -- a row of a child and a list ends soon enough
-  tail-short : {cl : Class} {k l n : ℕ} → Is img (kindBy cl (child k ∷ list l ∷ [])) n → 2 + field img n 1 ≤ 8192
-  unfolding ends next
-  tail-short is = (formed-row img is) .short
-
   -- a match case: its pattern, then its statements ------------------------------------------------------------------
   case-whole : {n : ℕ} (e : Exit) → Is img (kindOf 35) n → over img n e ≡ marked img n (e .scope) (back img (e .scope) (walkSeq img occurs (items img n (field img n 1) 2) (over img (field img n 0) e)))
   unfolding walk nodeOf kindOf
@@ -36,20 +31,19 @@ module _ (img : List ℕ) where
   pub record MatchCase (n c count : ℕ) (e : Exit) : Type 0 where
     pub low : c < n
     pub first : Ready img (kindOf 12) c e
-    pub second : Run img 36 n 2 count (over img c e)
+    pub second : ReadyRun img 36 n 2 count (over img c e)
     pub whole : over img n e ≡ marked img n (e .scope) (back img (e .scope) (rest img occurs n 2 count 0 (over img c e)))
 
   pub matchCase : {n c count : ℕ} {e : Exit} → Ready img (kindOf 35) n e → c ≡ field img n 0 → count ≡ field img n 1 → MatchCase n c count e
   unfolding FormedFields next kindOf
   matchCase {n} {c} {count} {e} p q r =
       let h : Child img n 12 (field img n 0) = (row img (p .is)) .0 in
-      let hs : Items img n 36 (field img n 1) 2 = (row img (p .is)) .1 .0 in
       let w = case-whole e (p .is) ∙ ap (λ (f : Exit). marked img n (e .scope) (back img (e .scope) f)) (rest-start img occurs n 2 (field img n 1) (over img (field img n 0) e)) in
       subst (λ (x : ℕ). MatchCase n x count e) (sym q) (subst (λ (x : ℕ). MatchCase n (field img n 0) x e) (sym r)
       (record {
         low = h .below;
         first = record { is = child-is img (p .is) h; room = part-room img p w (back-grows img (e .scope) (rest-grows img occurs n 2 (field img n 1) 0 _)) };
-        second = runOf img (p .is) hs (tail-short (p .is)) (part-room img p w (back-grows img (e .scope) (stays _)));
+        second = record { run = run-tail img (p .is) refl refl; room = part-room img p w (back-grows img (e .scope) (stays _)) };
         whole = w;
       }))
 
@@ -57,7 +51,7 @@ module _ (img : List ℕ) where
   pub record MatchOf (n c : ℕ) (e : Exit) : Type 0 where
     pub low : c < n
     pub first : Ready img (kindOf 12) c e
-    pub second : Run img 35 n 2 (field img n 1) (over img c e)
+    pub second : ReadyRun img 35 n 2 (field img n 1) (over img c e)
     pub whole : over img n e ≡ marked img n (e .scope) (rest img occurs n 2 (field img n 1) 0 (over img c e))
 
   match-whole : {n : ℕ} (e : Exit) → Is img (kindOf 40) n → over img n e ≡ marked img n (e .scope) (walkSeq img occurs (items img n (field img n 1) 2) (over img (field img n 0) e))
@@ -70,13 +64,12 @@ module _ (img : List ℕ) where
   unfolding FormedFields next kindOf
   matchOf {n} {c} {e} p q =
       let h : Child img n 12 (field img n 0) = (row img (p .is)) .0 in
-      let hs : Items img n 35 (field img n 1) 2 = (row img (p .is)) .1 .0 in
       let w = match-whole e (p .is) ∙ ap (marked img n (e .scope)) (rest-start img occurs n 2 (field img n 1) (over img (field img n 0) e)) in
       subst (λ (x : ℕ). MatchOf n x e) (sym q)
       (record {
         low = h .below;
         first = record { is = child-is img (p .is) h; room = part-room img p w (rest-grows img occurs n 2 (field img n 1) 0 _) };
-        second = runOf img (p .is) hs (tail-short (p .is)) (part-room img p w (stays _));
+        second = record { run = run-tail img (p .is) refl refl; room = part-room img p w (stays _) };
         whole = w;
       })
 
@@ -113,16 +106,14 @@ module _ (img : List ℕ) where
 
   -- one block more, of size s
   pub record BlockItem (n i j s : ℕ) (e f : Exit) : Type 0 where
-    pub run : Run img 36 n (j + 1) s f
-    pub fits : j + 1 + s ≤ 8192
+    pub run : ReadyRun img 36 n (j + 1) s f
     pub more : (g : Exit) → g ≡ back img (f .scope) (rest img occurs n (j + 1) s 0 f) → length (g .table .words) ≡ length (e .table .words) → BlocksLeft n (i + 1) (j + 1 + s) e g
 
   pub blockItem : {n i j s : ℕ} {e f : Exit} → Ready img (kindOf 39) n e → BlocksLeft n i j e f → i < field img n 0 → s ≡ field img n j → BlockItem n i j s e f
   blockItem {n} {i} {j} {s} {e} {f} p b l q =
       subst (λ (x : ℕ). BlockItem n i j x e f) (sym q)
       (record {
-        run = runOf img (p .is) (k .items) (k .fits) (part-room img p (branch-whole e (p .is) ∙ ap (marked img n (e .scope)) m) (further (back-grows img (f .scope) (stays _)) (blocks-grows n c (j + 1 + z) _)));
-        fits = k .fits;
+        run = record { run = k .run; room = part-room img p (branch-whole e (p .is) ∙ ap (marked img n (e .scope)) m) (further (back-grows img (f .scope) (stays _)) (blocks-grows n c (j + 1 + z) _)) };
         more = λ g w long. record { from = k .from; long = long; left = m ∙ ap (walkSeq img occurs (blocks img n c (j + 1 + z))) (sym w) };
       })
     where

@@ -1,4 +1,3 @@
 pub mod Walk
-pub mod Walkers
+pub mod Promises
 pub mod Kept
-pub mod Size

@@ -3,9 +3,9 @@ use mathlib.Core.Bool.{Bool, true, false}
 use mathlib.Core.List.{List, [], _∷_}
 use Prim.Native.Nat.{ℕ, zero, suc}
 use Rattle.ast.specs.Image.{nameOf}
-use Rattle.ast.specs.Kinds.{Class, outer, inner, Inner, plain, term, ident, head, headMember, member, branch, match, case, ifVar, definedThen, arg}
+use Rattle.ast.specs.Kinds.{Class, outer, inner, Inner, plain, term, ident, head, headMember, member, case, ifVar, definedThen, arg}
 use Rattle.ast.specs.Tree.{Tree, node, block, Trees, none, _◂_}
-use Rattle.table.specs.Table.{lookup, isKind, isValue}
+use Rattle.table.specs.Table.{lookup, isKind, isVar, isValue}
 use Rattle.table.specs.State.{Exit, introduce, marked, unmarked, back}
 
 -- what an IdentTerm does at its place: an ordinary term, an if-var, a defined-then variable (with the scope before the
@@ -18,8 +18,8 @@ module _ (img : List ℕ) where
   unfoldable pub walkIdent : Role → ℕ → Exit → Exit
   unfolding lookup isKind isValue introduce
   walkIdent occurs i e = elim (isValue img (lookup img (e .table) (e .scope) (nameOf img i))) [ true ↦ e | false ↦ introduce img i e ]
-  walkIdent declares i e = elim (isKind img 13 (lookup img (e .table) (e .scope) (nameOf img i))) [ true ↦ e | false ↦ introduce img i e ]
-  walkIdent (defines before) i e = elim (isKind img 13 (lookup img (e .table) before (nameOf img i))) [ true ↦ e | false ↦ introduce img i e ]
+  walkIdent declares i e = elim (isVar img (lookup img (e .table) (e .scope) (nameOf img i))) [ true ↦ e | false ↦ introduce img i e ]
+  walkIdent (defines before) i e = elim (isVar img (lookup img (e .table) before (nameOf img i))) [ true ↦ e | false ↦ introduce img i e ]
   walkIdent names i e = e
 
   unfoldable pub headRole : List ℕ → Role
@@ -45,8 +45,6 @@ module _ (img : List ℕ) where
     walk r (node n k (inner head) sh ts) e = marked img n (e .scope) (walkSeq (headRole sh) ts e)
     walk r (node n k (inner member) sh ts) e = marked img n (e .scope) (walkFirst names ts e)
     walk r (node n k (inner headMember) sh ts) e = unmarked img n (walkFirst names ts e)
-    walk r (node n k (inner branch) sh ts) e = marked img n (e .scope) (walkSeq occurs ts e)
-    walk r (node n k (inner match) sh ts) e = marked img n (e .scope) (walkSeq occurs ts e)
     walk r (node n k (inner case) sh ts) e = marked img n (e .scope) (back img (e .scope) (walkSeq occurs ts e))
     walk r (node n k (inner ifVar) sh ts) e = marked img n (e .scope) (walkFirst declares ts e)
     walk r (node n k (inner definedThen) sh ts) e = marked img n (e .scope) (walkFirst (defines (e .scope)) ts e)

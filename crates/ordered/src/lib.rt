@@ -4,16 +4,15 @@ ghost use mathlib.Core.List.{[], _∷_};
 ghost use Prim.Native.Nat.{ℕ, suc, _+_, _<_};
 ghost use Rattle.ast.specs.Image as «image-spec»;
 ghost use Rattle.ast.specs.Items.{blocks};
-ghost use Rattle.ast.specs.Is.{Is, kindBy};
-ghost use Rattle.ast.specs.Kinds.{inner, plain, child, kindOf};
+ghost use Rattle.ast.specs.Is.{Is, oneTerm, twoTerms};
+ghost use Rattle.ast.specs.Kinds.{kindOf};
 ghost use Rattle.ast.specs.Tree.{treeAt};
 ghost use Rattle.table.specs.Table as «table-spec»;
 ghost use Rattle.table.specs.Rows.{Sorted};
-ghost use Rattle.table.specs.Values.{exitOf, optionOf};
+ghost use Rattle.table.specs.Values.{exitOf};
 ghost use Rattle.ordered.specs.Walk.{occurs, declares, defines, names, walk, walkSeq, walkIdent, headRole};
-ghost use Rattle.ordered.specs.Walkers.{over, inside, rest, Room, Ready, Variable, Run};
+ghost use Rattle.ordered.specs.Promises.{over, inside, rest, Room, Ready, Variable, ReadyRun};
 use ast::NodeId;
-use table::Found;
 use table::ScopeId;
 use table::Walked;
 
@@ -56,7 +55,7 @@ pub fn walk_names(image: &[u8], table: &mut [u32], at: Walked, node: NodeId) -> 
     w
 }
 
-// A term, whose last place is its own.
+// A term: what it holds, then its own two places.
 pub fn walk_term(image: &[u8], table: &mut [u32], at: Walked, term: NodeId) -> Walked
     requires { ⌜ Ready (now image) (kindOf 12) (term .0) (exitOf at (now table)) ⌝ }
     ensures { λ r. ⌜ exitOf r (now (table .exit)) ≡ over (now (image .entry)) (term .0) (exitOf at (now (table .entry))) ⌝ }
@@ -94,7 +93,7 @@ pub fn walk_app_term(image: &[u8], table: &mut [u32], at: Walked, id: NodeId) ->
 
 // A Dom, Cod or Id term.
 pub fn walk_one_term(image: &[u8], table: &mut [u32], at: Walked, id: NodeId) -> Walked
-    requires { ⌜ Ready (now image) (kindBy (inner plain) (child 12 ∷ [])) (id .0) (exitOf at (now table)) ⌝ }
+    requires { ⌜ Ready (now image) oneTerm (id .0) (exitOf at (now table)) ⌝ }
     ensures { λ r. ⌜ exitOf r (now (table .exit)) ≡ over (now (image .entry)) (id .0) (exitOf at (now (table .entry))) ⌝ }
 {
     let arg = NodeId(ast::field(image, id, 0));
@@ -104,7 +103,7 @@ pub fn walk_one_term(image: &[u8], table: &mut [u32], at: Walked, id: NodeId) ->
 
 // A Comp term, or an Equal atom: two terms.
 pub fn walk_two_terms(image: &[u8], table: &mut [u32], at: Walked, id: NodeId) -> Walked
-    requires { ⌜ Ready (now image) (kindBy (inner plain) (child 12 ∷ child 12 ∷ [])) (id .0) (exitOf at (now table)) ⌝ }
+    requires { ⌜ Ready (now image) twoTerms (id .0) (exitOf at (now table)) ⌝ }
     ensures { λ r. ⌜ exitOf r (now (table .exit)) ≡ over (now (image .entry)) (id .0) (exitOf at (now (table .entry))) ⌝ }
 {
     let first = NodeId(ast::field(image, id, 0));
@@ -230,23 +229,13 @@ pub fn walk_pred_atom(image: &[u8], table: &mut [u32], at: Walked, id: NodeId) -
     table::leave(image, table, id, at, after_args)
 }
 
-// A Var.
-pub fn is_var(image: &[u8], found: Found) -> bool
-    ensures { λ r. ⌜ r ≡ «table-spec».isKind (now (image .entry)) 13 (optionOf found) ⌝ }
-{
-    match found {
-        Found::At(node) => ast::kind_at(image, node) == 13,
-        Found::Nothing => false,
-    }
-}
-
 // The name is a Var in the scope.
 pub fn lookup_var(image: &[u8], table: &[u32], symbols: u32, scope: ScopeId, name: u32) -> bool
     requires { ⌜ Sorted («image-spec».nodes (now image)) symbols (now table) ⌝ }
-    ensures { λ r. ⌜ r ≡ «table-spec».isKind (now (image .entry)) 13 («table-spec».climb (now (image .entry)) (suc (scope .0)) (now (table .entry)) symbols (scope .0) name) ⌝ }
+    ensures { λ r. ⌜ r ≡ «table-spec».isVar (now (image .entry)) («table-spec».climb (now (image .entry)) (suc (scope .0)) (now (table .entry)) symbols (scope .0) name) ⌝ }
 {
     let found = table::seek(image, table, symbols, scope, name);
-    is_var(image, found)
+    table::is_var(image, found)
 }
 
 // The ident introduced, unless lookup from the scope `before` gives a Var.
@@ -409,7 +398,7 @@ pub fn walk_stmt_block(
     first: usize,
     count: usize,
 ) -> Walked
-    requires { ⌜ Run (now image) 36 (node .0) first count (exitOf at (now table)) ⌝ }
+    requires { ⌜ ReadyRun (now image) 36 (node .0) first count (exitOf at (now table)) ⌝ }
     ensures { λ r. ⌜ exitOf r (now (table .exit)) ≡ rest (now (image .entry)) occurs (node .0) first count 0 (exitOf at (now (table .entry))) ⌝ }
 {
     let mut done = 0;
@@ -488,7 +477,7 @@ pub fn walk_match(image: &[u8], table: &mut [u32], at: Walked, id: NodeId) -> Wa
 
 // Each case from the scope after the matched term.
 pub fn walk_cases(image: &[u8], table: &mut [u32], at: Walked, id: NodeId) -> Walked
-    requires { ⌜ Run (now image) 35 (id .0) 2 («image-spec».field (now image) (id .0) 1) (exitOf at (now table)) ⌝ }
+    requires { ⌜ ReadyRun (now image) 35 (id .0) 2 («image-spec».field (now image) (id .0) 1) (exitOf at (now table)) ⌝ }
     ensures { λ r. ⌜ exitOf r (now (table .exit)) ≡ rest (now (image .entry)) occurs (id .0) 2 («image-spec».field (now (image .entry)) (id .0) 1) 0 (exitOf at (now (table .entry))) ⌝ }
 {
     let count = ast::wide(ast::field(image, id, 1));
@@ -535,7 +524,7 @@ pub fn walk_arg_decl(image: &[u8], table: &mut [u32], at: Walked, id: NodeId) ->
 }
 
 pub fn walk_args(image: &[u8], table: &mut [u32], at: Walked, node: NodeId, count: usize) -> Walked
-    requires { ⌜ Run (now image) 10 (node .0) 1 count (exitOf at (now table)) ⌝ }
+    requires { ⌜ ReadyRun (now image) 10 (node .0) 1 count (exitOf at (now table)) ⌝ }
     ensures { λ r. ⌜ exitOf r (now (table .exit)) ≡ rest (now (image .entry)) occurs (node .0) 1 count 0 (exitOf at (now (table .entry))) ⌝ }
 {
     let mut i = 0;

@@ -1,5 +1,6 @@
 -- The rows of Errors and of Occurrences: a count, then two parallel arrays of N words.
 use mathlib.Core.Path.{_≡_}
+use mathlib.Core.Bool.{Bool, true, false}
 use mathlib.Core.List.{List, [], _∷_, _++_}
 use Prim.Native.Nat.{ℕ, zero, suc, _+_, _*_, _-_}
 use lib.ListN.{length, getD, set, drop, replicate}
@@ -11,6 +12,11 @@ pub record Row : Type 0 where
 
 abbrev pub row : ℕ → ℕ → Row
 row a b = record { left = a; right = b }
+
+-- the row, where a test holds
+unfoldable pub when : Bool → Row → List Row
+when true w = w ∷ []
+when false w = []
 
 unfoldable pub lefts : List Row → List ℕ
 lefts [] = []

@@ -5,26 +5,52 @@ use mathlib.Core.List.{List, [], _∷_}
 use mathlib.Core.Option.{Option, none as nothing, some}
 use Prim.Native.Nat.{ℕ, zero, suc, _+_, _<_, _≤_}
 use native.Mathlib.Omega.{arith}
-use lib.ListN.{length}
+use lib.ListN.{length, length-append}
+use Rattle.ast.specs.Declarations.{ruleNode, declared, declaredAll}
 use Rattle.ast.specs.Image.{nodes, nameOf}
 use Rattle.ast.specs.Kinds.{outer, inner, root, decl, signature, rule, enum, model}
-use Rattle.ast.specs.Tree.{Tree, node, block, Trees, none, _◂_}
+use Rattle.ast.specs.Tree.{Tree, node, block, Trees, none, _◂_, size, sizes}
 use Rattle.ast.proofs.Small.{Small, Smalls}
+use Rattle.ast.proofs.Unfold.{All, nil, cons, All-append}
 use Rattle.table.specs.Rows.{scopeOf}
 use Rattle.table.specs.State.{Exit, childScope, ownSymbol, marked, back}
 use Rattle.table.specs.Table.{find, mark, newScope, newSymbol}
 use Rattle.ordered.specs.Walk.{occurs, walkSeq}
-use Rattle.ordered.specs.Walkers.{Few}
+use Rattle.ordered.specs.Promises.{Few}
 use Rattle.ordered.proofs.Grows.{seq-grows}
 use Rattle.ordered.specs.Kept.{Kept}
 use Rattle.ordered.proofs.Kept.{past, mark-kept, scope-kept, symbol-kept, mark-past, scope-past, symbol-past, mark-length, scope-length, symbol-length, mark-rows, scope-rows}
-use Rattle.ordered.specs.Size.{size, sizes}
 use Rattle.ordered.proofs.Size.{seq-within}
-use Rattle.scopes.specs.Walk.{Listed, done, twice, enterName, enterRule, andThen, enter, enterAll, visit, visitAll}
-use Rattle.scopes.specs.Lists.{ent, ents, vis, viss, Fits}
+use Rattle.scopes.specs.Walk.{Listed, done, twice, recorded, recordedAll, enterName, andThen, enterNames, markAll, enter, enterAll, visit, visitAll}
+use Rattle.scopes.specs.Promises.{ent, ents, vis, viss, Fits}
+
+-- the nodes that record are nodes of the tree
+module _ (m : ℕ) where
+  mutual
+    unfolding recorded Small
+
+    pub recorded-small : (u : Tree) → Small m u → All (λ n. n < m) (recorded u)
+    recorded-small (block ts) q = nil
+    recorded-small (node n k (inner i) sh ts) q = nil
+    recorded-small (node n k (outer root) sh ts) q = nil
+    recorded-small (node n k (outer decl) sh ts) q = cons (q .0) (recordedAll-small ts (q .1))
+    recorded-small (node n k (outer signature) sh ts) q = cons (q .0) nil
+    recorded-small (node n k (outer rule) sh ts) q = cons (q .0) nil
+    recorded-small (node n k (outer enum) sh ts) q = cons (q .0) (recordedAll-small ts (q .1))
+    recorded-small (node n k (outer model) sh ts) q = nil
+
+    pub recordedAll-small : (us : Trees) → Smalls m us → All (λ n. n < m) (recordedAll us)
+    recordedAll-small none q = nil
+    recordedAll-small (u ◂ us) q = All-append (recorded-small u (q .0)) (recordedAll-small us (q .1))
+
+rule-one : (sh : List ℕ) (n : ℕ) → length (ruleNode sh n) ≤ 1
+unfolding ruleNode
+rule-one [] n = omega arith
+rule-one (zero ∷ sh) n = omega arith
+rule-one (suc c ∷ sh) n = omega arith
 
 mutual
-  unfolding vis ent size
+  unfolding vis declared size
 
   pub adds : (u : Tree) → ent u + vis u ≤ size u
   adds (block ts) = omega arith
@@ -32,13 +58,13 @@ mutual
   adds (node n k (outer root) sh ts) = omega arith
   adds (node n k (outer decl) sh ts) = let h = addss ts in omega arith
   adds (node n k (outer signature) sh ts) = omega arith
-  adds (node n k (outer rule) sh ts) = omega arith
+  adds (node n k (outer rule) sh ts) = let h = rule-one sh n in omega arith
   adds (node n k (outer enum) sh ts) = let h = addss ts in omega arith
   adds (node n k (outer model) sh ts) = let h = addss ts in omega arith
 
   pub addss : (us : Trees) → ents us + viss us ≤ sizes us
   addss none = omega arith
-  addss (u ◂ us) = let h = adds u in let k = addss us in omega arith
+  addss (u ◂ us) = let h = adds u in let k = addss us in let q = length-append (declared u) (declaredAll us) in omega arith
 
 -- what a walk keeps of its table
 abbrev pub KeptAt : List ℕ → Exit → Type 0
@@ -153,11 +179,10 @@ module _ (img : List ℕ) where
   unfolding enterName named
   name-in n e = named-in n e (find img (e .table) (e .scope) (nameOf img n))
 
-  rule-in : (sh : List ℕ) (n : ℕ) (e : Exit) → In img (Newest img) 0 1 e (enterRule img sh n e)
-  unfolding enterRule
-  rule-in [] n e = wide (omega arith) (omega arith) (stay e)
-  rule-in (zero ∷ sh) n e = wide (omega arith) (omega arith) (stay e)
-  rule-in (suc c ∷ sh) n e = name-in n e
+  names-in : (ns : List ℕ) (e : Exit) → In img (Newest img) 0 (length ns) e (enterNames img ns e)
+  unfolding enterNames
+  names-in [] e = stay e
+  names-in (n ∷ ns) e = wide (omega arith) (omega arith) (and-in (enterName img n e) (enterNames img ns) (name-in n e) (λ f. names-in ns f))
 
   -- marks change no count and no row
   from-marked : {n : ℕ} → n < nodes img → (cur : ℕ) {a b : ℕ} (e : Exit) {l : Listed} → In img (Newest img) a b (marked img n cur e) l → In img (Newest img) a b e l
@@ -178,23 +203,18 @@ module _ (img : List ℕ) where
             };
       }
 
-  mutual
-    unfolding enter ent Small
+  from-marks : {ns : List ℕ} → All (λ n. n < nodes img) ns → {a b : ℕ} (e : Exit) {l : Listed} → In img (Newest img) a b (markAll img ns e) l → In img (Newest img) a b e l
+  unfolding markAll
+  from-marks nil e w = w
+  from-marks (cons {c = n} l h) e w = from-marked l (e .scope) e (from-marks h (marked img n (e .scope) e) w)
 
-    pub enter-in : (u : Tree) → Small (nodes img) u → (e : Exit) → In img (Newest img) 0 (ent u) e (enter img u e)
-    enter-in (block ts) q e = stay e
-    enter-in (node n k (inner i) sh ts) q e = stay e
-    enter-in (node n k (outer root) sh ts) q e = stay e
-    enter-in (node n k (outer decl) sh ts) q e = from-marked (q .0) (e .scope) e (enterAll-in ts (q .1) (marked img n (e .scope) e))
-    enter-in (node n k (outer signature) sh ts) q e = from-marked (q .0) (e .scope) e (name-in n (marked img n (e .scope) e))
-    enter-in (node n k (outer rule) sh ts) q e = from-marked (q .0) (e .scope) e (rule-in sh n (marked img n (e .scope) e))
-    enter-in (node n k (outer enum) sh ts) q e =
-        from-marked (q .0) (e .scope) e (and-in (enterName img n (marked img n (e .scope) e)) (enterAll img ts) (name-in n (marked img n (e .scope) e)) (λ f. enterAll-in ts (q .1) f))
-    enter-in (node n k (outer model) sh ts) q e = name-in n e
+  pub enter-in : (u : Tree) → Small (nodes img) u → (e : Exit) → In img (Newest img) 0 (ent u) e (enter img u e)
+  unfolding enter
+  enter-in u q e = from-marks (recorded-small (nodes img) u q) e (names-in (declared u) (markAll img (recorded u) e))
 
-    pub enterAll-in : (us : Trees) → Smalls (nodes img) us → (e : Exit) → In img (Newest img) 0 (ents us) e (enterAll img us e)
-    enterAll-in none q e = stay e
-    enterAll-in (u ◂ us) q e = and-in (enter img u e) (enterAll img us) (enter-in u (q .0) e) (λ f. enterAll-in us (q .1) f)
+  pub enterAll-in : (us : Trees) → Smalls (nodes img) us → (e : Exit) → In img (Newest img) 0 (ents us) e (enterAll img us e)
+  unfolding enterAll
+  enterAll-in us q e = from-marks (recordedAll-small (nodes img) us q) e (names-in (declaredAll us) (markAll img (recordedAll us) e))
 
   walked-in : (ts : Trees) → Smalls (nodes img) ts → (e : Exit) → Went img (KeptAt img) (sizes ts) (sizes ts) e (back img (e .scope) (walkSeq img occurs ts e))
   walked-in ts q e =

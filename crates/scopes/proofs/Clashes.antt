@@ -1,28 +1,27 @@
 -- The walk stops at the first clash and nowhere else: what entering a list finds in its scope is what the list declared before.
-use mathlib.Core.Path.{_≡_, refl, sym, ap, subst, _∙_}
-use mathlib.Core.Bool.{Bool, true, false}
-use mathlib.Core.List.{List, [], _∷_, _++_, append-assoc, append-nil}
+use mathlib.Core.Path.{_≡_, refl, sym, ap, _∙_}
+use mathlib.Core.List.{List, [], _∷_, _++_}
 use mathlib.Core.Option.{Option, none as nothing, some}
-use Prim.Native.Nat.{ℕ, zero, suc, _+_, _<_, _≤_}
+use Prim.Native.Nat.{ℕ, suc, _+_, _<_, _≤_}
 use native.Mathlib.Omega.{arith}
-use lib.Dec.{eqb}
 use lib.ListN.{length}
+use Rattle.ast.specs.Declarations.{declaredAll, modelLists, modelListsAll, orElse, earliest}
 use Rattle.ast.specs.Image.{nodes, nameOf}
 use Rattle.ast.specs.Kinds.{outer, inner, root, decl, signature, rule, enum, model}
-use Rattle.ast.specs.Tree.{Tree, node, block, Trees, none, _◂_}
+use Rattle.ast.specs.Tree.{Tree, node, block, Trees, none, _◂_, size, sizes}
+use Rattle.ast.proofs.Declarations.{orElse-assoc, earliest-append}
 use Rattle.ast.proofs.Small.{Small, Smalls}
+use Rattle.ast.proofs.Unfold.{All, nil, cons}
 use Rattle.table.specs.Layout.{tableLength}
 use Rattle.table.specs.Rows.{scopeOf}
 use Rattle.table.specs.State.{Exit, ownSymbol, marked, back}
-use Rattle.table.specs.Table.{find, mark}
-use Rattle.table.proofs.Frames.{own, find-none, find-mark, find-symbol}
-use Rattle.table.proofs.Rising.{either}
-use Rattle.ordered.proofs.Kept.{mark-length}
-use Rattle.ordered.specs.Size.{size, sizes}
-use Rattle.scopes.specs.Walk.{Listed, done, twice, enterName, enterRule, andThen, enter, enterAll, visit, visitAll}
-use Rattle.scopes.specs.Lists.{ent, ents, vis, viss, Fits}
-use Rattle.scopes.specs.Clash.{Clash, orElse, ruleNode, declared, declaredAll, earliest, clashFrom, modelClash, modelClashes}
-use Rattle.scopes.proofs.Adds.{named, Newest, Went, done-same, twice-done, name-in, enter-in, enterAll-in, opened, opened-counts, child-newest, child-empty, visit-in, fits-next}
+use Rattle.table.specs.Table.{find, mark, newSymbol}
+use Rattle.table.proofs.Frames.{find-none, find-mark, find-symbol}
+use Rattle.ordered.proofs.Kept.{mark-length, symbol-length}
+use Rattle.scopes.specs.Walk.{Listed, done, twice, recordedAll, enterName, andThen, enterNames, markAll, enterAll, visit, visitAll}
+use Rattle.scopes.specs.Promises.{ents, vis, viss, Fits}
+use Rattle.scopes.specs.Clash.{Clash, clashFrom, clashIn}
+use Rattle.scopes.proofs.Adds.{recordedAll-small, named, Newest, enterAll-in, opened, opened-counts, child-newest, child-empty, visit-in, fits-next}
 
 -- the clash that a walk stopped at
 unfoldable pub shows : Listed → Option Clash
@@ -32,7 +31,7 @@ shows (twice x a b) = some (record { name = x; first = a; second = b })
 module _ (img : List ℕ) where
   -- the scope that the walk stands in has the symbols ds, in this order
   abbrev pub Finds : List ℕ → Exit → Type 0
-  Finds ds e = (x : ℕ) → find img (e .table) (e .scope) x ≡ earliest img ds x
+  Finds ds e = (x : ℕ) → find img (e .table) (e .scope) x ≡ earliest (nameOf img) ds x
 
   -- m symbols more fit
   pub record Space (m : ℕ) (e : Exit) : Type 0 where
@@ -42,111 +41,46 @@ module _ (img : List ℕ) where
   space-less : {a b : ℕ} {e : Exit} → a ≤ b → Space b e → Space a e
   space-less h s = record { room = (let z = s .room in omega arith); long = s .long }
 
-  space-next : {Q : Exit → Type 0} {a m : ℕ} {e f : Exit} → Space (m + a) e → Went img Q 0 m e f → Space a f
-  space-next s w = record { room = (let y = w .symbols in let z = s .room in omega arith); long = (let y = w .long in let z = s .long in omega arith) }
+  finds-marks : (ds : List ℕ) {ns : List ℕ} → All (λ n. n < nodes img) ns → (e : Exit) → Finds ds e → Finds ds (markAll img ns e)
+  unfolding markAll marked
+  finds-marks ds nil e h = h
+  finds-marks ds (cons {c = n} l q) e h = finds-marks ds q (marked img n (e .scope) e) (λ x. find-mark img n (e .scope) (e .scope) (e .table) l (e .scope) x ∙ h x)
 
-  -- the nodes ns are entered after ds
-  pub record Told (ds ns : List ℕ) (l : Listed) : Type 0 where
-    pub shown : shows l ≡ clashFrom img ds ns
-    pub finds : (f : Exit) → l ≡ done f → Finds (ds ++ ns) f
+  space-marks : {m : ℕ} (ns : List ℕ) (e : Exit) → Space m e → Space m (markAll img ns e)
+  unfolding markAll marked mark
+  space-marks [] e s = s
+  space-marks (n ∷ ns) e s =
+      space-marks ns (marked img n (e .scope) e) (record { room = s .room; long = (let y = mark-length img n (e .scope) (e .scope) (e .table) in let z = s .long in omega arith) })
 
-  earliest-snoc : (ds : List ℕ) (n x : ℕ) → earliest img (ds ++ (n ∷ [])) x ≡ either (earliest img ds x) (own img n x)
-  unfolding earliest either own
-  earliest-snoc [] n x = refl
-  earliest-snoc (d ∷ ds) n x = go (eqb (nameOf img d) x) (earliest-snoc ds n x)
+  finds-symbol : (ds : List ℕ) (n : ℕ) (e : Exit) → Finds ds e → Space 1 e → Finds (ds ++ (n ∷ [])) (ownSymbol img n e)
+  unfolding ownSymbol
+  finds-symbol ds n e h s x =
+      find-symbol img (e .scope) n (e .table) (let y = s .room in omega arith) (s .long) x
+      ∙ ap (λ (o : Option ℕ). orElse o (earliest (nameOf img) (n ∷ []) x)) (h x) ∙ sym (earliest-append (nameOf img) ds (n ∷ []) x)
+
+  space-symbol : {m : ℕ} (n : ℕ) (e : Exit) → Space (suc m) e → Space m (ownSymbol img n e)
+  unfolding ownSymbol newSymbol
+  space-symbol n e s = record { room = (let z = s .room in omega arith); long = (let y = symbol-length img (e .scope) n (e .table) in let z = s .long in omega arith) }
+
+  -- the names ns are entered after ds: the walk stops at the first clash
+  names-shown : (ns ds : List ℕ) (e : Exit) → Finds ds e → Space (length ns) e → shows (enterNames img ns e) ≡ clashFrom (nameOf img) ds ns
+  unfolding enterNames enterName named clashFrom shows andThen
+  names-shown [] ds e h s = refl
+  names-shown (n ∷ ns) ds e h s =
+      ap (λ (o : Option ℕ). shows (andThen img (named img n e o) (enterNames img ns))) (h (nameOf img n))
+      ∙ go (earliest (nameOf img) ds (nameOf img n))
+      (names-shown ns (ds ++ (n ∷ [])) (ownSymbol img n e) (finds-symbol ds n e h (space-less (omega arith) s)) (space-symbol n e s))
     where
-      go : (b : Bool) → earliest img (ds ++ (n ∷ [])) x ≡ either (earliest img ds x) (own img n x)
-          → _≡_ {A = Option ℕ} (elim b [ true ↦ some d | false ↦ earliest img (ds ++ (n ∷ [])) x ]) (either (elim b [ true ↦ some d | false ↦ earliest img ds x ]) (own img n x))
-      go true h = refl
-      go false h = h
+      go : (o : Option ℕ) → shows (enterNames img ns (ownSymbol img n e)) ≡ clashFrom (nameOf img) (ds ++ (n ∷ [])) ns
+          → shows (andThen img (named img n e o) (enterNames img ns))
+          ≡ elim o [ some m ↦ some (record { name = nameOf img n; first = m; second = n }) | nothing ↦ clashFrom (nameOf img) (ds ++ (n ∷ [])) ns ]
+      go nothing q = q
+      go (some m) q = refl
 
-  clash-append : (ds ns ms : List ℕ) → clashFrom img ds (ns ++ ms) ≡ orElse (clashFrom img ds ns) (clashFrom img (ds ++ ns) ms)
-  unfolding clashFrom orElse
-  clash-append ds [] ms = ap (λ (l : List ℕ). clashFrom img l ms) (sym (append-nil ds))
-  clash-append ds (n ∷ ns) ms = go (earliest img ds (nameOf img n)) (clash-append (ds ++ (n ∷ [])) ns ms)
-    where
-      c : ℕ → Clash
-      c m = record { name = nameOf img n; first = m; second = n }
-
-      go : (o : Option ℕ) → clashFrom img (ds ++ (n ∷ [])) (ns ++ ms) ≡ orElse (clashFrom img (ds ++ (n ∷ [])) ns) (clashFrom img ((ds ++ (n ∷ [])) ++ ns) ms)
-          → _≡_ {A = Option Clash} (elim o [ some m ↦ some (c m) | nothing ↦ clashFrom img (ds ++ (n ∷ [])) (ns ++ ms) ])
-          (orElse (elim o [ some m ↦ some (c m) | nothing ↦ clashFrom img (ds ++ (n ∷ [])) ns ]) (clashFrom img (ds ++ (n ∷ ns)) ms))
-      go (some m) h = refl
-      go nothing h = h ∙ ap (λ (l : List ℕ). orElse (clashFrom img (ds ++ (n ∷ [])) ns) (clashFrom img l ms)) (append-assoc ds (n ∷ []) ns)
-
-  told-nil : (ds : List ℕ) (e : Exit) → Finds ds e → Told ds [] (done e)
-  unfolding shows clashFrom
-  told-nil ds e h = record { shown = refl; finds = λ f q. subst (λ (l : List ℕ). Finds l f) (sym (append-nil ds)) (subst (Finds ds) (done-same e f q) h) }
-
-  told-and : {ds ns ms : List ℕ} (l : Listed) (g : Exit → Listed) → Told ds ns l → ((f : Exit) → l ≡ done f → Told (ds ++ ns) ms (g f)) → Told ds (ns ++ ms) (andThen img l g)
-  unfolding andThen shows orElse
-  told-and {ds} {ns} {ms} (done e) g t h =
-      record {
-        shown = h e refl .shown ∙ sym (clash-append ds ns ms ∙ ap (λ (o : Option Clash). orElse o (clashFrom img (ds ++ ns) ms)) (sym (t .shown)));
-        finds = λ f q. subst (λ (l : List ℕ). Finds l f) (append-assoc ds ns ms) (h e refl .finds f q);
-      }
-  told-and {ds} {ns} {ms} (twice x a b) g t h =
-      record {
-        shown = sym (clash-append ds ns ms ∙ ap (λ (o : Option Clash). orElse o (clashFrom img (ds ++ ns) ms)) (sym (t .shown)));
-        finds = λ f q. absurd (twice-done x a b f q);
-      }
-
-  finds-marked : (ds : List ℕ) {n : ℕ} (cur : ℕ) (e : Exit) → n < nodes img → Finds ds e → Finds ds (marked img n cur e)
-  unfolding marked
-  finds-marked ds {n} cur e l h x = find-mark img n cur (e .scope) (e .table) l (e .scope) x ∙ h x
-
-  space-marked : {m : ℕ} (n cur : ℕ) (e : Exit) → Space m e → Space m (marked img n cur e)
-  unfolding marked mark
-  space-marked n cur e s = record { room = s .room; long = (let y = mark-length img n cur (e .scope) (e .table) in let z = s .long in omega arith) }
-
-  clashed : ℕ → Option ℕ → Option Clash
-  clashed n o = elim o [ some m ↦ some (record { name = nameOf img n; first = m; second = n }) | nothing ↦ nothing ]
-
-  told-named : (ds : List ℕ) (n : ℕ) (e : Exit) → Finds ds e → Space 1 e → (o : Option ℕ) → earliest img ds (nameOf img n) ≡ o → Told ds (n ∷ []) (named img n e o)
-  unfolding named clashed clashFrom shows ownSymbol
-  told-named ds n e h s nothing q =
-      record {
-        shown = sym (ap (clashed n) q);
-        finds = λ f r. subst (Finds (ds ++ (n ∷ []))) (done-same (ownSymbol img n e) f r) (λ x.
-            find-symbol img (e .scope) n (e .table) (let y = s .room in omega arith) (s .long) x
-            ∙ ap (λ (o : Option ℕ). either o (own img n x)) (h x) ∙ sym (earliest-snoc ds n x));
-      }
-  told-named ds n e h s (some m) q = record { shown = sym (ap (clashed n) q); finds = λ f r. absurd (twice-done (nameOf img n) m n f r) }
-
-  told-name : (ds : List ℕ) (n : ℕ) (e : Exit) → Finds ds e → Space 1 e → Told ds (n ∷ []) (enterName img n e)
-  unfolding enterName named
-  told-name ds n e h s = subst (λ (o : Option ℕ). Told ds (n ∷ []) (named img n e o)) (sym (h (nameOf img n))) (told-named ds n e h s (earliest img ds (nameOf img n)) refl)
-
-  told-rule : (sh ds : List ℕ) (n : ℕ) (e : Exit) → Finds ds e → Space 1 e → Told ds (ruleNode img sh n) (enterRule img sh n e)
-  unfolding enterRule ruleNode
-  told-rule [] ds n e h s = told-nil ds e h
-  told-rule (zero ∷ sh) ds n e h s = told-nil ds e h
-  told-rule (suc c ∷ sh) ds n e h s = told-name ds n e h s
-
-  mutual
-    unfolding enter ent declared Small
-
-    pub enter-told : (u : Tree) → Small (nodes img) u → (ds : List ℕ) (e : Exit) → Finds ds e → Space (ent u) e → Told ds (declared img u) (enter img u e)
-    enter-told (block ts) q ds e h s = told-nil ds e h
-    enter-told (node n k (inner i) sh ts) q ds e h s = told-nil ds e h
-    enter-told (node n k (outer root) sh ts) q ds e h s = told-nil ds e h
-    enter-told (node n k (outer decl) sh ts) q ds e h s =
-        enterAll-told ts (q .1) ds (marked img n (e .scope) e) (finds-marked ds (e .scope) e (q .0) h) (space-marked n (e .scope) e s)
-    enter-told (node n k (outer signature) sh ts) q ds e h s = told-name ds n (marked img n (e .scope) e) (finds-marked ds (e .scope) e (q .0) h) (space-marked n (e .scope) e s)
-    enter-told (node n k (outer rule) sh ts) q ds e h s = told-rule sh ds n (marked img n (e .scope) e) (finds-marked ds (e .scope) e (q .0) h) (space-marked n (e .scope) e s)
-    enter-told (node n k (outer enum) sh ts) q ds e h s =
-        let m = marked img n (e .scope) e in
-        let t = told-name ds n m (finds-marked ds (e .scope) e (q .0) h) (space-less (omega arith) (space-marked n (e .scope) e s)) in
-        told-and (enterName img n m) (enterAll img ts) t
-        (λ f r. enterAll-told ts (q .1) (ds ++ (n ∷ [])) f (t .finds f r) (space-next (space-marked n (e .scope) e s) ((name-in img n m) .went f r)))
-    enter-told (node n k (outer model) sh ts) q ds e h s = told-name ds n e h s
-
-    pub enterAll-told : (us : Trees) → Smalls (nodes img) us → (ds : List ℕ) (e : Exit) → Finds ds e → Space (ents us) e → Told ds (declaredAll img us) (enterAll img us e)
-    enterAll-told none q ds e h s = told-nil ds e h
-    enterAll-told (u ◂ us) q ds e h s =
-        let t = enter-told u (q .0) ds e h (space-less (omega arith) s) in
-        told-and (enter img u e) (enterAll img us) t
-        (λ f r. enterAll-told us (q .1) (ds ++ declared img u) f (t .finds f r) (space-next s ((enter-in img u (q .0) e) .went f r)))
+  enterAll-shown : (us : Trees) → Smalls (nodes img) us → (e : Exit) → Finds [] e → Space (ents us) e → shows (enterAll img us e) ≡ clashFrom (nameOf img) [] (declaredAll us)
+  unfolding enterAll
+  enterAll-shown us q e h s =
+      names-shown (declaredAll us) [] (markAll img (recordedAll us) e) (finds-marks [] (recordedAll-small (nodes img) us q) e h) (space-marks (recordedAll us) e s)
 
   -- a new scope has no symbol
   finds-none : (e : Exit) → ((j : ℕ) → j < e .table .symbols → scopeOf (nodes img) (e .table .words) j < e .scope) → Finds [] e
@@ -162,18 +96,25 @@ module _ (img : List ℕ) where
   shows-back (twice x a b) s = refl
 
   shows-and : (l : Listed) (g : Exit → Listed) (o p : Option Clash) → shows l ≡ o → ((f : Exit) → l ≡ done f → shows (g f) ≡ p) → shows (andThen img l g) ≡ orElse o p
-  unfolding andThen shows orElse
+  unfolding andThen shows
   shows-and (done e) g o p q h = h e refl ∙ ap (λ (c : Option Clash). orElse c p) q
   shows-and (twice x a b) g o p q h = ap (λ (c : Option Clash). orElse c p) q
 
+  clash-lists : (nss mss : List (List ℕ)) → clashIn (nameOf img) (nss ++ mss) ≡ orElse (clashIn (nameOf img) nss) (clashIn (nameOf img) mss)
+  unfolding clashIn
+  clash-lists [] mss = refl
+  clash-lists (ns ∷ nss) mss =
+      ap (orElse (clashFrom (nameOf img) [] ns)) (clash-lists nss mss) ∙ sym (orElse-assoc (clashFrom (nameOf img) [] ns) (clashIn (nameOf img) nss) (clashIn (nameOf img) mss))
+
   -- a list from a new scope on: its names, then what its declarations show
-  pub list-shown : (ts : Trees) (e : Exit) → Smalls (nodes img) ts → ((f : Exit) → Fits img (sizes ts) (viss ts) f → shows (visitAll img ts f) ≡ modelClashes img ts)
+  pub list-shown : (ts : Trees) (e : Exit) → Smalls (nodes img) ts → ((f : Exit) → Fits img (sizes ts) (viss ts) f → shows (visitAll img ts f) ≡ clashIn (nameOf img) (modelListsAll ts))
       → Newest img e → ((j : ℕ) → j < e .table .symbols → scopeOf (nodes img) (e .table .words) j < e .scope)
       → e .table .scopes + sizes ts ≤ nodes img → e .table .symbols + (ents ts + viss ts) ≤ nodes img
-      → shows (andThen img (enterAll img ts e) (visitAll img ts)) ≡ orElse (clashFrom img [] (declaredAll img ts)) (modelClashes img ts)
+      → shows (andThen img (enterAll img ts e) (visitAll img ts)) ≡ clashIn (nameOf img) (declaredAll ts ∷ modelListsAll ts)
+  unfolding clashIn
   list-shown ts e q h new empty k y =
-      let t = enterAll-told ts q [] e (finds-none e empty) (record { room = omega arith; long = new .kept .rising .long }) in
-      shows-and (enterAll img ts e) (visitAll img ts) _ _ (t .shown)
+      shows-and (enterAll img ts e) (visitAll img ts) _ _
+      (enterAll-shown ts q e (finds-none e empty) (record { room = omega arith; long = new .kept .rising .long }))
       (λ f r.
       let w = (enterAll-in img ts q e) .went f r in
       let a = w .scopes in
@@ -181,9 +122,9 @@ module _ (img : List ℕ) where
       h f (record { scopes = omega arith; symbols = omega arith; kept = w .keeps (record { scopes = omega arith; symbols = omega arith }) new .kept }))
 
   mutual
-    unfolding visit vis size modelClash Small shows
+    unfolding visit vis size modelLists clashIn Small shows
 
-    pub visit-shown : (u : Tree) → Small (nodes img) u → (e : Exit) → Fits img (size u) (vis u) e → shows (visit img u e) ≡ modelClash img u
+    pub visit-shown : (u : Tree) → Small (nodes img) u → (e : Exit) → Fits img (size u) (vis u) e → shows (visit img u e) ≡ clashIn (nameOf img) (modelLists u)
     visit-shown (block ts) q e f = refl
     visit-shown (node n k (inner i) sh ts) q e f = refl
     visit-shown (node n k (outer root) sh ts) q e f = refl
@@ -199,8 +140,9 @@ module _ (img : List ℕ) where
         ∙ list-shown ts (opened img n e) (q .1) (λ g h. visitAll-shown ts (q .1) g h) (child-newest img e (q .0) (omega arith) (f .kept))
         (child-empty img e (q .0) (omega arith) (f .kept)) (omega arith) (omega arith)
 
-    pub visitAll-shown : (us : Trees) → Smalls (nodes img) us → (e : Exit) → Fits img (sizes us) (viss us) e → shows (visitAll img us e) ≡ modelClashes img us
+    pub visitAll-shown : (us : Trees) → Smalls (nodes img) us → (e : Exit) → Fits img (sizes us) (viss us) e → shows (visitAll img us e) ≡ clashIn (nameOf img) (modelListsAll us)
     visitAll-shown none q e f = refl
     visitAll-shown (u ◂ us) q e f =
         shows-and (visit img u e) (visitAll img us) _ _ (visit-shown u (q .0) e (fits-less (omega arith) (omega arith) f))
         (λ g r. visitAll-shown us (q .1) g (fits-next img f ((visit-in img u (q .0) e) .went g r)))
+        ∙ sym (clash-lists (modelLists u) (modelListsAll us))

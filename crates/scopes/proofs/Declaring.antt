@@ -1,30 +1,21 @@
 -- "Twice" exactly: Resolve gives it exactly if some module or model list declares one name twice.
-use mathlib.Core.Path.{_≡_, refl, sym, ap, ap₂, subst, _∙_}
+use mathlib.Core.Path.{_≡_, refl, sym, ap, ap₂, _∙_}
 use mathlib.Core.Logic.{_↔_}
-use mathlib.Core.Bool.{Bool, true, false, not, _||_}
-use mathlib.Core.List.{List, [], _∷_, _++_}
+use mathlib.Core.Bool.{Bool, true, false, _||_}
+use mathlib.Core.List.{List, [], _∷_, _++_, map, map-append}
 use mathlib.Core.Option.{Option, none as nothing, some}
-use Prim.Native.Nat.{ℕ, zero, suc, _+_, _<_, _≤_}
+use Prim.Native.Nat.{ℕ}
 use native.Mathlib.Omega.{arith}
-use native.Mathlib.Nat.{add-zero}
-use lib.Dec.{T, eqb, eqb→eq}
+use lib.Dec.{eqb}
 use borrow.Author.Tests.{eq-eqb, ne-eqb, eqb-true, eqb-false}
 use Rattle.ast.specs.Answer.{twice}
-use Rattle.ast.specs.Image.{nodes, last, nameOf, kindAt, field}
-use Rattle.ast.specs.Is.{Is}
-use Rattle.ast.specs.Items.{items}
-use Rattle.ast.specs.Kinds.{Class, outer, inner, root, decl, signature, rule, enum, model, name, Kind, kinds, kindOf}
-use Rattle.ast.specs.Tests.{verdict}
-use Rattle.ast.specs.Tree.{Tree, node, block, Trees, none, _◂_, classAt, treeAt}
-use Rattle.ast.proofs.Accepted.{formed, last-below}
-use Rattle.ast.proofs.Row.{append-none, FormedFields, next, nodeOf}
-use Rattle.ast.proofs.Shapes.{row, tree-of, child-is}
-use Rattle.ast.proofs.Unfold.{treeAt-is}
-use Rattle.ast.proofs.Vars.{Everywhere, EverywhereAll, everywhere, every-kind}
+use Rattle.ast.specs.Declarations.{moduleLists, orElse, earliest}
+use Rattle.ast.specs.Image.{last, nameOf}
+use Rattle.ast.specs.Tree.{treeAt}
 use Rattle.scopes.specs.Resolve.{testTable, resolve}
-use Rattle.scopes.specs.Twice.{among, repeats, ruleNames, declares, declaresAll, inModel, inModels, twiceIn, declaredTwice}
-use Rattle.scopes.specs.Clash.{Clash, orElse, ruleNode, declared, declaredAll, earliest, clashFrom, modelClash, modelClashes, clashIn, firstClash}
-use Rattle.scopes.proofs.Resolving.{table-accepted, twice-first, twice-only}
+use Rattle.scopes.specs.Twice.{among, repeats, someRepeats, declaredTwice}
+use Rattle.scopes.specs.Clash.{Clash, clashFrom, clashIn, firstClash}
+use Rattle.scopes.proofs.Resolving.{twice-first, twice-only}
 
 -- some clash, or none
 isSome : Option Clash → Bool
@@ -32,7 +23,7 @@ isSome nothing = false
 isSome (some c) = true
 
 some-orElse : (o p : Option Clash) → isSome (orElse o p) ≡ (isSome o || isSome p)
-unfolding isSome orElse
+unfolding isSome
 some-orElse nothing p = refl
 some-orElse (some c) p = refl
 
@@ -81,186 +72,67 @@ meets-nil [] = refl
 meets-nil (x ∷ xs) = meets-nil xs
 
 -- the list itself -------------------------------------------------------------------------------------------------------
-module _ (img : List ℕ) where
-  namesOf : List ℕ → List ℕ
-  namesOf [] = []
-  namesOf (n ∷ ns) = nameOf img n ∷ namesOf ns
-
-  names-append : (ns ms : List ℕ) → namesOf (ns ++ ms) ≡ namesOf ns ++ namesOf ms
-  unfolding namesOf
-  names-append [] ms = refl
-  names-append (n ∷ ns) ms = ap (λ (l : List ℕ). nameOf img n ∷ l) (names-append ns ms)
-
-  rule-names : (sh : List ℕ) (n : ℕ) → ruleNames img sh n ≡ namesOf (ruleNode img sh n)
-  unfolding ruleNames ruleNode namesOf
-  rule-names [] n = refl
-  rule-names (zero ∷ sh) n = refl
-  rule-names (suc c ∷ sh) n = refl
-
-  mutual
-    unfolding declares declared namesOf
-
-    declares-names : (u : Tree) → declares img u ≡ namesOf (declared img u)
-    declares-names (block ts) = refl
-    declares-names (node n k (inner i) sh ts) = refl
-    declares-names (node n k (outer root) sh ts) = refl
-    declares-names (node n k (outer decl) sh ts) = declaresAll-names ts
-    declares-names (node n k (outer signature) sh ts) = refl
-    declares-names (node n k (outer rule) sh ts) = rule-names sh n
-    declares-names (node n k (outer enum) sh ts) = ap (λ (l : List ℕ). nameOf img n ∷ l) (declaresAll-names ts)
-    declares-names (node n k (outer model) sh ts) = refl
-
-    declaresAll-names : (us : Trees) → declaresAll img us ≡ namesOf (declaredAll img us)
-    declaresAll-names none = refl
-    declaresAll-names (u ◂ us) = ap₂ (λ (a b : List ℕ). a ++ b) (declares-names u) (declaresAll-names us) ∙ sym (names-append (declared img u) (declaredAll img us))
-
+-- by the names of nodes
+module _ (name : ℕ → ℕ) where
   found : Option ℕ → Bool
   found nothing = false
   found (some n) = true
 
-  found-among : (ds : List ℕ) (x : ℕ) → found (earliest img ds x) ≡ among x (namesOf ds)
-  unfolding earliest found among namesOf
+  found-among : (ds : List ℕ) (x : ℕ) → found (earliest name ds x) ≡ among x (map name ds)
+  unfolding earliest found among
   found-among [] x = refl
-  found-among (d ∷ ds) x = go (eqb (nameOf img d) x) (found-among ds x) ∙ ap (λ (b : Bool). b || among x (namesOf ds)) (eqb-sym (nameOf img d) x)
+  found-among (d ∷ ds) x = go (eqb (name d) x) (found-among ds x) ∙ ap (λ (b : Bool). b || among x (map name ds)) (eqb-sym (name d) x)
     where
-      go : (b : Bool) → found (earliest img ds x) ≡ among x (namesOf ds) → found (elim b [ true ↦ some d | false ↦ earliest img ds x ]) ≡ (b || among x (namesOf ds))
+      go : (b : Bool) → found (earliest name ds x) ≡ among x (map name ds) → found (elim b [ true ↦ some d | false ↦ earliest name ds x ]) ≡ (b || among x (map name ds))
       go true h = refl
       go false h = h
 
   -- a clash is a name among those before, or one that is repeated
-  clash-repeats : (ds ns : List ℕ) → isSome (clashFrom img ds ns) ≡ (meets (namesOf ds) (namesOf ns) || repeats (namesOf ns))
-  unfolding clashFrom meets repeats namesOf isSome found
+  clash-repeats : (ds ns : List ℕ) → isSome (clashFrom name ds ns) ≡ (meets (map name ds) (map name ns) || repeats (map name ns))
+  unfolding clashFrom meets repeats isSome found
   clash-repeats ds [] = refl
-  clash-repeats ds (n ∷ ns) = go (earliest img ds (nameOf img n)) (found-among ds (nameOf img n)) (clash-repeats (ds ++ (n ∷ [])) ns)
+  clash-repeats ds (n ∷ ns) = go (earliest name ds (name n)) (found-among ds (name n)) (clash-repeats (ds ++ (n ∷ [])) ns)
     where
       x : ℕ
-      x = nameOf img n
+      x = name n
 
       c : ℕ → Clash
-      c m = record { name = nameOf img n; first = m; second = n }
+      c m = record { name = name n; first = m; second = n }
 
-      go : (o : Option ℕ) → found o ≡ among x (namesOf ds)
-          → isSome (clashFrom img (ds ++ (n ∷ [])) ns) ≡ (meets (namesOf (ds ++ (n ∷ []))) (namesOf ns) || repeats (namesOf ns))
-          → isSome (elim o [ some m ↦ some (c m) | nothing ↦ clashFrom img (ds ++ (n ∷ [])) ns ])
-          ≡ ((among x (namesOf ds) || meets (namesOf ds) (namesOf ns)) || (among x (namesOf ns) || repeats (namesOf ns)))
-      go (some m) f h = ap (λ (b : Bool). (b || meets (namesOf ds) (namesOf ns)) || (among x (namesOf ns) || repeats (namesOf ns))) f
+      go : (o : Option ℕ) → found o ≡ among x (map name ds)
+          → isSome (clashFrom name (ds ++ (n ∷ [])) ns) ≡ (meets (map name (ds ++ (n ∷ []))) (map name ns) || repeats (map name ns))
+          → isSome (elim o [ some m ↦ some (c m) | nothing ↦ clashFrom name (ds ++ (n ∷ [])) ns ])
+          ≡ ((among x (map name ds) || meets (map name ds) (map name ns)) || (among x (map name ns) || repeats (map name ns)))
+      go (some m) f h = ap (λ (b : Bool). (b || meets (map name ds) (map name ns)) || (among x (map name ns) || repeats (map name ns))) f
       go nothing f h =
-          h ∙ ap (λ (l : List ℕ). meets l (namesOf ns) || repeats (namesOf ns)) (names-append ds (n ∷ []))
-          ∙ ap (λ (b : Bool). b || repeats (namesOf ns)) (meets-snoc x (namesOf ds) (namesOf ns))
-          ∙ or-assoc (meets (namesOf ds) (namesOf ns)) (among x (namesOf ns)) (repeats (namesOf ns))
-          ∙ ap (λ (b : Bool). (b || meets (namesOf ds) (namesOf ns)) || (among x (namesOf ns) || repeats (namesOf ns))) f
+          h ∙ ap (λ (l : List ℕ). meets l (map name ns) || repeats (map name ns)) (map-append name ds (n ∷ []))
+          ∙ ap (λ (b : Bool). b || repeats (map name ns)) (meets-snoc x (map name ds) (map name ns))
+          ∙ or-assoc (meets (map name ds) (map name ns)) (among x (map name ns)) (repeats (map name ns))
+          ∙ ap (λ (b : Bool). (b || meets (map name ds) (map name ns)) || (among x (map name ns) || repeats (map name ns))) f
         where
           or-assoc : (a b d : Bool) → ((a || b) || d) ≡ (a || (b || d))
           or-assoc true b d = refl
           or-assoc false b d = refl
 
-  list-repeats : (ts : Trees) → isSome (clashFrom img [] (declaredAll img ts)) ≡ repeats (declaresAll img ts)
-  unfolding namesOf
-  list-repeats ts =
-      clash-repeats [] (declaredAll img ts) ∙ ap (λ (b : Bool). b || repeats (namesOf (declaredAll img ts))) (meets-nil (namesOf (declaredAll img ts)))
-      ∙ ap repeats (sym (declaresAll-names ts))
+  -- some list has a clash where some list repeats a name
+  clash-some : (nss : List (List ℕ)) → isSome (clashIn name nss) ≡ someRepeats name nss
+  unfolding clashIn someRepeats isSome meets
+  clash-some [] = refl
+  clash-some (ns ∷ nss) =
+      some-orElse (clashFrom name [] ns) (clashIn name nss)
+      ∙ ap₂ (λ (a b : Bool). a || b) (clash-repeats [] ns ∙ ap (λ (b : Bool). b || repeats (map name ns)) (meets-nil (map name ns))) (clash-some nss)
 
-  -- the models ------------------------------------------------------------------------------------------------------------
-  -- an enum has no model inside
-  unfoldable pub Plain : Tree → Type 0
-  Plain (block ts) = Unit {0}
-  Plain (node n k (inner i) sh ts) = Unit {0}
-  Plain (node n k (outer root) sh ts) = Unit {0}
-  Plain (node n k (outer decl) sh ts) = Unit {0}
-  Plain (node n k (outer signature) sh ts) = Unit {0}
-  Plain (node n k (outer rule) sh ts) = Unit {0}
-  Plain (node n k (outer enum) sh ts) = modelClashes img ts ≡ nothing
-  Plain (node n k (outer model) sh ts) = Unit {0}
-
-  mutual
-    unfolding inModel modelClash Everywhere Plain isSome
-
-    model-twice : (u : Tree) → Everywhere Plain u → isSome (modelClash img u) ≡ inModel img u
-    model-twice (block ts) p = refl
-    model-twice (node n k (inner i) sh ts) p = refl
-    model-twice (node n k (outer root) sh ts) p = refl
-    model-twice (node n k (outer decl) sh ts) p = models-twice ts (p .1)
-    model-twice (node n k (outer signature) sh ts) p = refl
-    model-twice (node n k (outer rule) sh ts) p = refl
-    model-twice (node n k (outer enum) sh ts) p = ap isSome (p .0)
-    model-twice (node n k (outer model) sh ts) p =
-        some-orElse (clashFrom img [] (declaredAll img ts)) (modelClashes img ts) ∙ ap₂ (λ (a b : Bool). a || b) (list-repeats ts) (models-twice ts (p .1))
-
-    models-twice : (us : Trees) → EverywhereAll Plain us → isSome (modelClashes img us) ≡ inModels img us
-    models-twice none p = refl
-    models-twice (u ◂ us) p = some-orElse (modelClash img u) (modelClashes img us) ∙ ap₂ (λ (a b : Bool). a || b) (model-twice u (p .0)) (models-twice us (p .1))
-
-  tree-twice : (u : Tree) → Everywhere Plain u → isSome (clashIn img u) ≡ twiceIn img u
-  unfolding clashIn twiceIn Everywhere isSome
-  tree-twice (block ts) p = refl
-  tree-twice (node n k c sh ts) p =
-      some-orElse (clashFrom img [] (declaredAll img ts)) (modelClashes img ts) ∙ ap₂ (λ (a b : Bool). a || b) (list-repeats ts) (models-twice ts (p .1))
-
-  -- the enums of an accepted image
-  module _ (accepted : verdict img ≡ 0) where
-    ctor-none : {n : ℕ} → Is img (kindOf 9) n → modelClash img (treeAt img n) ≡ nothing
-    unfolding modelClash nodeOf kindOf kinds
-    ctor-none is = ap (modelClash img) (tree-of img is)
-
-    ctors-none : (n c j : ℕ) → ((i : ℕ) → i < c → Is img (kindOf 9) (field img n (j + i))) → modelClashes img (items img n c j) ≡ nothing
-    unfolding modelClash items orElse
-    ctors-none n zero j h = refl
-    ctors-none n (suc c) j h =
-        ap₂ (λ (o p : Option Clash). orElse o p) (ctor-none (subst (λ (x : ℕ). Is img (kindOf 9) (field img n x)) (add-zero j) (h 0 (omega arith))))
-        (ctors-none n c (j + 1) (λ i l. subst (λ (x : ℕ). Is img (kindOf 9) (field img n x)) (let q : j + suc i ≡ j + 1 + i = omega arith in q) (h (suc i) (omega arith))))
-
-    enum-plain : {n : ℕ} → Is img (kindOf 7) n → Plain (treeAt img n)
-    unfolding Plain nodeOf kindOf kinds FormedFields next
-    enum-plain {n} is =
-        subst Plain (sym (tree-of img is))
-        (ap (modelClashes img) (append-none (items img n (field img n 1) 2)) ∙ ctors-none n (field img n 1) 2 (λ i l. child-is img is ((row img is) .1 .0 i l)))
-
-    isEnum : Class → Bool
-    isEnum (inner i) = false
-    isEnum (outer root) = false
-    isEnum (outer decl) = false
-    isEnum (outer signature) = false
-    isEnum (outer rule) = false
-    isEnum (outer enum) = true
-    isEnum (outer model) = false
-
-    onlySeven : ℕ → Kind → Bool
-    unfolding isEnum
-    onlySeven k kd = eqb k 7 || not (isEnum (kd .class))
-
-    only-seven : (k : ℕ) → k ≤ 40 → T (onlySeven k (kindOf k))
-    unfolding onlySeven kinds
-    only-seven k l = every-kind onlySeven tt k l
-
-    class-plain : (n k : ℕ) (c : Class) (sh : List ℕ) (ts : Trees) → T (not (isEnum c)) → Plain (node n k c sh ts)
-    unfolding Plain isEnum
-    class-plain n k (inner i) sh ts t = tt
-    class-plain n k (outer root) sh ts t = tt
-    class-plain n k (outer decl) sh ts t = tt
-    class-plain n k (outer signature) sh ts t = tt
-    class-plain n k (outer rule) sh ts t = tt
-    class-plain n k (outer enum) sh ts t = absurd t
-    class-plain n k (outer model) sh ts t = tt
-
-    plain-at : (n : ℕ) → n < nodes img → Plain (treeAt img n)
-    unfolding onlySeven classAt
-    plain-at n h = go (eqb (kindAt img n) 7) (eqb→eq (kindAt img n) 7) (only-seven (kindAt img n) (formed img accepted .each n h .kind))
-      where
-        go : (b : Bool) → (T b → kindAt img n ≡ 7) → T (b || not (isEnum (classAt img n))) → Plain (treeAt img n)
-        go true k t = enum-plain (record { accepted = accepted; below = h; kind = ap kindOf (k tt) })
-        go false k t = subst Plain (sym (treeAt-is img (formed img accepted) n h)) (class-plain n (kindAt img n) (classAt img n) _ _ t)
-
-    clash-declared : isSome (firstClash img) ≡ declaredTwice img
-    unfolding firstClash declaredTwice
-    clash-declared = tree-twice (treeAt img (last img)) (everywhere Plain img (formed img accepted) plain-at (last img) (last-below img accepted))
+clash-declared : (img : List ℕ) → isSome (firstClash img) ≡ declaredTwice img
+unfolding firstClash declaredTwice
+clash-declared img = clash-some (nameOf img) (moduleLists (treeAt img (last img)))
 
 -- "twice" is given exactly if some module or model list declares one name twice
 pub twice-exactly : (img tab : List ℕ) → testTable img tab ≡ 0
     → ((x : ℕ) × (a : ℕ) × (b : ℕ) × ((resolve img tab) .answer ≡ twice x a b)) ↔ (declaredTwice img ≡ true)
 unfolding isSome
 twice-exactly img tab passes = (
-  λ t. sym (clash-declared img (table-accepted img tab passes)) ∙ ap isSome (twice-only img tab (t .0) (t .1) (t .2) (t .3)),
-  λ d. go (firstClash img) refl (clash-declared img (table-accepted img tab passes) ∙ d),
+  λ t. sym (clash-declared img) ∙ ap isSome (twice-only img tab (t .0) (t .1) (t .2) (t .3)),
+  λ d. go (firstClash img) refl (clash-declared img ∙ d),
 )
   where
     go : (o : Option Clash) → firstClash img ≡ o → isSome (firstClash img) ≡ true → (x : ℕ) × (a : ℕ) × (b : ℕ) × ((resolve img tab) .answer ≡ twice x a b)

@@ -1,36 +1,37 @@
 -- Entering the names of a declaration list: what each function over it is handed, and hands on.
 use mathlib.Core.Path.{_≡_, refl, sym, ap, subst, _∙_, fun-ext}
 use mathlib.Core.Bool.{Bool, true, false}
-use mathlib.Core.List.{List, [], _∷_}
+use mathlib.Core.List.{List, [], _∷_, _++_, append-nil}
 use mathlib.Core.Option.{Option, none as nothing, some}
 use Prim.Native.Nat.{ℕ, zero, suc, _+_, _-_, _<_, _≤_}
 use native.Mathlib.Omega.{arith}
 use native.Mathlib.Nat.{sub-zero, add-zero}
 use lib.Dec.{eqb}
-use lib.ListN.{length, getD, set, drop}
+use lib.ListN.{length, getD, set, drop, length-append}
 use lib.Seq.{getD-set-same}
+use Rattle.ast.specs.Declarations.{ruleNode, declared, declaredAll}
 use Rattle.ast.specs.Image.{nodes, kindAt, field, nameOf}
 use Rattle.ast.specs.Is.{Is, kindBy}
 use Rattle.ast.specs.Items.{items, below}
 use Rattle.ast.specs.Kinds.{Class, outer, decl, signature, Field, name, child, noChild, Kind, kindOf}
-use Rattle.ast.specs.Tree.{Tree, node, Trees, none, _◂_, ordered, treeAt}
+use Rattle.ast.specs.Tree.{Tree, node, Trees, none, _◂_, ordered, treeAt, size}
 use Rattle.ast.proofs.Accepted.{sized}
 use Rattle.ast.proofs.Row.{append, append-none, Child, FormedFields, next, nodeOf}
 use Rattle.ast.proofs.Shapes.{row, tree-of, child-is, case-kids, case-one, case-child, case-last, items-more}
-use Rattle.ast.proofs.Small.{tree-small}
+use Rattle.ast.proofs.Small.{Smalls, tree-small, items-small}
 use Rattle.table.specs.Layout.{tableLength}
 use Rattle.table.specs.State.{Exit, ownSymbol, marked}
 use Rattle.table.specs.Table.{find, findFrom, mark}
 use Rattle.table.specs.Values.{exitOf}
 use Rattle.table.specs.declared.Walked.{Walked}
 use Rattle.ast.specs.declared.NodeId.{NodeId}
-use Rattle.ordered.specs.Size.{size}
 use Rattle.ordered.proofs.Kept.{past, mark-past, mark-length, symbol-past}
-use Rattle.scopes.specs.Walk.{Listed, done, twice, enterName, enterRule, andThen, enter, enterAll, visit}
-use Rattle.scopes.specs.Lists.{listedOf, ent, ents, vis, restEnter, Seen, Entering, Enters, Signature, Lists, Stamped}
+use Rattle.scopes.specs.Walk.{Listed, done, twice, recorded, enterName, andThen, enterNames, markAll, enter, enterAll, visit}
+use Rattle.scopes.specs.Promises.{listedOf, ent, ents, vis, restEnter, Seen, Entering, Enters, Signature, Stamped}
 use Rattle.scopes.specs.declared.Declared.{Declared}
 use Rattle.scopes.specs.declared.Declared.the-variants.{Done, Twice}
 use Rattle.scopes.proofs.Adds.{named, Went, done-same, twice-done, name-in, enter-in}
+use Rattle.scopes.proofs.Entering.{and-nothing, enter-first, enter-own}
 use Rattle.scopes.proofs.Stamps.{seen-none, seen-stamp, seen-symbol, seen-marked}
 
 -- the last case is the one left
@@ -150,56 +151,49 @@ module _ (img : List ℕ) where
   unfolding andThen
   and-stop x a b g l h = ap (λ (m : Listed). andThen img m g) h
 
-  and-nothing : (l : Listed) → andThen img l (λ f. done f) ≡ l
-  unfolding andThen
-  and-nothing (done e) = refl
-  and-nothing (twice x a b) = refl
-
   -- a declaration by its kind ------------------------------------------------------------------------------------------------
   pub signed : {fs : List Field} {n : ℕ} → Is img (kindBy (outer signature) fs) n → Signature img n
   signed is = record { accepted = is .accepted; below = is .below; class = ap (λ (k : Kind). k .class) (is .kind) }
 
   pub sig-enter : {n : ℕ} (e : Exit) → Signature img n → (enter img (treeAt img n) e ≡ enterName img n (marked img n (e .scope) e)) × (ent (treeAt img n) ≡ 1)
-  unfolding enter ent nodeOf
+  unfolding enter declared recorded enterNames markAll nodeOf
   sig-enter {n} e s =
       let is : Is img (kindBy (outer signature) ((kindOf (kindAt img n)) .fields)) n = record { accepted = s .accepted; below = s .below; kind = ap (λ (c : Class). kindBy c ((kindOf (kindAt img n)) .fields)) (s .class) } in
-      subst (λ (u : Tree). (enter img u e ≡ enterName img n (marked img n (e .scope) e)) × (ent u ≡ 1)) (sym (tree-of img is)) (refl, refl)
+      subst (λ (u : Tree). (enter img u e ≡ enterName img n (marked img n (e .scope) e)) × (ent u ≡ 1)) (sym (tree-of img is)) (and-nothing img (enterName img n (marked img n (e .scope) e)), refl)
 
   pub model-enter : {n : ℕ} (e : Exit) → Is img (kindOf 8) n → (enter img (treeAt img n) e ≡ enterName img n e) × (ent (treeAt img n) ≡ 1)
-  unfolding enter ent nodeOf kindOf
-  model-enter {n} e is = subst (λ (u : Tree). (enter img u e ≡ enterName img n e) × (ent u ≡ 1)) (sym (tree-of img is)) (refl, refl)
+  unfolding enter declared recorded enterNames markAll nodeOf kindOf
+  model-enter {n} e is = subst (λ (u : Tree). (enter img u e ≡ enterName img n e) × (ent u ≡ 1)) (sym (tree-of img is)) (and-nothing img (enterName img n e), refl)
 
-  ruled : ℕ → ℕ → Exit → Listed
-  ruled n x e = enterRule img (elim x [ zero ↦ 0 | suc m ↦ 1 ] ∷ field img n 1 ∷ []) n e
+  -- the shape of a rule's row, by the word of its name
+  abbrev ruleShape : ℕ → ℕ → List ℕ
+  ruleShape n x = elim x [ zero ↦ 0 | suc m ↦ 1 ] ∷ field img n 1 ∷ []
 
-  rule-enter : {n : ℕ} (e : Exit) → Is img (kindOf 6) n → (enter img (treeAt img n) e ≡ ruled n (field img n 0) (marked img n (e .scope) e)) × (ent (treeAt img n) ≡ 1)
-  unfolding enter ent nodeOf kindOf ruled
-  rule-enter {n} e is = subst (λ (u : Tree). (enter img u e ≡ ruled n (field img n 0) (marked img n (e .scope) e)) × (ent u ≡ 1)) (sym (tree-of img is)) (refl, refl)
-
-  ruled-none : (n : ℕ) (e : Exit) → ruled n 0 e ≡ done e
-  unfolding ruled enterRule
-  ruled-none n e = refl
-
-  ruled-some : (n m : ℕ) (e : Exit) → ruled n (suc m) e ≡ enterName img n e
-  unfolding ruled enterRule
-  ruled-some n m e = refl
+  rule-enter : {n : ℕ} (e : Exit) → Is img (kindOf 6) n
+      → (enter img (treeAt img n) e ≡ enterNames img (ruleNode (ruleShape n (field img n 0)) n) (marked img n (e .scope) e)) × (declared (treeAt img n) ≡ ruleNode (ruleShape n (field img n 0)) n)
+  unfolding enter declared recorded markAll nodeOf kindOf
+  rule-enter {n} e is =
+      subst (λ (u : Tree). (enter img u e ≡ enterNames img (ruleNode (ruleShape n (field img n 0)) n) (marked img n (e .scope) e)) × (declared u ≡ ruleNode (ruleShape n (field img n 0)) n))
+      (sym (tree-of img is)) (refl, refl)
 
   pub rule-unnamed : {n : ℕ} (e : Exit) → Is img (kindOf 6) n → field img n 0 ≡ 0 → enter img (treeAt img n) e ≡ done (marked img n (e .scope) e)
-  rule-unnamed {n} e is z = (rule-enter e is) .0 ∙ ap (λ (x : ℕ). ruled n x (marked img n (e .scope) e)) z ∙ ruled-none n _
+  unfolding enterNames ruleNode
+  rule-unnamed {n} e is z = (rule-enter e is) .0 ∙ ap (λ (x : ℕ). enterNames img (ruleNode (ruleShape n x) n) (marked img n (e .scope) e)) z
 
-  pub rule-named : {n : ℕ} (e : Exit) → Is img (kindOf 6) n → (field img n 0 ≡ 0 → ⊥) → enter img (treeAt img n) e ≡ enterName img n (marked img n (e .scope) e)
-  rule-named {n} e is z = (rule-enter e is) .0 ∙ go (field img n 0) z
+  pub rule-named : {n : ℕ} (e : Exit) → Is img (kindOf 6) n → (field img n 0 ≡ 0 → ⊥) → (enter img (treeAt img n) e ≡ enterName img n (marked img n (e .scope) e)) × (ent (treeAt img n) ≡ 1)
+  unfolding enterNames ruleNode
+  rule-named {n} e is z = let r = rule-enter e is in let g = go (field img n 0) z in (r .0 ∙ g .0, ap length (r .1) ∙ g .1)
     where
-      go : (x : ℕ) → (x ≡ 0 → ⊥) → ruled n x (marked img n (e .scope) e) ≡ enterName img n (marked img n (e .scope) e)
+      go : (x : ℕ) → (x ≡ 0 → ⊥) → (enterNames img (ruleNode (ruleShape n x) n) (marked img n (e .scope) e) ≡ enterName img n (marked img n (e .scope) e)) × (length (ruleNode (ruleShape n x) n) ≡ 1)
       go zero y = absurd (y refl)
-      go (suc m) y = ruled-some n m _
+      go (suc m) y = (and-nothing img (enterName img n (marked img n (e .scope) e)), refl)
+
+  pub rule-entering : {seen : List ℕ} {n : ℕ} {e : Exit} → Is img (kindOf 6) n → (field img n 0 ≡ 0 → ⊥) → Entering img seen (ent (treeAt img n)) e → Entering img seen 1 e
+  rule-entering {e = e} is z p = entering-less (let q = (rule-named e is z) .1 in omega arith) p
 
   -- how many names they may add
   abbrev nowhere : Exit
   nowhere = record { scope = 0; table = record { words = []; scopes = 0; symbols = 0 } }
-
-  pub rule-ent : {n : ℕ} → Is img (kindOf 6) n → ent (treeAt img n) ≡ 1
-  rule-ent is = (rule-enter nowhere is) .1
 
   pub model-ent : {n : ℕ} → Is img (kindOf 8) n → ent (treeAt img n) ≡ 1
   model-ent is = (model-enter nowhere is) .1
@@ -217,11 +211,13 @@ module _ (img : List ℕ) where
 
   -- a list of items: what is left of it -----------------------------------------------------------------------------------
   enter-more : (n j count i : ℕ) (e : Exit) → i < count → restEnter img n j count i e ≡ andThen img (enter img (treeAt img (field img n (j + i))) e) (restEnter img n j count (i + 1))
-  unfolding restEnter enter
-  enter-more n j count i e h = ap (λ (us : Trees). enterAll img us e) (items-more img n j count i h)
+  unfolding restEnter
+  enter-more n j count i e h =
+      ap (λ (us : Trees). enterAll img us e) (items-more img n j count i h)
+      ∙ enter-first img (treeAt img (field img n (j + i))) (items img n (count - (i + 1)) (j + (i + 1))) (items-small img n (count - (i + 1)) (j + (i + 1))) e
 
   enter-end : (n j count i : ℕ) (e : Exit) → count ≤ i → restEnter img n j count i e ≡ done e
-  unfolding restEnter enter items
+  unfolding restEnter enterAll declared recorded enterNames markAll items
   enter-end n j count i e h = let z : count - i ≡ 0 = omega arith in ap (λ (c : ℕ). enterAll img (items img n c (j + i)) e) z
 
   pub same-items : (n j count : ℕ) → items img n count j ≡ items img n (count - 0) (j + 0)
@@ -232,8 +228,8 @@ module _ (img : List ℕ) where
   enter-start n j count e = ap (λ (us : Trees). enterAll img us e) (same-items n j count)
 
   ents-more : (n j count i : ℕ) → i < count → ents (items img n (count - i) (j + i)) ≡ ent (treeAt img (field img n (j + i))) + ents (items img n (count - (i + 1)) (j + (i + 1)))
-  unfolding ent
-  ents-more n j count i h = ap ents (items-more img n j count i h)
+  unfolding declared
+  ents-more n j count i h = ap ents (items-more img n j count i h) ∙ length-append (declared (treeAt img (field img n (j + i)))) (declaredAll (items img n (count - (i + 1)) (j + (i + 1))))
 
   -- a loop over the items: after i of them it stands at f
   pub record EnterLeft (seen : List ℕ) (n j count i : ℕ) (e f : Exit) : Type 0 where
@@ -294,16 +290,19 @@ module _ (img : List ℕ) where
       subst (Is img (kindBy (outer signature) (name ∷ child 11 ∷ []))) (sym q) (child-is img is h)
 
   enum-enter : {n : ℕ} (e : Exit) → Is img (kindOf 7) n
-      → (enter img (treeAt img n) e ≡ andThen img (enterName img n (marked img n (e .scope) e)) (λ f. enterAll img (append (items img n (field img n 1) 2) none) f)) × (ent (treeAt img n) ≡ 1 + ents (append (items img n (field img n 1) 2) none))
-  unfolding enter ent nodeOf kindOf
+      → (enter img (treeAt img n) e ≡ andThen img (enterName img n (marked img n (e .scope) e)) (enterAll img (items img n (field img n 1) 2))) × (ent (treeAt img n) ≡ suc (ents (items img n (field img n 1) 2)))
+  unfolding enter declared recorded nodeOf kindOf
   enum-enter {n} e is =
-      subst (λ (u : Tree). (enter img u e ≡ andThen img (enterName img n (marked img n (e .scope) e)) (λ f. enterAll img (append (items img n (field img n 1) 2) none) f)) × (ent u ≡ 1 + ents (append (items img n (field img n 1) 2) none)))
-      (sym (tree-of img is)) (refl, refl)
+      let a = append-none (items img n (field img n 1) 2) in
+      subst (λ (us : Trees). (enter img (treeAt img n) e ≡ andThen img (enterName img n (marked img n (e .scope) e)) (enterAll img us)) × (ent (treeAt img n) ≡ suc (ents us))) a
+      (subst (λ (u : Tree). (enter img u e ≡ andThen img (enterName img n (marked img n (e .scope) e)) (enterAll img (append (items img n (field img n 1) 2) none))) × (ent u ≡ suc (ents (append (items img n (field img n 1) 2) none))))
+      (sym (tree-of img is)) (enter-own img n (append (items img n (field img n 1) 2) none) (subst (Smalls (nodes img)) (sym a) (items-small img n (field img n 1) 2)) e, refl))
 
   sig-ents : (n c j : ℕ) → ((i : ℕ) → i < c → Signature img (field img n (j + i))) → ents (items img n c j) ≡ c
-  unfolding ent items
+  unfolding declared items
   sig-ents n zero j h = refl
   sig-ents n (suc c) j h =
+      let l = length-append (declared (treeAt img (field img n j))) (declaredAll (items img n c (j + 1))) in
       let a : ent (treeAt img (field img n j)) ≡ 1 = (sig-enter nowhere (subst (λ (x : ℕ). Signature img (field img n x)) (add-zero j) (h 0 (omega arith)))) .1 in
       let b = sig-ents n c (j + 1) (λ i l. subst (λ (x : ℕ). Signature img (field img n x)) (let q : j + suc i ≡ j + 1 + i = omega arith in q) (h (suc i) (omega arith))) in
       omega arith
@@ -319,12 +318,10 @@ module _ (img : List ℕ) where
   sig-entering {seen} {n} {e} s p = entering-less (let z = (sig-enter e s) .1 in omega arith) p
 
   pub enum-whole : {n : ℕ} (e : Exit) → Is img (kindOf 7) n → enter img (treeAt img n) e ≡ andThen img (enterName img n (marked img n (e .scope) e)) (restEnter img n 2 (field img n 1) 0)
-  enum-whole {n} e is =
-      (enum-enter e is) .0
-      ∙ ap (andThen img (enterName img n (marked img n (e .scope) e))) (fun-ext (λ f. ap (λ (us : Trees). enterAll img us f) (append-none (items img n (field img n 1) 2)) ∙ enter-start n 2 (field img n 1) f))
+  enum-whole {n} e is = (enum-enter e is) .0 ∙ ap (andThen img (enterName img n (marked img n (e .scope) e))) (fun-ext (λ f. enter-start n 2 (field img n 1) f))
 
   pub enum-ent : {n : ℕ} → Is img (kindOf 7) n → ent (treeAt img n) ≡ 1 + field img n 1
-  enum-ent {n} is = (enum-enter nowhere is) .1 ∙ ap (λ (us : Trees). 1 + ents us) (append-none (items img n (field img n 1) 2)) ∙ ap (λ (x : ℕ). 1 + x) (ctor-ents is)
+  enum-ent {n} is = let a = (enum-enter nowhere is) .1 in let c = ctor-ents is in omega arith
 
   pub record EnumEnter (seen : List ℕ) (n : ℕ) (e f : Exit) : Type 0 where
     pub own : Entering img seen 1 f
@@ -356,11 +353,6 @@ module _ (img : List ℕ) where
       named-as : {us vs : List ℕ} {r : Declared} (w : Walked) → r ≡ Done w → Enters img (enterName img n f) (f .table .words) r us vs → enterName img n f ≡ done (exitOf w vs)
       named-as {us} {vs} {r} w d h = sym (h .same) ∙ ap (λ (o : Declared). listedOf o vs) d
 
-  -- an item of a list
-  pub item-is : {k n j count i c : ℕ} → Lists img k n j count → i < count → c ≡ field img n (j + i) → Is img (kindOf k) c
-  item-is {k} {n} {j} {count} {i} p l q =
-      subst (Is img (kindOf k)) (sym q) (record { accepted = p .accepted; below = (let u = p .below in let v = p .lower i l in omega arith); kind = ap kindOf (p .kinds i l) })
-
   -- a Decl: what its declaration is -----------------------------------------------------------------------------------------
   abbrev pub declKinds : List ℕ
   declKinds = 2 ∷ 3 ∷ 4 ∷ 5 ∷ 6 ∷ 7 ∷ 8 ∷ []
@@ -388,16 +380,19 @@ module _ (img : List ℕ) where
 
   module _ {k n d : ℕ} (o : DeclOf k n d) where
     pub decl-entered : (e : Exit) → enter img (treeAt img n) e ≡ enter img (treeAt img d) (marked img n (e .scope) e)
-    unfolding enter
-    decl-entered e = ap (λ (u : Tree). enter img u e) (o .tree) ∙ and-nothing (enter img (treeAt img d) (marked img n (e .scope) e))
+    unfolding enter declared recorded markAll
+    decl-entered e =
+        ap (λ (u : Tree). enter img u e) (o .tree)
+        ∙ ap (λ (ds : List ℕ). enterNames img ds (markAll img (recorded (treeAt img d) ++ []) (marked img n (e .scope) e))) (append-nil (declared (treeAt img d)))
+        ∙ ap (λ (ns : List ℕ). enterNames img (declared (treeAt img d)) (markAll img ns (marked img n (e .scope) e))) (append-nil (recorded (treeAt img d)))
 
     pub decl-visited : (e : Exit) → visit img (treeAt img n) e ≡ visit img (treeAt img d) e
     unfolding visit
-    decl-visited e = ap (λ (u : Tree). visit img u e) (o .tree) ∙ and-nothing (visit img (treeAt img d) e)
+    decl-visited e = ap (λ (u : Tree). visit img u e) (o .tree) ∙ and-nothing img (visit img (treeAt img d) e)
 
     pub decl-ent : ent (treeAt img n) ≡ ent (treeAt img d) + 0
-    unfolding ent
-    decl-ent = ap ent (o .tree)
+    unfolding declared
+    decl-ent = ap ent (o .tree) ∙ length-append (declared (treeAt img d)) []
 
     pub decl-vis : vis (treeAt img n) ≡ vis (treeAt img d) + 0
     unfolding vis

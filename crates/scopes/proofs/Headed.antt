@@ -13,7 +13,6 @@ use Rattle.table.specs.Table.{Table, find, lookup, entryAt, exitAt}
 use Rattle.table.specs.Values.{tableOf}
 use Rattle.table.specs.declared.Walked.{Walked}
 use Rattle.table.proofs.Frames.{from-same}
-use Rattle.ordered.proofs.Agreed.{lookup-agree}
 use Rattle.scopes.specs.Walk.{done}
 use Rattle.scopes.specs.Resolve.{testTable, walked, headed, counted, Way, refuses, stops, fills, way}
 use Rattle.scopes.specs.Answers.{declaredWay, Resolves}
@@ -22,6 +21,7 @@ use Rattle.scopes.specs.declared.Declared.the-variants.{Done}
 use Rattle.scopes.proofs.Calls.{Went, went}
 use Rattle.scopes.proofs.Namings.{symbol-below}
 use Rattle.scopes.proofs.Resolving.{table-accepted, walked-ended, headed-word, headed-length}
+use Rattle.table.proofs.Agreed.{lookup-agree}
 
 module _ (img : List ℕ) (t : Table) where
   pub headed-lookup : (s x : ℕ) → lookup img t s x ≡ lookup img (counted img t) s x

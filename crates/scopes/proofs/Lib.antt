@@ -1,6 +1,7 @@
 pub mod Lookups
 pub mod Calls
 pub mod Adds
+pub mod Entering
 pub mod Clashes
 pub mod Namings
 pub mod Moves

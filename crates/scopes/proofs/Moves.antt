@@ -12,20 +12,21 @@ use lib.Seq.{getD-set-same}
 use Rattle.ast.specs.Image.{nodes, nameOf}
 use Rattle.ast.specs.Kinds.{outer, inner, root, decl, signature, rule, enum, model}
 use Rattle.ast.specs.Tree.{Tree, node, block, Trees, none, _◂_}
+use Rattle.ast.proofs.Unfold.{All, nil, cons}
 use Rattle.ast.proofs.Vars.{Everywhere, EverywhereAll}
-use Rattle.table.specs.Layout.{allOnes, tableLength}
+use Rattle.table.specs.Layout.{allOnes, parentPlace, scopePlace, nodePlace, tableLength}
 use Rattle.table.specs.Rows.{scopeOf, nodeAt, parentAt}
-use Rattle.table.specs.Sound.{isSymbol}
+use Rattle.sound.specs.Sound.{isSymbol}
 use Rattle.table.specs.State.{Exit, childScope, ownSymbol, introduce, marked, back}
 use Rattle.table.specs.Table.{find, mark, newScope, newSymbol}
-use Rattle.table.proofs.Frames.{SameRows, symbol-same, symbol-scope, symbol-node}
+use Rattle.table.proofs.Frames.{SameRows, mark-word, scope-word, symbol-word, symbol-same, symbol-scope, symbol-node}
 use Rattle.ordered.specs.Walk.{occurs, walkSeq}
-use Rattle.ordered.specs.Walkers.{Few}
-use Rattle.ordered.proofs.Kept.{mark-word, scope-word, symbol-word, mark-length, scope-length, symbol-length}
+use Rattle.ordered.specs.Promises.{Few}
+use Rattle.ordered.proofs.Kept.{mark-length, scope-length, symbol-length}
 use Rattle.ordered.proofs.Moves.{namedBy, enters, Moves as Walks, stay as rests, next as goes, marks as records, adds as brings, drops as leaves, seq-moves as walks-seq}
-use Rattle.scopes.specs.Walk.{Listed, done, twice, enterName, enterRule, andThen, enter, enterAll, visit, visitAll}
-use Rattle.scopes.proofs.Adds.{named, done-same, twice-done, opened}
-use Rattle.scopes.proofs.Namings.{Fit}
+use Rattle.scopes.specs.Walk.{Listed, done, twice, recordedAll, enterName, andThen, enterNames, markAll, enterAll, visit, visitAll}
+use Rattle.scopes.proofs.Adds.{recordedAll-small, named, done-same, twice-done, opened}
+use Rattle.scopes.proofs.Namings.{Fit, Symbols, declaredAll-symbols, fit-smalls}
 
 module _ (img : List ℕ) where
   pub data Moves : Exit → Exit → Type 0 where
@@ -83,33 +84,22 @@ module _ (img : List ℕ) where
       go nothing = ends (adds n h)
       go (some first) = λ f q. absurd (twice-done (nameOf img n) first n f q)
 
-  rule-ends : (sh : List ℕ) (n : ℕ) (e : Exit) → (namedBy sh ≡ true → isSymbol img n ≡ true) → Ends e (enterRule img sh n e)
-  unfolding enterRule namedBy
-  rule-ends [] n e h = ends stay
-  rule-ends (zero ∷ sh) n e h = ends stay
-  rule-ends (suc c ∷ sh) n e h = name-ends n e (h refl)
-
   after : {e f : Exit} {l : Listed} → Moves e f → Ends f l → Ends e l
   after m n g q = next m (n g q)
 
-  mutual
-    unfolding enter Everywhere Fit enters
+  names-ends : {ns : List ℕ} → Symbols img ns → (e : Exit) → Ends e (enterNames img ns e)
+  unfolding enterNames
+  names-ends nil e = ends stay
+  names-ends (cons {c = n} {cs = ns} h q) e = ends-and (enterName img n e) (enterNames img ns) (name-ends n e h) (λ f. names-ends q f)
 
-    enter-ends : (u : Tree) → Everywhere (Fit img) u → (e : Exit) → Ends e (enter img u e)
-    enter-ends (block ts) q e = ends stay
-    enter-ends (node n k (inner i) sh ts) q e = ends stay
-    enter-ends (node n k (outer root) sh ts) q e = ends stay
-    enter-ends (node n k (outer decl) sh ts) q e = after (marked-moves (q .0 .0) (e .scope) stay) (enterAll-ends ts (q .1) (marked img n (e .scope) e))
-    enter-ends (node n k (outer signature) sh ts) q e = after (marked-moves (q .0 .0) (e .scope) stay) (name-ends n (marked img n (e .scope) e) (q .0 .1 refl))
-    enter-ends (node n k (outer rule) sh ts) q e = after (marked-moves (q .0 .0) (e .scope) stay) (rule-ends sh n (marked img n (e .scope) e) (q .0 .1))
-    enter-ends (node n k (outer enum) sh ts) q e =
-        after (marked-moves (q .0 .0) (e .scope) stay)
-        (ends-and (enterName img n (marked img n (e .scope) e)) (enterAll img ts) (name-ends n (marked img n (e .scope) e) (q .0 .1 refl)) (λ f. enterAll-ends ts (q .1) f))
-    enter-ends (node n k (outer model) sh ts) q e = name-ends n e (q .0 .1 refl)
+  marks-moves : {ns : List ℕ} → All Low ns → (e : Exit) → Moves e (markAll img ns e)
+  unfolding markAll
+  marks-moves nil e = stay
+  marks-moves (cons {c = n} l q) e = next (marked-moves l (e .scope) stay) (marks-moves q (marked img n (e .scope) e))
 
-    pub enterAll-ends : (us : Trees) → EverywhereAll (Fit img) us → (e : Exit) → Ends e (enterAll img us e)
-    enterAll-ends none q e = ends stay
-    enterAll-ends (u ◂ us) q e = ends-and (enter img u e) (enterAll img us) (enter-ends u (q .0) e) (λ f. enterAll-ends us (q .1) f)
+  pub enterAll-ends : (us : Trees) → EverywhereAll (Fit img) us → (e : Exit) → Ends e (enterAll img us e)
+  unfolding enterAll
+  enterAll-ends us q e = after (marks-moves (recordedAll-small (nodes img) us (fit-smalls img us q)) e) (names-ends (declaredAll-symbols img us q) (markAll img (recordedAll us) e))
 
   open-moves : {n : ℕ} → n < nodes img → (e : Exit) → Moves e (opened img n e)
   open-moves {n} l e = marked-moves l (e .table .scopes) opens
@@ -162,10 +152,10 @@ module _ (img : List ℕ) where
       record {
         long = (let z = mark-length img n a b (e .table) in let y = g .long in omega arith);
         live = g .live;
-        root = mark-word img n a b (e .table) (3 + 2 * nodes img + 0) (omega arith) (omega arith) ∙ g .root;
-        parents = λ s h k. let z = mark-word img n a b (e .table) (3 + 2 * nodes img + s) (omega arith) (omega arith) in let y = g .parents s h k in omega arith;
-        scopes = λ j k. let z = mark-word img n a b (e .table) (3 + 3 * nodes img + j) (omega arith) (omega arith) in let y = g .scopes j k in omega arith;
-        symbols = λ j k. ap (isSymbol img) (mark-word img n a b (e .table) (3 + 4 * nodes img + j) (omega arith) (omega arith)) ∙ g .symbols j k;
+        root = mark-word img n a b (e .table) (parentPlace (nodes img) 0) (omega arith) (omega arith) ∙ g .root;
+        parents = λ s h k. let z = mark-word img n a b (e .table) (parentPlace (nodes img) s) (omega arith) (omega arith) in let y = g .parents s h k in omega arith;
+        scopes = λ j k. let z = mark-word img n a b (e .table) (scopePlace (nodes img) j) (omega arith) (omega arith) in let y = g .scopes j k in omega arith;
+        symbols = λ j k. ap (isSymbol img) (mark-word img n a b (e .table) (nodePlace (nodes img) j) (omega arith) (omega arith)) ∙ g .symbols j k;
       }
 
   good-open : (e : Exit) → e .table .scopes < nodes img → e .table .symbols ≤ nodes img → Good e → Good (childScope img e)
@@ -174,10 +164,10 @@ module _ (img : List ℕ) where
       record {
         long = (let z = scope-length img (e .scope) (e .table) in let x = g .long in omega arith);
         live = omega arith;
-        root = scope-word img (e .scope) (e .table) (3 + 2 * nodes img + 0) (λ q. let z = g .live in omega arith) ∙ g .root;
+        root = scope-word img (e .scope) (e .table) (parentPlace (nodes img) 0) (λ q. let z = g .live in omega arith) ∙ g .root;
         parents = λ s l k. ⊎-elim (new s) (old s l) (eq-or-lt-of-le (let z : s ≤ e .table .scopes = omega arith in z));
-        scopes = λ j k. let z = scope-word img (e .scope) (e .table) (3 + 3 * nodes img + j) (λ q. omega arith) in let x = g .scopes j k in omega arith;
-        symbols = λ j k. ap (isSymbol img) (scope-word img (e .scope) (e .table) (3 + 4 * nodes img + j) (λ q. omega arith)) ∙ g .symbols j k;
+        scopes = λ j k. let z = scope-word img (e .scope) (e .table) (scopePlace (nodes img) j) (λ q. omega arith) in let x = g .scopes j k in omega arith;
+        symbols = λ j k. ap (isSymbol img) (scope-word img (e .scope) (e .table) (nodePlace (nodes img) j) (λ q. omega arith)) ∙ g .symbols j k;
       }
     where
       vs : List ℕ
@@ -185,12 +175,12 @@ module _ (img : List ℕ) where
 
       new : (s : ℕ) → s ≡ e .table .scopes → parentAt (nodes img) vs s < s
       new s q =
-          let z : parentAt (nodes img) vs s ≡ e .scope = ap (parentAt (nodes img) vs) q ∙ getD-set-same (e .table .words) (3 + 2 * nodes img + e .table .scopes) (e .scope) 0 (let l = g .long in omega arith) in
+          let z : parentAt (nodes img) vs s ≡ e .scope = ap (parentAt (nodes img) vs) q ∙ getD-set-same (e .table .words) (parentPlace (nodes img) (e .table .scopes)) (e .scope) 0 (let l = g .long in omega arith) in
           let l = g .live in
           omega arith
 
       old : (s : ℕ) → 1 ≤ s → s < e .table .scopes → parentAt (nodes img) vs s < s
-      old s l k = let z = scope-word img (e .scope) (e .table) (3 + 2 * nodes img + s) (λ q. omega arith) in let x = g .parents s l k in omega arith
+      old s l k = let z = scope-word img (e .scope) (e .table) (parentPlace (nodes img) s) (λ q. omega arith) in let x = g .parents s l k in omega arith
 
   good-add : (n : ℕ) (e : Exit) → isSymbol img n ≡ true → e .table .symbols < nodes img → e .table .scopes ≤ nodes img → Good e → Good (ownSymbol img n e)
   unfolding ownSymbol newSymbol
@@ -198,8 +188,8 @@ module _ (img : List ℕ) where
       record {
         long = (let z = symbol-length img (e .scope) n (e .table) in let x = g .long in omega arith);
         live = g .live;
-        root = symbol-word img (e .scope) n (e .table) (3 + 2 * nodes img + 0) (omega arith) (omega arith) ∙ g .root;
-        parents = λ s l m. let z = symbol-word img (e .scope) n (e .table) (3 + 2 * nodes img + s) (omega arith) (omega arith) in let x = g .parents s l m in omega arith;
+        root = symbol-word img (e .scope) n (e .table) (parentPlace (nodes img) 0) (omega arith) (omega arith) ∙ g .root;
+        parents = λ s l m. let z = symbol-word img (e .scope) n (e .table) (parentPlace (nodes img) s) (omega arith) (omega arith) in let x = g .parents s l m in omega arith;
         scopes = λ j l. ⊎-elim (λ q. let z = ap (scopeOf (nodes img) vs) q in let y = symbol-scope img (e .scope) n (e .table) h (g .long) in let x = g .live in omega arith) (λ m. let z = same .scopes j m in let x = g .scopes j m in omega arith) (eq-or-lt-of-le (let z : j ≤ e .table .symbols = omega arith in z));
         symbols = λ j l. ⊎-elim (λ q. ap (isSymbol img) (ap (nodeAt (nodes img) vs) q ∙ symbol-node img (e .scope) n (e .table) h (g .long)) ∙ i) (λ m. ap (isSymbol img) (same .nodes j m) ∙ g .symbols j m) (eq-or-lt-of-le (let z : j ≤ e .table .symbols = omega arith in z));
       }
@@ -208,7 +198,7 @@ module _ (img : List ℕ) where
       vs = (newSymbol img (e .scope) n (e .table)) .words
 
       same : SameRows (nodes img) (e .table .symbols) vs (e .table .words)
-      same = symbol-same img (e .scope) n (e .table) h (g .long)
+      same = symbol-same img (e .scope) n (e .table) h
 
   -- resolving keeps it, where the counts are within the arrays
   pub moves-good : {e f : Exit} → Moves e f → Few img (f .table) → Good e → Good f

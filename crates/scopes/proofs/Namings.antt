@@ -1,6 +1,6 @@
 -- The trees of an accepted image: the nodes are below N, and what the walk enters as a symbol is a named node of a kind that has
 -- a symbol number.
-use mathlib.Core.Path.{_≡_, sym, ap, subst, _∙_}
+use mathlib.Core.Path.{_≡_, refl, sym, ap, subst, _∙_}
 use mathlib.Core.Bool.{Bool, true, not, _&&_}
 use mathlib.Core.List.{List, [], _∷_}
 use Prim.Native.Nat.{ℕ, zero, suc, _+_, _<_, _≤_}
@@ -9,17 +9,19 @@ use native.Mathlib.Omega.{arith}
 use native.Mathlib.Nat.{add-zero}
 use lib.Dec.{T, eqb, leb, leb→le, eqb→eq, T-not}
 use borrow.Author.Tests.{le-leb}
+use Rattle.ast.specs.Declarations.{ruleNode, declared, declaredAll}
 use Rattle.ast.specs.Image.{nodes, kindAt, startAt, opAt, field}
-use Rattle.ast.specs.Kinds.{Class, outer, inner, root, decl, signature, rule, enum, model, plain, term, ident, head, headMember, member, branch, match, case, ifVar, definedThen, arg, Kind, kinds, kindOf}
+use Rattle.ast.specs.Kinds.{Class, outer, inner, root, decl, signature, rule, enum, model, plain, term, ident, head, headMember, member, case, ifVar, definedThen, arg, Kind, kinds, kindOf}
 use Rattle.ast.specs.Rows.{after, fieldShape, fieldsShape, fieldsAt, shape}
 use Rattle.ast.specs.Tests.{verdict}
-use Rattle.ast.specs.Tree.{Tree, node, block, classAt, treeAt}
+use Rattle.ast.specs.Tree.{Tree, node, block, Trees, none, _◂_, classAt, treeAt}
 use Rattle.ast.proofs.Accepted.{formed}
-use Rattle.ast.proofs.Unfold.{treeAt-is}
-use Rattle.ast.proofs.Vars.{Everywhere, everywhere, every-kind, and-both}
-use Rattle.table.specs.Sound.{hasName, isSymbol}
-use Rattle.table.proofs.Sounds.{named-yes, symbol-out, symbol-rule, symbol-arg, symbol-var, symbol-decl}
-use Rattle.ordered.proofs.Bools.{true-not-false, false-true}
+use Rattle.ast.proofs.Small.{Small, Smalls}
+use Rattle.ast.proofs.Unfold.{All, nil, cons, All-append, treeAt-is}
+use Rattle.ast.proofs.Vars.{Everywhere, EverywhereAll, everywhere, every-kind, and-both}
+use Rattle.sound.specs.Sound.{hasName, isSymbol}
+use Rattle.sound.proofs.Sounds.{named-yes, symbol-out, symbol-rule, symbol-arg, symbol-var, symbol-decl}
+use Rattle.ast.proofs.Bools.{true-not-false, false-true}
 use Rattle.ordered.proofs.Moves.{namedBy, enters}
 
 -- the kinds of these classes
@@ -40,8 +42,6 @@ allowed (inner ident) k = eqb k 13
 allowed (inner head) k = true
 allowed (inner headMember) k = true
 allowed (inner member) k = true
-allowed (inner branch) k = true
-allowed (inner match) k = true
 allowed (inner case) k = true
 allowed (inner ifVar) k = true
 allowed (inner definedThen) k = true
@@ -59,6 +59,45 @@ every-allowed k l = every-kind allows tt k l
 unfoldable pub Fit : List ℕ → Tree → Type 0
 Fit img (block ts) = Unit {0}
 Fit img (node n k c sh ts) = (n < nodes img) × (enters c sh ≡ true → isSymbol img n ≡ true)
+
+-- what a declaration declares is symbols
+module _ (img : List ℕ) where
+  abbrev pub Symbols : List ℕ → Type 0
+  Symbols ns = All (λ n. isSymbol img n ≡ true) ns
+
+  rule-symbols : (sh : List ℕ) (n : ℕ) → (namedBy sh ≡ true → isSymbol img n ≡ true) → Symbols (ruleNode sh n)
+  unfolding ruleNode namedBy
+  rule-symbols [] n f = nil
+  rule-symbols (zero ∷ sh) n f = nil
+  rule-symbols (suc c ∷ sh) n f = cons (f refl) nil
+
+  mutual
+    unfolding declared Everywhere Fit enters
+
+    declared-symbols : (u : Tree) → Everywhere (Fit img) u → Symbols (declared u)
+    declared-symbols (block ts) q = nil
+    declared-symbols (node n k (inner i) sh ts) q = nil
+    declared-symbols (node n k (outer root) sh ts) q = nil
+    declared-symbols (node n k (outer decl) sh ts) q = declaredAll-symbols ts (q .1)
+    declared-symbols (node n k (outer signature) sh ts) q = cons (q .0 .1 refl) nil
+    declared-symbols (node n k (outer rule) sh ts) q = rule-symbols sh n (q .0 .1)
+    declared-symbols (node n k (outer enum) sh ts) q = cons (q .0 .1 refl) (declaredAll-symbols ts (q .1))
+    declared-symbols (node n k (outer model) sh ts) q = cons (q .0 .1 refl) nil
+
+    pub declaredAll-symbols : (us : Trees) → EverywhereAll (Fit img) us → Symbols (declaredAll us)
+    declaredAll-symbols none q = nil
+    declaredAll-symbols (u ◂ us) q = All-append (declared-symbols u (q .0)) (declaredAll-symbols us (q .1))
+
+  mutual
+    unfolding Everywhere Fit Small
+
+    fit-small : (u : Tree) → Everywhere (Fit img) u → Small (nodes img) u
+    fit-small (node n k c sh ts) q = (q .0 .0, fit-smalls ts (q .1))
+    fit-small (block ts) q = fit-smalls ts q
+
+    pub fit-smalls : (us : Trees) → EverywhereAll (Fit img) us → Smalls (nodes img) us
+    fit-smalls none q = tt
+    fit-smalls (u ◂ us) q = (fit-small u (q .0), fit-smalls us (q .1))
 
 -- a symbol is a node
 pub symbol-below : (img : List ℕ) (n : ℕ) → isSymbol img n ≡ true → n < nodes img
@@ -110,8 +149,6 @@ module _ (img : List ℕ) (n : ℕ) (below : n < nodes img) where
   class-symbol (inner head) t e = absurd (false-true e)
   class-symbol (inner headMember) t e = absurd (false-true e)
   class-symbol (inner member) t e = absurd (false-true e)
-  class-symbol (inner branch) t e = absurd (false-true e)
-  class-symbol (inner match) t e = absurd (false-true e)
   class-symbol (inner case) t e = absurd (false-true e)
   class-symbol (inner ifVar) t e = absurd (false-true e)
   class-symbol (inner definedThen) t e = absurd (false-true e)

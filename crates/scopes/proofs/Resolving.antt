@@ -10,26 +10,25 @@ use lib.Dec.{leb→le}
 use lib.ListN.{length, getD, set, drop, length-set}
 use lib.Seq.{getD-set-same, getD-set-other, drop-set-lt}
 use Rattle.ast.specs.Answer.{twice as twiceAnswer, result}
-use Rattle.ast.specs.Image.{nodes, last, kindAt}
+use Rattle.ast.specs.Image.{nodes, last, kindAt, nameOf}
+use Rattle.ast.specs.Declarations.{moduleLists}
 use Rattle.ast.specs.Rows.{kids, shape}
 use Rattle.ast.specs.Kinds.{Class}
 use Rattle.ast.specs.Tests.{run, verdict}
-use Rattle.ast.specs.Tree.{Tree, node, block, Trees, ordered, grow, classAt, treeAt}
+use Rattle.ast.specs.Tree.{Tree, node, block, Trees, ordered, grow, classAt, treeAt, size}
 use Rattle.ast.proofs.Accepted.{both, needed, skip, formed, last-below}
 use Rattle.ast.proofs.Unfold.{treeAt-is}
-use Rattle.ast.proofs.Count as count
+use Rattle.ast.proofs.Count.{tree-size}
 use Rattle.ast.proofs.Small.{Small, tree-small}
 use Rattle.ast.proofs.Vars.{Everywhere}
-use Rattle.table.specs.Layout.{allOnes, nodesPlace, scopesPlace, symbolsPlace, tableLength}
-use Rattle.table.specs.Sound.{isSymbol, scopesIn, symbolsIn, testSound}
+use Rattle.table.specs.Layout.{allOnes, nodesPlace, scopesPlace, symbolsPlace, parentPlace, scopePlace, nodePlace, tableLength}
+use Rattle.sound.specs.Sound.{isSymbol, scopesIn, symbolsIn, testSound}
 use Rattle.table.specs.State.{Exit, marked}
 use Rattle.table.specs.Table.{Table, mark, newScope}
-use Rattle.table.proofs.Sounds.{parent-low, row-yes, sound-rest}
-use Rattle.ordered.specs.Walkers.{Few}
+use Rattle.sound.proofs.Sounds.{parent-low, row-yes, sound-rest}
+use Rattle.ordered.specs.Promises.{Few}
 use Rattle.ordered.specs.Kept.{Kept}
 use Rattle.ordered.proofs.Kept.{past, mark-kept, scope-kept, mark-past, scope-past, mark-length, scope-length}
-use Rattle.ordered.specs.Size.{size}
-use Rattle.ordered.proofs.Size.{size-nodes}
 use Rattle.rows.proofs.Appends.{clear-length, clear-long, clear-past}
 use Rattle.scopes.specs.Walk.{done, enterAll, visitAll, resolveTree}
 use Rattle.scopes.specs.Resolve.{testTable, zeroed, walked, headed, Way, refuses, stops, fills, way, answerBy, tableBy, tableCall, resolve}
@@ -79,7 +78,7 @@ module _ (img ws : List ℕ) (n : ℕ) (below : n < nodes img) (long : tableLeng
       (record {
         long = (let z = scope-length img allOnes empty in omega arith);
         live = omega arith;
-        root = getD-set-same ws (3 + 2 * nodes img + 0) allOnes 0 (omega arith);
+        root = getD-set-same ws (parentPlace (nodes img) 0) allOnes 0 (omega arith);
         parents = λ s l k. absurd (omega arith);
         scopes = λ j k. absurd (omega arith);
         symbols = λ j k. absurd (omega arith);
@@ -118,8 +117,8 @@ module _ (img ws : List ℕ) (long : tableLength (nodes img) ≤ length ws) wher
         good = moves-good img (ends-and img (enterAll img ts m) (visitAll img ts) (enterAll-ends img ts (fit .1) m) (λ f. visitAll-ends img ts (fit .1) f) e h) few (begun-good img ws n (q .0) long);
       }
 
-  tree-shown : (u : Tree) → Small (nodes img) u → size u ≤ nodes img → shows (resolveTree img u (record { words = ws; scopes = 0; symbols = 0 })) ≡ clashIn img u
-  unfolding resolveTree Small size clashIn shows
+  tree-shown : (u : Tree) → Small (nodes img) u → size u ≤ nodes img → shows (resolveTree img u (record { words = ws; scopes = 0; symbols = 0 })) ≡ clashIn (nameOf img) (moduleLists u)
+  unfolding resolveTree Small size clashIn moduleLists shows
   tree-shown (block ts) q s = refl
   tree-shown (node n k c sh ts) q s =
       let m = begun img ws n (q .0) long in
@@ -150,7 +149,7 @@ module _ (img tab : List ℕ) where
 
   module _ (accepted : verdict img ≡ 0) where
     whole-size : size (treeAt img (last img)) ≡ nodes img
-    whole-size = size-nodes (treeAt img (last img)) ∙ count.size img accepted
+    whole-size = tree-size img accepted
 
     pub walk-ended : (e : Exit) → walked img tab ≡ done e → Ended img (zeroed img tab) e
     unfolding walked
@@ -229,11 +228,11 @@ headed-sound img ws e long d =
     let y = headed-symbols img t l in
     let g = d .good in
     sound-rest img vs (nodes img) (nodes img) (t .scopes) (t .symbols) refl (sym (headed-nodes img t l)) (sym k) (sym y) refl (λ q. let s = d .some in omega arith) (d .scopes) (d .symbols)
-    (headed-word img t (3 + 2 * nodes img + 0) (omega arith) ∙ g .root)
-    ∙ skip _ _ (run-all _ (t .scopes - 1) 1 (λ s a b. parent-low img vs s _ refl (let z = headed-word img t (3 + 2 * nodes img + s) (omega arith) in let p = g .parents s a (omega arith) in omega arith)))
+    (headed-word img t (parentPlace (nodes img) 0) (omega arith) ∙ g .root)
+    ∙ skip _ _ (run-all _ (t .scopes - 1) 1 (λ s a b. parent-low img vs s _ refl (let z = headed-word img t (parentPlace (nodes img) s) (omega arith) in let p = g .parents s a (omega arith) in omega arith)))
     ∙ run-all _ (t .symbols) 0 (λ j a b.
-    row-yes img vs j _ (t .scopes) refl (sym k) _ refl (let z = headed-word img t (3 + 3 * nodes img + j) (omega arith) in let p = g .scopes j (omega arith) in omega arith)
-    (ap (isSymbol img) (headed-word img t (3 + 4 * nodes img + j) (omega arith)) ∙ g .symbols j (omega arith)))
+    row-yes img vs j _ (t .scopes) refl (sym k) _ refl (let z = headed-word img t (scopePlace (nodes img) j) (omega arith) in let p = g .scopes j (omega arith) in omega arith)
+    (ap (isSymbol img) (headed-word img t (nodePlace (nodes img) j) (omega arith)) ∙ g .symbols j (omega arith)))
 
 -- what a call that resolves leaves in the table ---------------------------------------------------------------------------
 module _ (img tab : List ℕ) {r : ℕ} (tested : r ≡ 0 → testTable img tab ≡ 0) where

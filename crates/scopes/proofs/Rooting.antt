@@ -10,29 +10,27 @@ use Rattle.ast.specs.Is.{Is}
 use Rattle.ast.specs.Items.{items}
 use Rattle.ast.specs.Kinds.{root, list, kindOf}
 use Rattle.ast.specs.Tests.{verdict}
-use Rattle.ast.specs.Tree.{Tree, Trees, none, treeAt}
+use Rattle.ast.specs.Tree.{Tree, Trees, none, treeAt, size, sizes}
 use Rattle.ast.specs.declared.NodeId.{NodeId}
 use Rattle.ast.proofs.Accepted.{formed, last-below}
-use Rattle.ast.proofs.Count as counting
-use Rattle.ast.proofs.Row.{append, append-none, FormedFields, next, ends, nodeOf}
-use Rattle.ast.proofs.Shapes.{formed-row, row, tree-of}
+use Rattle.ast.proofs.Count.{tree-size}
+use Rattle.ast.proofs.Row.{append, append-none, nodeOf}
+use Rattle.ast.proofs.Shapes.{tree-of, run-list}
 use Rattle.table.specs.Layout.{allOnes, tableLength}
 use Rattle.table.specs.State.{Exit, childScope, marked}
 use Rattle.table.specs.Values.{tableOf}
 use Rattle.table.specs.declared.Walked.{Walked}
-use Rattle.ordered.specs.Size.{size, sizes}
-use Rattle.ordered.proofs.Size.{size-nodes}
 use Rattle.rows.specs.Rows.{cleared}
 use Rattle.scopes.specs.Walk.{andThen, enterAll, visitAll, resolveTree}
 use Rattle.scopes.specs.Resolve.{testTable, zeroed, walked, headed, fills, tableBy, Outcome, resolve}
 use Rattle.scopes.specs.Answers.{Resolves}
-use Rattle.scopes.specs.Lists.{listedOf, overList, Visits, ListRun, Lent}
+use Rattle.scopes.specs.Promises.{listedOf, overList, Visits, ListRun, Lent}
 use Rattle.scopes.specs.declared.Declared.{Declared}
 use Rattle.scopes.specs.declared.Declared.the-variants.{Done, Twice}
 use Rattle.scopes.proofs.Adds.{addss}
 use Rattle.scopes.proofs.Calls.{way-stops, way-fills, call-refused, call-stopped, call-filled}
 use Rattle.scopes.proofs.Resolving.{begun, begun-counts, begun-newest, begun-past, table-accepted, table-long, zeroed-past}
-use Rattle.scopes.proofs.Visiting.{listOf, over-start}
+use Rattle.scopes.proofs.Visiting.{over-start}
 
 module _ (img : List ℕ) where
   pub root-is : verdict img ≡ 0 → Is img (kindOf 0) (last img)
@@ -48,10 +46,6 @@ module _ (img : List ℕ) where
       subst (λ (u : Tree). (resolveTree img u (record { words = ws; scopes = 0; symbols = 0 }) ≡ andThen img (enterAll img (rootTrees n) (begun img ws n below long)) (visitAll img (rootTrees n))) × (size u ≡ suc (sizes (rootTrees n))))
       (sym (tree-of img is)) (refl, refl)
 
-  root-short : {n : ℕ} → Is img (kindOf 0) n → 1 + field img n 0 ≤ 8192
-  unfolding ends next kindOf
-  root-short is = (formed-row img is) .short
-
   -- the first scope, with the module's node marked
   pub begun-is : (ws : List ℕ) (n : ℕ) (below : n < nodes img) (long : tableLength (nodes img) ≤ length ws) {f g : Exit}
       → f ≡ childScope img (record { scope = allOnes; table = record { words = ws; scopes = 0; symbols = 0 } }) → g ≡ marked img n (f .scope) f → g ≡ begun img ws n below long
@@ -65,12 +59,12 @@ module _ (img : List ℕ) where
 
   pub rootVisit : {n count : ℕ} {ws : List ℕ} {f g : Exit} → Lent img ws → n ≡ last img → count ≡ field img n 0
       → f ≡ childScope img (record { scope = allOnes; table = record { words = ws; scopes = 0; symbols = 0 } }) → g ≡ marked img n (f .scope) f → RootVisit n count ws g
-  unfolding FormedFields next kindOf rootTrees
+  unfolding kindOf rootTrees
   rootVisit {n} {count} {ws} {f} {g} p q c h k =
       subst (λ (x : ℕ). RootVisit n x ws g) (sym c) (subst (RootVisit n (field img n 0) ws) (sym (begun-is ws n low (p .long) h k))
       (record {
         list = record {
-          lists = listOf img is ((row img is) .0) (root-short is);
+          run = run-list img is refl;
           fits = record {
             scopes = (let z = counts in let y = fills in omega arith);
             symbols = (let z = counts in let y = fills in let d = addss ts in omega arith);
@@ -102,7 +96,7 @@ module _ (img : List ℕ) where
       a = append-none ts
 
       fills : suc (sizes ts) ≡ nodes img
-      fills = ap (λ (us : Trees). suc (sizes us)) (sym a) ∙ sym (root-tree ws low (p .long) is .1) ∙ ap (λ (x : ℕ). size (treeAt img x)) q ∙ size-nodes (treeAt img (last img)) ∙ counting.size img (p .accepted)
+      fills = ap (λ (us : Trees). suc (sizes us)) (sym a) ∙ sym (root-tree ws low (p .long) is .1) ∙ ap (λ (x : ℕ). size (treeAt img x)) q ∙ tree-size img (p .accepted)
 
       whole : resolveTree img (treeAt img (last img)) (record { words = ws; scopes = 0; symbols = 0 }) ≡ overList img n 1 (field img n 0) m
       whole = ap (λ (x : ℕ). resolveTree img (treeAt img x) (record { words = ws; scopes = 0; symbols = 0 })) (sym q) ∙ root-tree ws low (p .long) is .0

@@ -6,7 +6,7 @@ use Prim.Native.Nat.{ℕ}
 use Rattle.ast.specs.Answer.{result}
 use Rattle.table.specs.State.{Exit}
 use Rattle.table.specs.Table.{Table}
-use Rattle.ordered.proofs.Bools.{true-not-false}
+use Rattle.ast.proofs.Bools.{true-not-false}
 use Rattle.scopes.specs.Resolve.{testTable, walked, answerBy, tableCall, resolve}
 use Rattle.scopes.specs.Twice.{declaredTwice}
 use Rattle.scopes.specs.Walk.{Listed, done, twice}

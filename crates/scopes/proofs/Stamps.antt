@@ -13,15 +13,14 @@ use lib.ListN.{length, getD, set, length-set}
 use lib.Seq.{getD-set-same, getD-set-other}
 use borrow.Author.Tests.{eqb-true, eqb-false, ne-eqb}
 use Rattle.ast.specs.Image.{nodes, nameOf}
-use Rattle.table.specs.Layout.{scopePlace, nodePlace, tableLength}
+use Rattle.table.specs.Layout.{tableLength}
 use Rattle.table.specs.Rows.{scopeOf, nodeAt}
 use Rattle.table.specs.State.{Exit, ownSymbol, marked}
-use Rattle.table.specs.Table.{Table, rowIs, findFrom, mark, newSymbol}
+use Rattle.table.specs.Table.{rowIs, findFrom, mark, newSymbol}
 use Rattle.table.proofs.Finds.{row-out, row-in}
-use Rattle.table.proofs.Frames.{SameRows, symbol-same, symbol-node}
-use Rattle.ordered.proofs.Bools.{false-true}
-use Rattle.ordered.proofs.Kept.{mark-word}
-use Rattle.scopes.specs.Lists.{Seen, Stamped}
+use Rattle.table.proofs.Frames.{SameRows, mark-same, symbol-same, symbol-node}
+use Rattle.ast.proofs.Bools.{false-true}
+use Rattle.scopes.specs.Promises.{Seen, Stamped}
 
 -- as the code stamps: i is the place of the name x
 module _ {seen : List ℕ} {x s i : ℕ} (place-is : i ≡ x) where
@@ -44,14 +43,6 @@ module _ (img : List ℕ) where
   unfolding findFrom
   from-false zero ws j s x h = refl
   from-false (suc c) ws j s x h = rw (h j (omega arith), findFrom) (from-false c ws (j + 1) s x (λ i l. h i (omega arith)))
-
-  -- marks change no row
-  mark-same : (n a b : ℕ) (t : Table) → n < nodes img → SameRows (nodes img) (t .symbols) ((mark img n a b t) .words) (t .words)
-  mark-same n a b t l =
-      record {
-        scopes = λ j k. mark-word img n a b t (scopePlace (nodes img) j) (omega arith) (omega arith);
-        nodes = λ j k. mark-word img n a b t (nodePlace (nodes img) j) (omega arith) (omega arith);
-      }
 
   -- a scope above all rows: whatever the stamps are
   pub seen-start : (seen : List ℕ) (e : Exit) → ((j : ℕ) → j < e .table .symbols → scopeOf (nodes img) (e .table .words) j < e .scope) → Seen img seen e
@@ -91,7 +82,7 @@ module _ (img : List ℕ) where
       vs = (newSymbol img (e .scope) n (e .table)) .words
 
       same : SameRows (nodes img) (e .table .symbols) vs (e .table .words)
-      same = symbol-same img (e .scope) n (e .table) few long
+      same = symbol-same img (e .scope) n (e .table) few
 
       Stamp : ℕ → Type 0
       Stamp m = nameOf img m < length seen → getD seen (nameOf img m) 0 ≡ suc (e .scope)
@@ -108,7 +99,7 @@ module _ (img : List ℕ) where
       record { stamped = λ j k q. subst Stamp (sym (same .nodes j k)) (λ m. h .stamped j k (sym (same .scopes j k) ∙ q) m) }
     where
       same : SameRows (nodes img) (e .table .symbols) ((mark img n cur (e .scope) (e .table)) .words) (e .table .words)
-      same = mark-same n cur (e .scope) (e .table) l
+      same = mark-same img n cur (e .scope) (e .table) l
 
       Stamp : ℕ → Type 0
       Stamp m = nameOf img m < length seen → getD seen (nameOf img m) 0 ≡ suc (e .scope)

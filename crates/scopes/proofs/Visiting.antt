@@ -8,10 +8,10 @@ use Rattle.ast.specs.Image.{nodes, field}
 use Rattle.ast.specs.Is.{Is, kindBy}
 use Rattle.ast.specs.Items.{items, below}
 use Rattle.ast.specs.Kinds.{outer, signature, Field, name, child, list, Kind, kindOf}
-use Rattle.ast.specs.Tree.{Tree, node, block, Trees, none, treeAt}
+use Rattle.ast.specs.Tree.{Tree, node, block, Trees, none, treeAt, size, sizes}
 use Rattle.ast.proofs.Accepted.{sized}
-use Rattle.ast.proofs.Row.{append, append-none, Child, Items, FormedFields, next, ends, nodeOf}
-use Rattle.ast.proofs.Shapes.{formed-row, row, tree-of, child-is, items-more}
+use Rattle.ast.proofs.Row.{append, append-none, Child, FormedFields, next, nodeOf}
+use Rattle.ast.proofs.Shapes.{row, tree-of, child-is, items-more, run-item, run-tail}
 use Rattle.ast.proofs.Small.{Small, Smalls, tree-small, items-small}
 use Rattle.table.specs.Layout.{tableLength}
 use Rattle.table.specs.State.{Exit, childScope, marked, back}
@@ -19,15 +19,14 @@ use Rattle.table.specs.Values.{exitOf}
 use Rattle.table.specs.declared.Walked.{Walked}
 use Rattle.ast.specs.declared.NodeId.{NodeId}
 use Rattle.ordered.specs.Walk.{occurs, walk, walkSeq}
-use Rattle.ordered.specs.Walkers.{over, inside, rest, Few, Room, Ready, Run}
+use Rattle.ordered.specs.Promises.{over, inside, rest, Few, Room, Ready, ReadyRun}
 use Rattle.ordered.proofs.Grows.{Grows, seq-grows}
 use Rattle.ordered.proofs.Kept.{past}
-use Rattle.ordered.proofs.Lists.{rest-start, runOf}
-use Rattle.ordered.specs.Size.{size, sizes}
+use Rattle.ordered.proofs.Lists.{rest-start}
 use Rattle.ordered.proofs.Size.{seq-within}
 use Rattle.ordered.proofs.Steps.{room-below, tree-grows}
 use Rattle.scopes.specs.Walk.{Listed, done, twice, andThen, enterAll, visit, visitAll}
-use Rattle.scopes.specs.Lists.{listedOf, ents, vis, viss, restEnter, restVisit, overList, Enters, Visits, Inside, Fits, Visit, Lists, EnterRun, VisitRun, ListRun}
+use Rattle.scopes.specs.Promises.{listedOf, ents, vis, viss, restEnter, restVisit, overList, Enters, Visits, Inside, Fits, Visit, EnterRun, VisitRun, ListRun}
 use Rattle.scopes.specs.declared.Declared.{Declared}
 use Rattle.scopes.specs.declared.Declared.the-variants.{Done, Twice}
 use Rattle.scopes.proofs.Adds.{Newest, enterAll-in, visit-in, opened, opened-counts, child-newest, child-past, child-empty, fits-next}
@@ -127,23 +126,19 @@ module _ (img : List ℕ) where
       }))
 
   pub record RuleRun (n count : ℕ) (e : Exit) : Type 0 where
-    pub run : Run img 36 n 2 count e
+    pub run : ReadyRun img 36 n 2 count e
     pub inner : inside img occurs n e ≡ rest img occurs n 2 count 0 e
 
   rule-in : {n : ℕ} (e : Exit) → Is img (kindOf 6) n → inside img occurs n e ≡ walkSeq img occurs (items img n (field img n 1) 2) e
   unfolding nodeOf kindOf
   rule-in {n} e is = ap (λ (u : Tree). walkSeq img occurs (below u) e) (tree-of img is) ∙ ap (λ (us : Trees). walkSeq img occurs us e) (append-none (items img n (field img n 1) 2))
 
-  rule-short : {n : ℕ} → Is img (kindOf 6) n → 2 + field img n 1 ≤ 8192
-  unfolding ends next kindOf
-  rule-short is = (formed-row img is) .short
-
   pub ruleRun : {n count : ℕ} {e : Exit} → Inside img (kindOf 6) n e → count ≡ field img n 1 → RuleRun n count e
-  unfolding FormedFields next kindOf
+  unfolding next kindOf
   ruleRun {n} {count} {e} p q =
       let w = rule-in e (p .is) ∙ rest-start img occurs n 2 (field img n 1) e in
       subst (λ (x : ℕ). RuleRun n x e) (sym q)
-      (record { run = runOf img (p .is) ((row img (p .is)) .1 .0) (rule-short (p .is)) (subst (Room img) w (p .room)); inner = w })
+      (record { run = record { run = run-tail img (p .is) refl refl; room = subst (Room img) w (p .room) }; inner = w })
 
   -- the walk back in the scope of `at`
   pub dropped-is : (r at w : Walked) (ws : List ℕ) → (r .scope ≡ at .scope) × (r .scopes ≡ w .scopes) × (r .symbols ≡ w .symbols) → exitOf r ws ≡ back img (at .scope .0) (exitOf w ws)
@@ -224,12 +219,15 @@ module _ (img : List ℕ) where
             left = b .left ∙ visit-more n j count i f l ∙ and-done img (exitOf w vs) (restVisit img n j count (i + 1)) _ g;
           }
 
+      h : Child img n k m × Is img (kindOf k) m
+      h = run-item img (p .run) l refl
+
       item : VisitItem k n j count i m e f
       item =
           record {
-            low = p .lists .lower i l;
+            low = h .0 .below;
             ready = record {
-              is = record { accepted = p .lists .accepted; below = (let u = p .lists .below in let v = p .lists .lower i l in omega arith); kind = ap kindOf (p .lists .kinds i l) };
+              is = h .1;
               fits = record { scopes = (let r = more-fits .scopes in omega arith); symbols = (let r = more-fits .symbols in omega arith); kept = b .fits .kept };
             };
             more = λ {r} {vs} w d h. after w d h;
@@ -246,9 +244,6 @@ module _ (img : List ℕ) where
   visit-ended {n} {j} {count} {i} {e} {vs} w b l = record { same = sym (b .left ∙ visit-end n j count i (exitOf w vs) l); passed = b .passed }
 
   -- the lists of an enum and of a model ---------------------------------------------------------------------------------------
-  pub listOf : {kd : Kind} {k n j count : ℕ} → Is img kd n → Items img n k count j → j + count ≤ 8192 → Lists img k n j count
-  listOf is h l = record { accepted = is .accepted; below = is .below; lower = λ i m. (h i m) .below; kinds = λ i m. (h i m) .kind; short = l }
-
   abbrev listTrees : ℕ → Trees
   listTrees n = append (items img n (field img n 1) 2) none
 
@@ -260,12 +255,8 @@ module _ (img : List ℕ) where
   unfolding visit vis size nodeOf kindOf
   enum-visit {n} e is = subst (λ (u : Tree). (visit img u e ≡ visitAll img (listTrees n) e) × (size u ≡ suc (sizes (listTrees n))) × (vis u ≡ viss (listTrees n))) (sym (tree-of img is)) (refl, refl, refl)
 
-  enum-short : {n : ℕ} → Is img (kindOf 7) n → 2 + field img n 1 ≤ 8192
-  unfolding ends next kindOf
-  enum-short is = (formed-row img is) .short
-
   pub enumVisit : {n count : ℕ} {e : Exit} → Visit img (kindOf 7) n e → count ≡ field img n 1 → EnumVisit n count e
-  unfolding FormedFields next kindOf
+  unfolding next kindOf
   enumVisit {n} {count} {e} p q =
       let a = append-none (items img n (field img n 1) 2) in
       let v = enum-visit e (p .is) in
@@ -274,7 +265,7 @@ module _ (img : List ℕ) where
       subst (λ (x : ℕ). EnumVisit n x e) (sym q)
       (record {
         run = record {
-          lists = listOf (p .is) ((row img (p .is)) .1 .0) (enum-short (p .is));
+          run = run-tail img (p .is) refl refl;
           fits = record { scopes = (let f = p .fits .scopes in omega arith); symbols = (let f = p .fits .symbols in omega arith); kept = p .fits .kept };
         };
         whole = v .0 ∙ ap (λ (us : Trees). visitAll img us e) a ∙ visit-start n 2 (field img n 1) e;
@@ -295,10 +286,6 @@ module _ (img : List ℕ) where
       × (size u ≡ suc (sizes (listTrees n))) × (vis u ≡ ents (listTrees n) + viss (listTrees n)))
       (sym (tree-of img is)) (refl, refl, refl)
 
-  model-short : {n : ℕ} → Is img (kindOf 8) n → 2 + field img n 1 ≤ 8192
-  unfolding ends next kindOf
-  model-short is = (formed-row img is) .short
-
   -- its own scope, with its node marked
   pub opened-is : (n : ℕ) (e : Exit) {f g : Exit} → f ≡ childScope img e → g ≡ marked img n (f .scope) f → g ≡ opened img n e
   unfolding childScope
@@ -315,12 +302,12 @@ module _ (img : List ℕ) where
   model-room {n} {e} p = let z = (model-visit e (p .is)) .1 in let f = p .fits .scopes in let w = (sized img (p .is .accepted)) .fewNodes in omega arith
 
   pub modelVisit : {n count : ℕ} {e g : Exit} → Visit img (kindOf 8) n e → count ≡ field img n 1 → g ≡ opened img n e → ModelVisit n count e g
-  unfolding FormedFields next kindOf
+  unfolding next kindOf
   modelVisit {n} {count} {e} {g} p q o =
       subst (λ (x : ℕ). ModelVisit n x e g) (sym q) (subst (ModelVisit n (field img n 1) e) (sym o)
       (record {
         list = record {
-          lists = listOf (p .is) ((row img (p .is)) .1 .0) (model-short (p .is));
+          run = run-tail img (p .is) refl refl;
           fits = record { scopes = (let f = p .fits .scopes in let x = c in let y = s in omega arith); symbols = (let f = p .fits .symbols in let x = c in let y = s in omega arith); kept = new .kept };
           newest = new .last;
           fresh = child-empty img e (p .is .below) small (p .fits .kept);
@@ -363,9 +350,9 @@ module _ (img : List ℕ) where
   pub list-enter : {n j count : ℕ} {e : Exit} (seen : List ℕ) → ListRun img n j count e → EnterRun img seen n j count e
   list-enter {n} {j} {count} {e} seen p =
       record {
-        lists = p .lists;
+        run = p .run;
         entering = record {
-          accepted = p .lists .accepted;
+          accepted = p .run .accepted;
           live = (let z = p .newest in let y = p .fits .scopes in omega arith);
           room = (let y = p .fits .symbols in omega arith);
           long = p .fits .kept .rising .long;
@@ -389,7 +376,7 @@ module _ (img : List ℕ) where
       let v = p .fits .symbols in
       record {
         run = record {
-          lists = p .lists;
+          run = p .run;
           fits = record { scopes = omega arith; symbols = omega arith; kept = (t .keeps (record { scopes = omega arith; symbols = omega arith }) (record { kept = p .fits .kept; last = p .newest })) .kept };
         };
         visits = λ k. record { same = k .same ∙ sym (and-done img (exitOf w ws) (restVisit img n j count 0) _ g); passed = k .passed ∙ h .passed };

@@ -1,7 +1,6 @@
 -- What the calls hand back: document 01's numbers and values for every case of the code's enums.
 use mathlib.Core.Path.{_≡_}
 use mathlib.Core.List.{List}
-use mathlib.Core.Option.{Option, none, some}
 use Prim.Native.Nat.{ℕ}
 use Rattle.ast.specs.Answer.{Answer, refused, twice, result, other}
 use Rattle.table.specs.Values.{tableOf}
@@ -14,8 +13,6 @@ use Rattle.scopes.specs.declared.Looked.{Looked}
 use Rattle.scopes.specs.declared.Looked.the-variants as looked
 use Rattle.scopes.specs.declared.Resolved.{Resolved}
 use Rattle.scopes.specs.declared.Resolved.the-variants as resolved
-use Rattle.scopes.specs.declared.Numbered.{Numbered}
-use Rattle.scopes.specs.declared.Numbered.the-variants as numbered
 
 -- Resolve: K and Y, or a name that is declared twice with its two nodes
 abbrev pub resolvedAnswer : Resolved → Answer
@@ -44,8 +41,3 @@ abbrev pub lookedAnswer : Looked → Answer
 lookedAnswer (looked.Refused number) = refused number
 lookedAnswer (looked.At symbol node) = result symbol (node .0)
 lookedAnswer looked.Nothing = other 0 0
-
--- the number of a name, or none
-abbrev pub numberIn : Numbered → Option ℕ
-numberIn (numbered.At x) = some x
-numberIn numbered.Nothing = none

@@ -4,5 +4,5 @@ pub mod Twice
 pub mod Clash
 pub mod Lookup
 pub mod Calls
-pub mod Lists
+pub mod Promises
 pub mod Answers

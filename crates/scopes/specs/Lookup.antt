@@ -4,23 +4,15 @@ use mathlib.Core.List.{List}
 use mathlib.Core.Option.{Option, none, some}
 use Prim.Native.Nat.{ℕ, zero, suc, _+_}
 use lib.Dec.{ltb}
-use Rattle.ast.specs.Image.{names, nameBytes, kindAt}
-use Rattle.ast.specs.Tests.{_▸_, need, same}
+use Rattle.ast.specs.Image.{kindAt}
+use Rattle.ast.specs.Tests.{_▸_, need}
+use Rattle.names.specs.Number.{numberOf}
 use Rattle.ast.specs.Answer.{Answer, refused, result, other}
 use Rattle.table.specs.Table.{Table, lookup, symbolOf}
-use Rattle.table.specs.Sound.{scopesIn, symbolsIn, testSound}
+use Rattle.sound.specs.Sound.{scopesIn, symbolsIn, testSound}
 use Rattle.scopes.specs.Resolve.{testTable}
 
 module _ (img : List ℕ) where
-  -- the number of the name with these bytes, among the c names from i on
-  unfoldable pub numberFrom : ℕ → ℕ → List ℕ → Option ℕ
-  numberFrom zero i bs = none
-  numberFrom (suc c) i bs = elim (same (nameBytes img i) bs) [ true ↦ some i | false ↦ numberFrom c (i + 1) bs ]
-
-  unfoldable pub numberOf : List ℕ → Option ℕ
-  unfolding numberFrom
-  numberOf bs = numberFrom (names img) 0 bs
-
   -- the refusals: 1 to 13, 16, 17
   unfoldable pub testLookup : List ℕ → ℕ → ℕ
   unfolding testTable testSound
@@ -41,6 +33,6 @@ module _ (img : List ℕ) where
   unfolding testLookup numberOf foundBy symbolAnswer
   lookupCall tab s bs =
       elim (testLookup tab s) [
-        | zero ↦ symbolAnswer (foundBy tab s (numberOf bs))
+        | zero ↦ symbolAnswer (foundBy tab s (numberOf img bs))
         | suc r ↦ refused (suc r)
       ]

@@ -1,9 +1,10 @@
 -- The unordered part of document 01's walk: the names of a declaration list, then its declarations; and the module.
-use mathlib.Core.List.{List, [], _∷_}
+use mathlib.Core.List.{List, [], _∷_, _++_}
 use mathlib.Core.Option.{Option, none as nothing, some}
-use Prim.Native.Nat.{ℕ, zero, suc}
+use Prim.Native.Nat.{ℕ}
+use Rattle.ast.specs.Declarations.{declared, declaredAll}
 use Rattle.ast.specs.Image.{nameOf}
-use Rattle.ast.specs.Kinds.{Class, outer, inner, Outer, root, decl, signature, rule, enum, model}
+use Rattle.ast.specs.Kinds.{outer, inner, root, decl, signature, rule, enum, model}
 use Rattle.ast.specs.Tree.{Tree, node, block, Trees, none, _◂_}
 use Rattle.table.specs.Layout.{allOnes}
 use Rattle.table.specs.Table.{Table, newScope, find}
@@ -15,6 +16,22 @@ pub data Listed : Type 0 where
   done : Exit → Listed
   twice : (name first second : ℕ) → Listed
 
+-- the nodes that record the scope of the list they stand in: kinds 1 to 7 and 9
+unfoldable mutual
+  pub recorded : Tree → List ℕ
+  recorded (block ts) = []
+  recorded (node n k (inner i) sh ts) = []
+  recorded (node n k (outer root) sh ts) = []
+  recorded (node n k (outer decl) sh ts) = n ∷ recordedAll ts
+  recorded (node n k (outer signature) sh ts) = n ∷ []
+  recorded (node n k (outer rule) sh ts) = n ∷ []
+  recorded (node n k (outer enum) sh ts) = n ∷ recordedAll ts
+  recorded (node n k (outer model) sh ts) = []
+
+  pub recordedAll : Trees → List ℕ
+  recordedAll none = []
+  recordedAll (u ◂ us) = recorded u ++ recordedAll us
+
 module _ (img : List ℕ) where
   unfoldable pub enterName : ℕ → Exit → Listed
   unfolding find ownSymbol
@@ -24,37 +41,33 @@ module _ (img : List ℕ) where
         | some first ↦ twice (nameOf img n) first n
       ]
 
-  unfoldable pub enterRule : List ℕ → ℕ → Exit → Listed
-  unfolding enterName
-  enterRule [] n e = done e
-  enterRule (zero ∷ _) n e = done e
-  enterRule (suc c ∷ _) n e = enterName n e
-
   unfoldable pub andThen : Listed → (Exit → Listed) → Listed
   andThen (done e) f = f e
   andThen (twice x a b) f = twice x a b
 
-  -- the names of a declaration list, in the scope that the walk stands in
-  unfoldable mutual
-    unfolding enterName enterRule marked andThen
+  -- the names of the nodes, one after another
+  unfoldable pub enterNames : List ℕ → Exit → Listed
+  unfolding enterName andThen
+  enterNames [] e = done e
+  enterNames (n ∷ ns) e = andThen (enterName n e) (λ f. enterNames ns f)
 
-    pub enter : Tree → Exit → Listed
-    enter (block ts) e = done e
-    enter (node n k (inner i) sh ts) e = done e
-    enter (node n k (outer root) sh ts) e = done e
-    enter (node n k (outer decl) sh ts) e = enterAll ts (marked img n (e .scope) e)
-    enter (node n k (outer signature) sh ts) e = enterName n (marked img n (e .scope) e)
-    enter (node n k (outer rule) sh ts) e = enterRule sh n (marked img n (e .scope) e)
-    enter (node n k (outer enum) sh ts) e = andThen (enterName n (marked img n (e .scope) e)) (λ f. enterAll ts f)
-    enter (node n k (outer model) sh ts) e = enterName n e
+  -- each of the nodes with the scope that the walk stands in
+  unfoldable pub markAll : List ℕ → Exit → Exit
+  unfolding marked
+  markAll [] e = e
+  markAll (n ∷ ns) e = markAll ns (marked img n (e .scope) e)
 
-    pub enterAll : Trees → Exit → Listed
-    enterAll none e = done e
-    enterAll (u ◂ us) e = andThen (enter u e) (λ f. enterAll us f)
+  -- a declaration list in the scope that the walk stands in: its nodes record the scope, and all its names are entered; and
+  -- what one declaration has of that
+  unfoldable pub enterAll : Trees → Exit → Listed
+  enterAll us e = enterNames (declaredAll us) (markAll (recordedAll us) e)
+
+  unfoldable pub enter : Tree → Exit → Listed
+  enter u e = enterNames (declared u) (markAll (recorded u) e)
 
   -- the declarations themselves; what a signature or a rule adds is dropped
   unfoldable mutual
-    unfolding enterAll walkSeq andThen childScope marked
+    unfolding walkSeq andThen childScope marked
 
     pub visit : Tree → Exit → Listed
     visit (block ts) e = done e
@@ -72,7 +85,7 @@ module _ (img : List ℕ) where
     visitAll (u ◂ us) e = andThen (visit u e) (λ f. visitAll us f)
 
   unfoldable pub resolveTree : Tree → Table → Listed
-  unfolding enterAll visitAll newScope marked andThen
+  unfolding visitAll newScope marked andThen
   resolveTree (block ts) t = done (record { scope = 0; table = t })
   resolveTree (node n k c sh ts) t =
       andThen (enterAll ts (marked img n 0 (record { scope = 0; table = newScope img allOnes t }))) (λ f. visitAll ts f)

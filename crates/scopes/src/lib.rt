@@ -4,7 +4,6 @@ ghost use Prim.Native.Nat.{ℕ, suc, _+_, _*_, _-_, _<_, _≤_, _^_};
 ghost use mathlib.Core.List.{[], _∷_};
 ghost use mathlib.Core.Option.{some};
 ghost use lib.ListN.{length, drop};
-ghost use lib.Seq.{slice};
 ghost use Rattle.ast.specs.Image as «image-spec»;
 ghost use Rattle.ast.specs.Tests as «tests-spec»;
 ghost use Rattle.ast.specs.Is.{Is, kindBy};
@@ -13,14 +12,15 @@ ghost use Rattle.ast.specs.Tree.{treeAt};
 ghost use Rattle.table.specs.State.{marked, back};
 ghost use Rattle.table.specs.Values.{tableOf, exitOf, optionOf};
 ghost use Rattle.ordered.specs.Walk.{occurs};
-ghost use Rattle.ordered.specs.Walkers.{inside};
+ghost use Rattle.ordered.specs.Promises.{inside};
 ghost use Rattle.scopes.specs.Walk.{done, enterName, enter, visit, resolveTree};
-ghost use Rattle.scopes.specs.Lists.{ent, restEnter, restVisit, overList, Entering, Enters, Visits, Signature, Inside, Visit, EnterRun, VisitRun, ListRun, Lent, Stamped};
+ghost use Rattle.scopes.specs.Promises.{ent, restEnter, restVisit, overList, Entering, Enters, Visits, Signature, Inside, Visit, EnterRun, VisitRun, ListRun, Lent, Stamped};
 ghost use Rattle.scopes.specs.Resolve.{testTable, headed, resolve};
 ghost use Rattle.scopes.specs.Calls.{testRows};
 ghost use Rattle.scopes.specs.Lookup as «lookup-spec»;
-ghost use Rattle.scopes.specs.Answers.{resolvedAnswer, Resolves, lookedAnswer, numberIn};
+ghost use Rattle.scopes.specs.Answers.{resolvedAnswer, Resolves, lookedAnswer};
 use ast::NodeId;
+use names::Numbered;
 use table::Found;
 use table::ScopeId;
 use table::Walked;
@@ -123,7 +123,7 @@ fn enter_ctors(
 
 // An unnamed rule is not entered.
 fn enter_rule(image: &[u8], table: &mut [u32], seen: &mut [u32], at: Walked, id: NodeId) -> Declared
-    requires { ⌜ (Is (now image) (kindOf 6) (id .0)) × (Entering (now image) (now seen) 1 (exitOf at (now table))) ⌝ }
+    requires { ⌜ (Is (now image) (kindOf 6) (id .0)) × (Entering (now image) (now seen) (ent (treeAt (now image) (id .0))) (exitOf at (now table))) ⌝ }
     ensures { λ r. ⌜ Enters (now (image .entry)) (enter (now (image .entry)) (treeAt (now (image .entry)) (id .0)) (exitOf at (now (table .entry)))) (now (table .entry)) r (now (seen .exit)) (now (table .exit)) ⌝ }
 {
     let name = ast::field(image, id, 0);
@@ -381,9 +381,9 @@ pub fn walk_module(image: &[u8], table: &mut [u32]) -> Declared
 pub fn insert_counts(image: &[u8], table: &mut [u32], w: Walked)
     ensures { λ _. ⌜ now (table .exit) ≡ headed (now (image .entry)) (tableOf w (now (table .entry))) ⌝ }
 {
-    table::put(table, 0, ast::node_count(image));
-    table::put(table, 1, w.scopes);
-    table::put(table, 2, w.symbols);
+    table::put(table, table::NODES_PLACE, ast::node_count(image));
+    table::put(table, table::SCOPES_PLACE, w.scopes);
+    table::put(table, table::SYMBOLS_PLACE, w.symbols);
 }
 
 // Resolve, where 1 to 13 refuse nothing: where the walk stands after the module, or the name that is declared twice.
@@ -391,7 +391,7 @@ pub fn resolve_into(image: &[u8], table: &mut [u32]) -> Declared
     requires { ⌜ testTable (now image) (now table) ≡ 0 ⌝ }
     ensures { λ r. ⌜ Resolves (now (image .entry)) (now (table .entry)) r (now (table .exit)) ⌝ }
 {
-    let words = 3 + 5 * ast::wide(ast::node_count(image));
+    let words = table::words_for(ast::node_count(image));
     rows::clear(table, words);
     match walk_module(image, table) {
         Declared::Done(w) => {
@@ -409,11 +409,11 @@ pub fn resolve_into(image: &[u8], table: &mut [u32]) -> Declared
 pub fn test_table(image: &[u8], table: &[u32]) -> u32
     ensures { λ r. ⌜ r ≡ testTable (now (image .entry)) (now (table .entry)) ⌝ }
 {
-    let code = tests::verdict(image);
+    let code = names::verdict(image);
     if code != 0 {
         return code;
     }
-    if table.len() < 3 + 5 * ast::wide(ast::node_count(image)) {
+    if table.len() < table::words_for(ast::node_count(image)) {
         return 13;
     }
     0
@@ -476,66 +476,27 @@ fn test_lookup(image: &[u8], table: &[u32], scope: ScopeId) -> u32
     if code != 0 {
         return code;
     }
-    let sound = table::test_sound(image, table);
+    let sound = sound::test_sound(image, table);
     if sound != 0 {
         return sound;
     }
-    if scope.0 < table::get(table, 1) {
+    if scope.0 < table::get(table, table::SCOPES_PLACE) {
         return 0;
     }
     17
-}
-
-// The number of a name, or none.
-pub enum Numbered {
-    At(u32),
-    Nothing,
-}
-
-// The bytes of the image from `from` up to `to` are those of the name.
-fn spells(image: &[u8], from: usize, to: usize, name: &[u8]) -> bool
-    requires { ⌜ (from ≤ to) × (to ≤ length (now image)) ⌝ }
-    ensures { λ r. ⌜ r ≡ «tests-spec».same (slice from to (now (image .entry))) (now (name .entry)) ⌝ }
-{
-    if name.len() != to - from {
-        return false;
-    }
-    let mut i = 0;
-    while i < name.len() {
-        if image[from + i] != name[i] {
-            return false;
-        }
-        i += 1;
-    }
-    true
-}
-
-// The number of the name with these bytes.
-fn number_of(image: &[u8], name: &[u8]) -> Numbered
-    requires { ⌜ «tests-spec».verdict (now image) ≡ 0 ⌝ }
-    ensures { λ r. ⌜ numberIn r ≡ «lookup-spec».numberOf (now (image .entry)) (now (name .entry)) ⌝ }
-{
-    let s = ast::sizes_of(image);
-    let mut i = 0u32;
-    let mut start = 0u32;
-    while i < s.names {
-        let p = ast::span_of(image, s, i, start);
-        let from = p.from;
-        let to = p.to;
-        if spells(image, from, to, name) {
-            return Numbered::At(i);
-        }
-        start = p.end;
-        i += 1;
-    }
-    Numbered::Nothing
 }
 
 // The symbol of a name number, from a scope of a sound table on upwards.
 fn lookup_number(image: &[u8], table: &[u32], scope: ScopeId, name: u32) -> Looked
     ensures { λ r. ⌜ lookedAnswer r ≡ «lookup-spec».symbolAnswer (now (image .entry)) («lookup-spec».foundBy (now (image .entry)) (now (table .entry)) (scope .0) (some name)) ⌝ }
 {
-    match table::lookup(image, table, table::get(table, 2), scope, name) {
+    match table::lookup(
+        image,
+        table,
+        table::get(table, table::SYMBOLS_PLACE),
+        scope,
+        name,
+    ) {
         Found::At(node) => Looked::At(table::symbol_of(ast::kind_at(image, node)), node),
         Found::Nothing => Looked::Nothing,
     }
@@ -549,7 +510,7 @@ pub fn lookup(image: &[u8], table: &[u32], scope: ScopeId, name: &[u8]) -> Looke
     if code != 0 {
         return Looked::Refused(code);
     }
-    match number_of(image, name) {
+    match names::number_of(image, name) {
         Numbered::At(x) => lookup_number(image, table, scope, x),
         Numbered::Nothing => Looked::Nothing,
     }

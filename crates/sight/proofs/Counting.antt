@@ -6,16 +6,18 @@ use mathlib.Core.Option.{Option}
 use Prim.Native.Nat.{ℕ, _+_, _≤_, _<_}
 use native.Mathlib.Decide.{decLt}
 use native.Mathlib.Omega.{arith}
+use Rattle.ast.specs.Declarations.{orElse}
 use Rattle.ast.specs.Image.{nodes, last}
-use Rattle.ast.specs.Kinds.{outer, inner, root, decl, signature, rule, enum, model, plain, term, ident, head, headMember, member, branch, match, case, ifVar, definedThen, arg}
+use Rattle.ast.specs.Kinds.{outer, inner, root, decl, signature, rule, enum, model, plain, term, ident, head, headMember, member, case, ifVar, definedThen, arg}
 use Rattle.ast.specs.Tests.{is, times, verdict}
 use Rattle.ast.specs.Tree.{Tree, node, block, Trees, none, _◂_, treeAt}
 use Rattle.ast.proofs.Count.{nodesOf, nodesAll, is-same, times-append, once, nothing-else}
 use Rattle.ordered.proofs.Moves.{numbers, numbersSeq}
+use Rattle.scopes.specs.Walk.{recorded, recordedAll}
 use Rattle.sight.specs.Sight.{In}
-use Rattle.ast.specs.Rules.{Rule, orElse, saysAll, rules, rulesAll, rulesOf, moduleRules}
+use Rattle.ast.specs.Rules.{Rule, saysAll, rules, rulesAll, rulesOf, moduleRules}
 use Rattle.sight.proofs.Members.{Distinct}
-use Rattle.sight.proofs.Lists.{entered, enteredAll, visited, visitedAll, moduleNumbers}
+use Rattle.sight.proofs.Lists.{visited, visitedAll, moduleNumbers}
 use Rattle.sight.proofs.Verdict.{root-of}
 
 -- members and distinct numbers, by how often a number stands in a list
@@ -51,8 +53,6 @@ module _ (v : ℕ) where
     numbers-once (node n k (inner head) sh ts) = after-own n (numbersSeq ts) (nodesAll ts) (numbersSeq-once ts)
     numbers-once (node n k (inner headMember) sh ts) = after-own n (numbersSeq ts) (nodesAll ts) (numbersSeq-once ts)
     numbers-once (node n k (inner member) sh ts) = after-own n (numbersSeq ts) (nodesAll ts) (numbersSeq-once ts)
-    numbers-once (node n k (inner branch) sh ts) = after-own n (numbersSeq ts) (nodesAll ts) (numbersSeq-once ts)
-    numbers-once (node n k (inner match) sh ts) = after-own n (numbersSeq ts) (nodesAll ts) (numbersSeq-once ts)
     numbers-once (node n k (inner case) sh ts) = after-own n (numbersSeq ts) (nodesAll ts) (numbersSeq-once ts)
     numbers-once (node n k (inner ifVar) sh ts) = after-own n (numbersSeq ts) (nodesAll ts) (numbersSeq-once ts)
     numbers-once (node n k (inner definedThen) sh ts) = after-own n (numbersSeq ts) (nodesAll ts) (numbersSeq-once ts)
@@ -68,9 +68,9 @@ module _ (v : ℕ) where
         omega arith
 
   mutual
-    unfolding entered visited nodesOf times
+    unfolding recorded visited nodesOf times
 
-    marked-once : (u : Tree) → times v (entered u) + times v (visited u) ≤ times v (nodesOf u)
+    marked-once : (u : Tree) → times v (recorded u) + times v (visited u) ≤ times v (nodesOf u)
     marked-once (block ts) = omega arith
     marked-once (node n k (inner i) sh ts) = omega arith
     marked-once (node n k (outer root) sh ts) = omega arith
@@ -80,13 +80,13 @@ module _ (v : ℕ) where
     marked-once (node n k (outer enum) sh ts) = let a = markedAll-once ts in omega arith
     marked-once (node n k (outer model) sh ts) =
         let a = markedAll-once ts in
-        let b = times-append v (enteredAll ts) (visitedAll ts) in
+        let b = times-append v (recordedAll ts) (visitedAll ts) in
         omega arith
 
-    markedAll-once : (us : Trees) → times v (enteredAll us) + times v (visitedAll us) ≤ times v (nodesAll us)
+    markedAll-once : (us : Trees) → times v (recordedAll us) + times v (visitedAll us) ≤ times v (nodesAll us)
     markedAll-once none = omega arith
     markedAll-once (u ◂ us) =
-        let a = times-append v (entered u) (enteredAll us) in
+        let a = times-append v (recorded u) (recordedAll us) in
         let b = times-append v (visited u) (visitedAll us) in
         let c = times-append v (nodesOf u) (nodesAll us) in
         let d = marked-once u in
@@ -121,7 +121,7 @@ module _ (img : List ℕ) (v : ℕ) where
     rules-once m (node n k (outer enum) sh ts) = rulesAll-once m ts
     rules-once m (node n k (outer model) sh ts) =
         let a = rulesAll-once (λ x. orElse (saysAll img ts x) (m x)) ts in
-        let b = times-append v (enteredAll ts) (visitedAll ts) in
+        let b = times-append v (recordedAll ts) (visitedAll ts) in
         omega arith
 
     rulesAll-once : (m : ℕ → Option ℕ) (us : Trees) → times v (ruleNumbers (rulesAll img m us)) ≤ times v (visitedAll us)
@@ -159,7 +159,7 @@ module _ (img : List ℕ) (e : verdict img ≡ 0) where
 
   marked-times : (v : ℕ) → times v (moduleNumbers (last img) lists) ≤ times v (last img ∷ nodesAll lists)
   unfolding times
-  marked-times v = let a = times-append v (enteredAll lists) (visitedAll lists) in let b = markedAll-once v lists in omega arith
+  marked-times v = let a = times-append v (recordedAll lists) (visitedAll lists) in let b = markedAll-once v lists in omega arith
 
   pub module-small : (v : ℕ) → In v (moduleNumbers (last img) lists) → v < nodes img
   module-small v i =

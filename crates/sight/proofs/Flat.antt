@@ -8,7 +8,7 @@ use mathlib.Core.Option.{Option, some}
 use Prim.Native.Nat.{ℕ, suc, _≤_, _<_}
 use native.Mathlib.Decide.{ℕ-discrete, decLt}
 use native.Mathlib.Omega.{arith}
-use Rattle.ordered.proofs.Bools.{true-not-false}
+use Rattle.ast.proofs.Bools.{true-not-false}
 use Rattle.sight.specs.Sight.{Sort, ordinary, declared, applied, defined, Place, In, Within, Sees, Names, Naming, Fresh, FreshSort, NamedBelow, Occurrence, NoneFresh, Same}
 
 -- lists of numbers

@@ -2,38 +2,30 @@
 use mathlib.Core.Path.{_≡_, refl, sym, _∙_, ap, ap₂}
 use mathlib.Core.Logic.{_≢_}
 use mathlib.Core.Bool.{Bool}
-use mathlib.Core.List.{List, _++_}
+use mathlib.Core.List.{List, [], _∷_, _++_}
 use mathlib.Core.Option.{Option, none, some}
 use Prim.Native.Nat.{ℕ, zero, suc, _+_, _≤_, _<_}
 use native.Mathlib.Nat.{zero-add}
 use native.Mathlib.Numerals.{add-one}
 use native.Mathlib.Omega.{arith}
 use lib.ListN.{set, length-set}
-use lib.Seq.{getD-set-same}
+use lib.Seq.{getD-set-same, getD-set-other}
 use borrow.Author.Tests.{lt-ltb, le-ltb}
-use Rattle.ast.specs.Image.{nodes}
+use Rattle.ast.specs.Declarations.{orElse, earliest}
+use Rattle.ast.specs.Image.{nodes, nameOf}
+use Rattle.ast.proofs.Declarations.{orElse-none}
 use Rattle.table.specs.Layout.{entryPlace, exitPlace, parentPlace}
 use Rattle.table.specs.Rows.{parentAt}
 use Rattle.table.specs.State.{Exit, introduce}
-use Rattle.table.specs.Table.{Table, mark, newScope, newSymbol, rowIs, findFrom, find, climb, lookup, exitAt}
+use Rattle.table.specs.Table.{Table, mark, newScope, newSymbol, rowIs, findFrom, find, climb, lookup, entryAt, exitAt}
 use Rattle.table.proofs.Finds.{row-out}
-use Rattle.table.proofs.Frames.{SameRows, from-same, find-none, find-mark, find-scope, symbol-same, symbol-scope, find-symbol}
-use Rattle.table.proofs.Rising.{either, hit, find-snoc}
+use Rattle.table.proofs.Frames.{mark-word, scope-word, symbol-word, find-same, find-none, find-mark, find-scope, symbol-same, symbol-scope, find-symbol}
+use Rattle.table.proofs.Rising.{hit, find-snoc}
 use Rattle.ordered.specs.Kept.{Kept}
-use Rattle.ordered.proofs.Agreed.{through, above, above-cong, Agree, lookup-agree}
-use Rattle.ordered.proofs.Kept.{mark-word, scope-word, symbol-word, scope-kept, symbol-kept}
+use Rattle.ordered.proofs.Kept.{scope-kept, symbol-kept}
+use Rattle.table.proofs.Agreed.{through, above, above-cong, Agree, lookup-agree}
 use Rattle.sight.specs.Sight.{In}
-use Rattle.ast.specs.Rules.{orElse, own}
 use Rattle.sight.proofs.Members.{in-left, in-right}
-
-pub orElse-none : (u : Option ℕ) → orElse u none ≡ u
-orElse-none none = refl
-orElse-none (some n) = refl
-
-either-orElse : (o u : Option ℕ) → either o u ≡ orElse o u
-unfolding either
-either-orElse none u = refl
-either-orElse (some n) u = refl
 
 above-lower : (o : Option ℕ) (p s : ℕ) (u : Option ℕ) → p < s → above o p s u ≡ orElse o u
 above-lower (some n) p s u l = refl
@@ -96,6 +88,16 @@ module _ (img : List ℕ) where
     pub mark-exit : (m : ℕ) → m < N → m ≢ n → exitAt img ((mark img n e x t) .words) m ≡ exitAt img (t .words) m
     mark-exit m h f = mark-word img n e x t (exitPlace N m) (omega arith) (λ q. f (omega arith))
 
+    pub mark-entry : (m : ℕ) → m < N → m ≢ n → entryAt img ((mark img n e x t) .words) m ≡ entryAt img (t .words) m
+    mark-entry m h f = mark-word img n e x t (entryPlace N m) (λ q. f (omega arith)) (omega arith)
+
+    pub mark-entry-same : Kept img t → entryAt img ((mark img n e x t) .words) n ≡ e
+    unfolding mark
+    mark-entry-same s =
+        let z = s .rising .long in
+        getD-set-other (set (t .words) (entryPlace N n) e) (exitPlace N n) (entryPlace N n) x 0 (omega arith)
+        ∙ getD-set-same (t .words) (entryPlace N n) e 0 (omega arith)
+
     pub mark-exit-same : Kept img t → exitAt img ((mark img n e x t) .words) n ≡ x
     unfolding mark
     mark-exit-same s =
@@ -118,6 +120,9 @@ module _ (img : List ℕ) where
     pub child-exit : (m : ℕ) → m < N → exitAt img ((newScope img p t) .words) m ≡ exitAt img (t .words) m
     child-exit m h = scope-word img p t (exitPlace N m) (omega arith)
 
+    pub child-entry : (m : ℕ) → m < N → entryAt img ((newScope img p t) .words) m ≡ entryAt img (t .words) m
+    child-entry m h = scope-word img p t (entryPlace N m) (omega arith)
+
   -- a symbol more
   module _ (s n : ℕ) (t : Table) (sane : Kept img t) (Y<N : t .symbols < N) where
     abbrev named : List ℕ
@@ -125,29 +130,27 @@ module _ (img : List ℕ) where
 
     -- the new row counts in no other scope
     pub name-find-other : (r x : ℕ) → r ≢ s → find img (newSymbol img s n t) r x ≡ find img t r x
-    unfolding newSymbol find hit either
+    unfolding newSymbol find hit
     name-find-other r x f =
         let y = t .symbols in
         ap (λ c. findFrom img c named 0 r x) (add-one y)
         ∙ find-snoc img named y 0 r x
-        ∙ ap (λ i. either (findFrom img y named 0 r x) (hit img named (rowIs img named i r x) i)) (zero-add y)
-        ∙ ap (λ b. either (findFrom img y named 0 r x) (hit img named b y)) (row-out img named y r x (λ q. f (sym q ∙ symbol-scope img s n t Y<N (sane .rising .long))))
-        ∙ either-orElse (findFrom img y named 0 r x) none
+        ∙ ap (λ i. orElse (findFrom img y named 0 r x) (hit img named (rowIs img named i r x) i)) (zero-add y)
+        ∙ ap (λ b. orElse (findFrom img y named 0 r x) (hit img named b y)) (row-out img named y r x (λ q. f (sym q ∙ symbol-scope img s n t Y<N (sane .rising .long))))
         ∙ orElse-none (findFrom img y named 0 r x)
-        ∙ from-same img y named (t .words) 0 r x (record { scopes = λ i h. rows .scopes i (omega arith); nodes = λ i h. rows .nodes i (omega arith) })
-      where
-        rows : SameRows N (t .symbols) named (t .words)
-        rows = symbol-same img s n t Y<N (sane .rising .long)
+        ∙ find-same img (symbol-same img s n t Y<N) r x
 
-    pub name-find : (x : ℕ) → find img (newSymbol img s n t) s x ≡ orElse (find img t s x) (own img n x)
-    unfolding own Rattle.table.proofs.Frames.own
-    name-find x = find-symbol img s n t Y<N (sane .rising .long) x ∙ either-orElse (find img t s x) (own img n x)
+    pub name-find : (x : ℕ) → find img (newSymbol img s n t) s x ≡ orElse (find img t s x) (earliest (nameOf img) (n ∷ []) x)
+    name-find x = find-symbol img s n t Y<N (sane .rising .long) x
 
     pub name-parent : (r : ℕ) → r < N → parentAt N named r ≡ parentAt N (t .words) r
     name-parent r h = symbol-word img s n t (parentPlace N r) (omega arith) (omega arith)
 
     pub name-exit : (m : ℕ) → m < N → exitAt img named m ≡ exitAt img (t .words) m
     name-exit m h = symbol-word img s n t (exitPlace N m) (omega arith) (omega arith)
+
+    pub name-entry : (m : ℕ) → m < N → entryAt img named m ≡ entryAt img (t .words) m
+    name-entry m h = symbol-word img s n t (entryPlace N m) (omega arith) (omega arith)
 
   -- a new scope, below the one that the walk stands in, with one symbol
   module _ (n : ℕ) (e : Exit) (sane : Kept img (e .table)) (inside : e .scope < e .table .scopes) (K<N : e .table .scopes < N) (Y<N : e .table .symbols < N) where
@@ -175,16 +178,16 @@ module _ (img : List ℕ) where
     unfolding introduce
     new-lookup-old s x h = lookup-agree img K t₂ (e .table) s x h old-agree
 
-    new-find : (x : ℕ) → find img t₂ K x ≡ own img n x
+    new-find : (x : ℕ) → find img t₂ K x ≡ earliest (nameOf img) (n ∷ []) x
     unfolding newScope
     new-find x =
-        name-find K n t₁ sane₁ Y<N x ∙ ap (λ o. orElse o (own img n x)) (child-empty (e .scope) (e .table) sane K<N x)
+        name-find K n t₁ sane₁ Y<N x ∙ ap (λ o. orElse o (earliest (nameOf img) (n ∷ []) x)) (child-empty (e .scope) (e .table) sane K<N x)
 
     new-parent : parentAt N (t₂ .words) K ≡ e .scope
     unfolding newScope
     new-parent = name-parent K n t₁ sane₁ Y<N K K<N ∙ child-parent (e .scope) (e .table) sane K<N
 
-    pub new-lookup : (x : ℕ) → lookup img ((introduce img n e) .table) K x ≡ orElse (own img n x) (lookup img (e .table) (e .scope) x)
+    pub new-lookup : (x : ℕ) → lookup img ((introduce img n e) .table) K x ≡ orElse (earliest (nameOf img) (n ∷ []) x) (lookup img (e .table) (e .scope) x)
     unfolding introduce
     new-lookup x =
         lookup-child t₂ K (e .scope) x new-parent inside
@@ -193,6 +196,10 @@ module _ (img : List ℕ) where
     pub new-exit : (m : ℕ) → m < N → exitAt img ((introduce img n e) .table .words) m ≡ exitAt img (e .table .words) m
     unfolding introduce
     new-exit m h = name-exit K n t₁ sane₁ Y<N m h ∙ child-exit (e .scope) (e .table) sane K<N m h
+
+    pub new-entry : (m : ℕ) → m < N → entryAt img ((introduce img n e) .table .words) m ≡ entryAt img (e .table .words) m
+    unfolding introduce
+    new-entry m h = name-entry K n t₁ sane₁ Y<N m h ∙ child-entry (e .scope) (e .table) sane K<N m h
 
     pub new-kept : Kept img ((introduce img n e) .table)
     unfolding introduce

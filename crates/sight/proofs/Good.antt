@@ -10,6 +10,7 @@ use native.Mathlib.Omega.{arith}
 use native.Mathlib.Decide.{ℕ-discrete}
 use lib.Dec.{eqb}
 use borrow.Author.Tests.{eq-eqb, ne-eqb}
+use Rattle.ast.specs.Declarations.{orElse, earliest}
 use Rattle.ast.specs.Image.{nodes, nameOf, kindAt}
 use Rattle.ordered.specs.Walk.{Role, defines, walkIdent}
 use Rattle.table.specs.State.{Exit, introduce}
@@ -17,7 +18,6 @@ use Rattle.table.specs.Table.{Table, lookup, isKind, mark, exitAt}
 use Rattle.ordered.specs.Kept.{Kept as KeptTable}
 use Rattle.ordered.proofs.Kept.{mark-kept}
 use Rattle.sight.specs.Sight.{Sort, defined, Place, add, opened, In, Within}
-use Rattle.ast.specs.Rules.{orElse, own}
 use Rattle.sight.proofs.Flat.{limitOf, Sorted, Chain}
 use Rattle.sight.proofs.Frame.{Bounds, Later, later-next, mark-lookup, mark-exit, mark-exit-same, new-lookup, new-lookup-old, new-exit, new-kept}
 use Rattle.sight.proofs.Keep.{bound, adds, hits, bound-hit, bound-miss, bound-cong, Choice, choice, choice-defined, New, Kept, kept, keptPlace}
@@ -94,7 +94,7 @@ module _ (img : List ℕ) (outer : ℕ → Option ℕ) where
         }
 
     did-introduce : adds img outer σ asks → Bounds img ((introduce img i (st .now)) .table) → Did (introduce img i (st .now))
-    unfolding introduce own
+    unfolding introduce earliest
     did-introduce a l =
         let l₀ = l .0 in
         let l₁ = l .1 in

@@ -10,7 +10,7 @@ use Rattle.ast.specs.Image.{nameOf}
 use Rattle.table.specs.State.{Exit, introduce}
 use Rattle.table.specs.Table.{lookup, isKind, isValue, mark}
 use Rattle.ordered.specs.Walk.{Role, defines, walkIdent}
-use Rattle.ordered.proofs.Bools.{true-not-false}
+use Rattle.ast.proofs.Bools.{true-not-false}
 use Rattle.sight.specs.Sight.{Sort, defined, Place, add, opened, In, Within}
 use Rattle.sight.proofs.Members.{in-left, in-right}
 use Rattle.sight.proofs.Flat.{limit, Adds, Visible, Hit, bind, bind-hit, bind-miss, bind-cong}

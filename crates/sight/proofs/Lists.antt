@@ -1,50 +1,36 @@
 -- Declaration lists: what entering and visiting them do to the table.
 use mathlib.Core.Path.{_≡_, refl, sym, _∙_, ap, subst}
-use mathlib.Core.Logic.{inl, _≢_}
+use mathlib.Core.Logic.{inl, inr, _≢_}
 use mathlib.Core.Bool.{Bool, true, false}
 use mathlib.Core.List.{List, [], _∷_, _++_}
 use mathlib.Core.Option.{Option, none as nothing, some}
 use Prim.Native.Nat.{ℕ, zero, suc, _≤_, _<_}
 use native.Mathlib.Omega.{arith}
 use lib.Dec.{eqb}
+use Rattle.ast.specs.Declarations.{ruleNode, declared, declaredAll, orElse, earliest}
 use Rattle.ast.specs.Image.{nodes, kindAt, nameOf}
 use Rattle.ast.specs.Kinds.{outer, inner, root, decl, signature, rule, enum, model}
 use Rattle.ast.specs.Tree.{Tree, node, block, Trees, none, _◂_}
+use Rattle.ast.proofs.Declarations.{orElse-none, orElse-assoc, earliest-append}
+use Rattle.ast.proofs.Unfold.{All, nil, cons, All-append}
 use Rattle.table.specs.Rows.{parentAt}
 use Rattle.table.specs.State.{Exit, childScope, ownSymbol, marked, back}
-use Rattle.table.specs.Table.{Table, find, isKind, exitAt}
+use Rattle.table.specs.Table.{Table, find, isKind, entryAt, exitAt}
 use Rattle.table.proofs.Frames.{find-mark}
 use Rattle.ordered.specs.Walk.{occurs, walkSeq}
-use Rattle.scopes.specs.Walk.{done, enterName, enterRule, andThen, enter, enterAll, visit, visitAll}
+use Rattle.scopes.specs.Walk.{done, recordedAll, enterName, andThen, enterNames, markAll, enterAll, visit, visitAll}
 use Rattle.ordered.specs.Kept.{Kept}
 use Rattle.ordered.proofs.Kept.{mark-kept, symbol-kept}
 use Rattle.ordered.proofs.Moves.{numbersSeq}
 use Rattle.scopes.proofs.Adds.{named, done-same, twice-done, and-inv}
 use Rattle.sight.specs.Sight.{In}
-use Rattle.ast.specs.Rules.{orElse, own, ruleOwn, Rule, says, saysAll, rules, rulesAll}
-use Rattle.sight.proofs.Members.{in-left, in-right}
-use Rattle.sight.proofs.Frame.{orElse-none, name-find-other, name-find, name-parent, name-exit, mark-parent, mark-exit}
+use Rattle.ast.specs.Rules.{Rule, saysAll, rules, rulesAll}
+use Rattle.sight.proofs.Frame.{name-find-other, name-find, name-parent, name-exit, name-entry, mark-parent, mark-exit, mark-entry}
 use Rattle.sight.proofs.Steps.{Bodies}
 
--- the nodes that entering marks
+-- the nodes that visiting marks
 unfoldable mutual
-  pub entered : Tree → List ℕ
-  entered (block ts) = []
-  entered (node n k (inner i) sh ts) = []
-  entered (node n k (outer root) sh ts) = []
-  entered (node n k (outer decl) sh ts) = n ∷ enteredAll ts
-  entered (node n k (outer signature) sh ts) = n ∷ []
-  entered (node n k (outer rule) sh ts) = n ∷ []
-  entered (node n k (outer enum) sh ts) = n ∷ enteredAll ts
-  entered (node n k (outer model) sh ts) = []
-
-  pub enteredAll : Trees → List ℕ
-  enteredAll none = []
-  enteredAll (u ◂ us) = entered u ++ enteredAll us
-
--- those that visiting marks
-unfoldable mutual
-  unfolding enteredAll numbersSeq
+  unfolding numbersSeq
 
   pub visited : Tree → List ℕ
   visited (block ts) = []
@@ -54,7 +40,7 @@ unfoldable mutual
   visited (node n k (outer signature) sh ts) = numbersSeq ts
   visited (node n k (outer rule) sh ts) = numbersSeq ts
   visited (node n k (outer enum) sh ts) = visitedAll ts
-  visited (node n k (outer model) sh ts) = n ∷ (enteredAll ts ++ visitedAll ts)
+  visited (node n k (outer model) sh ts) = n ∷ (recordedAll ts ++ visitedAll ts)
 
   pub visitedAll : Trees → List ℕ
   visitedAll none = []
@@ -62,7 +48,7 @@ unfoldable mutual
 
 -- the nodes of a module that get a mark
 abbrev pub moduleNumbers : ℕ → Trees → List ℕ
-moduleNumbers n ts = n ∷ (enteredAll ts ++ visitedAll ts)
+moduleNumbers n ts = n ∷ (recordedAll ts ++ visitedAll ts)
 
 module _ (img : List ℕ) where
   -- no declaration has the kind of an IdentTerm, and rules have bodies
@@ -86,13 +72,11 @@ module _ (img : List ℕ) where
     Decls none = Unit {0}
     Decls (u ◂ us) = Decl u × Decls us
 
-  -- entering a list, with the nodes marked and what it says
-  pub data Enters : List ℕ → (ℕ → Option ℕ) → Exit → Exit → Type 0 where
-    stay : {e : Exit} → Enters [] (λ x. nothing) e e
-    next : {ns ms : List ℕ} {D E : ℕ → Option ℕ} {e e′ e″ : Exit} → Enters ns D e e′ → Enters ms E e′ e″
-        → Enters (ns ++ ms) (λ x. orElse (D x) (E x)) e e″
-    marks : {e : Exit} (n : ℕ) → Enters (n ∷ []) (λ x. nothing) e (marked img n (e .scope) e)
-    names : {e : Exit} (n : ℕ) → NoVar n → Enters [] (own img n) e (ownSymbol img n e)
+  -- entering a list, with the nodes marked and those declared
+  pub data Enters : List ℕ → List ℕ → Exit → Exit → Type 0 where
+    stay : {e : Exit} → Enters [] [] e e
+    marks : {ns ds : List ℕ} {e e′ : Exit} (n : ℕ) → Enters ns ds (marked img n (e .scope) e) e′ → Enters (n ∷ ns) ds e e′
+    names : {ns ds : List ℕ} {e e′ : Exit} (n : ℕ) → NoVar n → Enters ns ds (ownSymbol img n e) e′ → Enters ns (n ∷ ds) e e′
 
   name-done : (n : ℕ) (e e′ : Exit) → enterName img n e ≡ done e′ → ownSymbol img n e ≡ e′
   unfolding enterName named
@@ -102,38 +86,44 @@ module _ (img : List ℕ) where
       go nothing h = done-same (ownSymbol img n e) e′ h
       go (some first) h = absurd (twice-done (nameOf img n) first n e′ h)
 
-  entersName : (n : ℕ) (e e′ : Exit) → NoVar n → enterName img n e ≡ done e′ → Enters [] (own img n) e e′
-  entersName n e e′ v q = subst (Enters [] (own img n) e) (name-done n e e′ q) (names n v)
+  enters-names : {ds : List ℕ} → All NoVar ds → (e e′ : Exit) → enterNames img ds e ≡ done e′ → Enters [] ds e e′
+  unfolding enterNames
+  enters-names nil e e′ q = subst (Enters [] [] e) (done-same e e′ q) stay
+  enters-names (cons {c = n} {cs = ds} v h) e e′ q =
+      let f = and-inv img (enterName img n e) (λ g. enterNames img ds g) e′ q in
+      names n v (subst (λ (g : Exit). Enters [] ds g e′) (sym (name-done n e (f .0) (f .1))) (enters-names h (f .0) e′ (f .2)))
 
-  same-exit : {ns : List ℕ} {D : ℕ → Option ℕ} (e f g : Exit) → Enters ns D e f → done f ≡ done g → Enters ns D e g
-  same-exit {ns} {D} e f g h q = subst (Enters ns D e) (done-same f g q) h
+  enters-marks : (ns : List ℕ) {ds : List ℕ} (e e′ : Exit) → Enters [] ds (markAll img ns e) e′ → Enters ns ds e e′
+  unfolding markAll
+  enters-marks [] e e′ v = v
+  enters-marks (n ∷ ns) e e′ v = marks n (enters-marks ns (marked img n (e .scope) e) e′ v)
 
-  entersRule : (sh : List ℕ) (n : ℕ) (e e′ : Exit) → NoVar n → enterRule img sh n e ≡ done e′ → Enters [] (ruleOwn img sh n) e e′
-  unfolding enterRule ruleOwn
-  entersRule [] n e e′ v q = same-exit e e e′ stay q
-  entersRule (zero ∷ sh) n e e′ v q = same-exit e e e′ stay q
-  entersRule (suc c ∷ sh) n e e′ v q = entersName n e e′ v q
+  rule-novar : (sh : List ℕ) (n : ℕ) → NoVar n → All NoVar (ruleNode sh n)
+  unfolding ruleNode
+  rule-novar [] n v = nil
+  rule-novar (zero ∷ sh) n v = nil
+  rule-novar (suc c ∷ sh) n v = cons v nil
 
   mutual
-    unfolding enter entered says Decl
+    unfolding declared Decl
 
-    pub enters : (u : Tree) → Decl u → (e e′ : Exit) → enter img u e ≡ done e′ → Enters (entered u) (says img u) e e′
-    enters (block ts) d e e′ q = same-exit e e e′ stay q
-    enters (node n k (inner i) sh ts) d e e′ q = same-exit e e e′ stay q
-    enters (node n k (outer root) sh ts) d e e′ q = same-exit e e e′ stay q
-    enters (node n k (outer decl) sh ts) d e e′ q = next (marks n) (entersAll ts d (marked img n (e .scope) e) e′ q)
-    enters (node n k (outer signature) sh ts) d e e′ q = next (marks n) (entersName n (marked img n (e .scope) e) e′ d q)
-    enters (node n k (outer rule) sh ts) d e e′ q = next (marks n) (entersRule sh n (marked img n (e .scope) e) e′ (d .0) q)
-    enters (node n k (outer enum) sh ts) d e e′ q =
-        let h = and-inv img (enterName img n (marked img n (e .scope) e)) (λ f. enterAll img ts f) e′ q in
-        next (marks n) (next (entersName n (marked img n (e .scope) e) (h .0) (d .0) (h .1)) (entersAll ts (d .1) (h .0) e′ (h .2)))
-    enters (node n k (outer model) sh ts) d e e′ q = entersName n e e′ (d .0) q
+    decl-novar : (u : Tree) → Decl u → All NoVar (declared u)
+    decl-novar (block ts) d = nil
+    decl-novar (node n k (inner i) sh ts) d = nil
+    decl-novar (node n k (outer root) sh ts) d = nil
+    decl-novar (node n k (outer decl) sh ts) d = decls-novar ts d
+    decl-novar (node n k (outer signature) sh ts) d = cons d nil
+    decl-novar (node n k (outer rule) sh ts) d = rule-novar sh n (d .0)
+    decl-novar (node n k (outer enum) sh ts) d = cons (d .0) (decls-novar ts (d .1))
+    decl-novar (node n k (outer model) sh ts) d = cons (d .0) nil
 
-    pub entersAll : (us : Trees) → Decls us → (e e′ : Exit) → enterAll img us e ≡ done e′ → Enters (enteredAll us) (saysAll img us) e e′
-    entersAll none d e e′ q = same-exit e e e′ stay q
-    entersAll (u ◂ us) d e e′ q =
-        let h = and-inv img (enter img u e) (λ f. enterAll img us f) e′ q in
-        next (enters u (d .0) e (h .0) (h .1)) (entersAll us (d .1) (h .0) e′ (h .2))
+    decls-novar : (us : Trees) → Decls us → All NoVar (declaredAll us)
+    decls-novar none d = nil
+    decls-novar (u ◂ us) d = All-append (decl-novar u (d .0)) (decls-novar us (d .1))
+
+  pub entersAll : (us : Trees) → Decls us → (e e′ : Exit) → enterAll img us e ≡ done e′ → Enters (recordedAll us) (declaredAll us) e e′
+  unfolding enterAll
+  entersAll us d e e′ q = enters-marks (recordedAll us) e e′ (enters-names (decls-novar us d) (markAll img (recordedAll us) e) e′ q)
 
   -- entering keeps the scope, and makes none
   pub record Stays (e e′ : Exit) : Type 0 where
@@ -141,43 +131,36 @@ module _ (img : List ℕ) where
     pub scopes : e′ .table .scopes ≡ e .table .scopes
     pub symbols : e .table .symbols ≤ e′ .table .symbols
 
-  pub stays : {ns : List ℕ} {D : ℕ → Option ℕ} {e e′ : Exit} → Enters ns D e e′ → Stays e e′
+  pub stays : {ns ds : List ℕ} {e e′ : Exit} → Enters ns ds e e′ → Stays e e′
   unfolding marked ownSymbol
   stays stay = record { scope = refl; scopes = refl; symbols = omega arith }
-  stays (next v u) =
-      let f = stays v in
-      let g = stays u in
-      record { scope = g .scope ∙ f .scope; scopes = g .scopes ∙ f .scopes; symbols = omega arith }
-  stays (marks n) = record { scope = refl; scopes = refl; symbols = omega arith }
-  stays (names n v) = record { scope = refl; scopes = refl; symbols = omega arith }
-
-  orElse-assoc : (a b c : Option ℕ) → orElse (orElse a b) c ≡ orElse a (orElse b c)
-  orElse-assoc nothing b c = refl
-  orElse-assoc (some n) b c = refl
+  stays (marks n v) = let f = stays v in record { scope = f .scope; scopes = f .scopes; symbols = f .symbols }
+  stays (names n h v) = let f = stays v in record { scope = f .scope; scopes = f .scopes; symbols = (let y = f .symbols in omega arith) }
 
   pub kind-orElse : (a b : Option ℕ) → isKind img 13 a ≡ false → isKind img 13 b ≡ false → isKind img 13 (orElse a b) ≡ false
   kind-orElse nothing b f g = g
   kind-orElse (some n) b f g = f
 
-  kind-own : (n x : ℕ) → NoVar n → isKind img 13 (own img n x) ≡ false
-  unfolding isKind own
+  kind-own : (n x : ℕ) → NoVar n → isKind img 13 (earliest (nameOf img) (n ∷ []) x) ≡ false
+  unfolding isKind earliest
   kind-own n x v = go (eqb (nameOf img n) x)
     where
       go : (c : Bool) → isKind img 13 (elim c [ true ↦ some n | false ↦ nothing ]) ≡ false
       go true = v
       go false = refl
 
-  pub record Entered (s : ℕ) (ns : List ℕ) (D : ℕ → Option ℕ) (t t′ : Table) : Type 0 where
+  pub record Entered (s : ℕ) (ns ds : List ℕ) (t t′ : Table) : Type 0 where
     pub sane : Kept img t′
     pub others : (r x : ℕ) → r ≢ s → find img t′ r x ≡ find img t r x
-    pub here : (x : ℕ) → find img t′ s x ≡ orElse (find img t s x) (D x)
+    pub here : (x : ℕ) → find img t′ s x ≡ orElse (find img t s x) (earliest (nameOf img) ds x)
     pub parents : (r : ℕ) → r < nodes img → parentAt (nodes img) (t′ .words) r ≡ parentAt (nodes img) (t .words) r
     pub exits : (m : ℕ) → m < nodes img → (In m ns → ⊥) → exitAt img (t′ .words) m ≡ exitAt img (t .words) m
-    pub novar : (x : ℕ) → isKind img 13 (D x) ≡ false
+    pub entries : (m : ℕ) → m < nodes img → (In m ns → ⊥) → entryAt img (t′ .words) m ≡ entryAt img (t .words) m
+    pub novar : (x : ℕ) → isKind img 13 (earliest (nameOf img) ds x) ≡ false
 
-  pub entering : {ns : List ℕ} {D : ℕ → Option ℕ} {e e′ : Exit} → Enters ns D e e′ → e′ .table .symbols ≤ nodes img → ((n : ℕ) → In n ns → n < nodes img)
-      → Kept img (e .table) → suc (e .scope) ≡ e .table .scopes → Entered (e .scope) ns D (e .table) (e′ .table)
-  unfolding marked ownSymbol isKind
+  pub entering : {ns ds : List ℕ} {e e′ : Exit} → Enters ns ds e e′ → e′ .table .symbols ≤ nodes img → ((n : ℕ) → In n ns → n < nodes img)
+      → Kept img (e .table) → suc (e .scope) ≡ e .table .scopes → Entered (e .scope) ns ds (e .table) (e′ .table)
+  unfolding marked ownSymbol isKind earliest
   entering (stay {e = e}) b sm so i =
       record {
         sane = so;
@@ -185,46 +168,39 @@ module _ (img : List ℕ) where
         here = λ x. sym (orElse-none (find img (e .table) (e .scope) x));
         parents = λ r l. refl;
         exits = λ m l f. refl;
+        entries = λ m l f. refl;
         novar = λ x. refl;
       }
-  entering (next {ns = ns} {ms = ms} {D = D} {E = E} {e = e} {e′ = e′} {e″ = e″} v u) b sm so i =
-      let p = stays v in
-      let p₀ = p .scope in
-      let p₁ = p .scopes in
-      let q = stays u in
-      let f : Entered (e .scope) ns D (e .table) (e′ .table) = entering v (omega arith) (λ n j. sm n (in-left n ns ms j)) so i in
-      let g : Entered (e .scope) ms E (e′ .table) (e″ .table) =
-      subst (λ s. Entered s ms E (e′ .table) (e″ .table)) p₀ (entering u b (λ n j. sm n (in-right n ns ms j)) (f .sane) (omega arith)) in
-      record {
-        sane = g .sane;
-        others = λ r x h. g .others r x h ∙ f .others r x h;
-        here = λ x. g .here x ∙ ap (λ w. orElse w (E x)) (f .here x) ∙ orElse-assoc (find img (e .table) (e .scope) x) (D x) (E x);
-        parents = λ r l. g .parents r l ∙ f .parents r l;
-        exits = λ m l k. g .exits m l (λ j. k (in-right m ns ms j)) ∙ f .exits m l (λ j. k (in-left m ns ms j));
-        novar = λ x. kind-orElse (D x) (E x) (f .novar x) (g .novar x);
-      }
-  entering (marks {e = e} n) b sm so i =
+  entering (marks {ns = ns} {ds = ds} {e = e} {e′ = e′} n v) b sm so i =
       let l = sm n (inl refl) in
       let s = e .scope in
       let t = e .table in
+      let f = entering v b (λ m j. sm m (inr j)) (mark-kept img n s s t l so) i in
       record {
-        sane = mark-kept img n s s t l so;
-        others = λ r x f. find-mark img n s s t l r x;
-        here = λ x. find-mark img n s s t l s x ∙ sym (orElse-none (find img t s x));
-        parents = λ r k. mark-parent img n s s t l r;
-        exits = λ m k f. mark-exit img n s s t l m k (λ q. f (inl q));
-        novar = λ x. refl;
+        sane = f .sane;
+        others = λ r x h. f .others r x h ∙ find-mark img n s s t l r x;
+        here = λ x. f .here x ∙ ap (λ o. orElse o (earliest (nameOf img) ds x)) (find-mark img n s s t l s x);
+        parents = λ r k. f .parents r k ∙ mark-parent img n s s t l r;
+        exits = λ m k h. f .exits m k (λ j. h (inr j)) ∙ mark-exit img n s s t l m k (λ q. h (inl q));
+        entries = λ m k h. f .entries m k (λ j. h (inr j)) ∙ mark-entry img n s s t l m k (λ q. h (inl q));
+        novar = f .novar;
       }
-  entering (names {e = e} n v) b sm so i =
+  entering (names {ns = ns} {ds = ds} {e = e} {e′ = e′} n h v) b sm so i =
       let s = e .scope in
       let t = e .table in
+      let y = (stays v) .symbols in
+      let f = entering v b sm (symbol-kept img s n t (omega arith) i so) i in
       record {
-        sane = symbol-kept img s n t (omega arith) i so;
-        others = λ r x f. name-find-other img s n t so (omega arith) r x f;
-        here = λ x. name-find img s n t so (omega arith) x;
-        parents = λ r l. name-parent img s n t so (omega arith) r l;
-        exits = λ m l f. name-exit img s n t so (omega arith) m l;
-        novar = λ x. kind-own n x v;
+        sane = f .sane;
+        others = λ r x k. f .others r x k ∙ name-find-other img s n t so (omega arith) r x k;
+        here = λ x.
+            f .here x ∙ ap (λ o. orElse o (earliest (nameOf img) ds x)) (name-find img s n t so (omega arith) x)
+            ∙ orElse-assoc (find img t s x) (earliest (nameOf img) (n ∷ []) x) (earliest (nameOf img) ds x)
+            ∙ ap (orElse (find img t s x)) (sym (earliest-append (nameOf img) (n ∷ []) ds x));
+        parents = λ r k. f .parents r k ∙ name-parent img s n t so (omega arith) r k;
+        exits = λ m k j. f .exits m k j ∙ name-exit img s n t so (omega arith) m k;
+        entries = λ m k j. f .entries m k j ∙ name-entry img s n t so (omega arith) m k;
+        novar = λ x. ap (isKind img 13) (earliest-append (nameOf img) (n ∷ []) ds x) ∙ kind-orElse (earliest (nameOf img) (n ∷ []) x) (earliest (nameOf img) ds x) (kind-own n x h) (f .novar x);
       }
 
   -- visiting a list where names mean m, with the nodes marked and the rules met
@@ -235,15 +211,15 @@ module _ (img : List ℕ) where
     walks : {m : ℕ → Option ℕ} {e : Exit} (ts : Trees) → Visits (numbersSeq ts) [] m e (back img (e .scope) (walkSeq img occurs ts e))
     ruled : {m : ℕ → Option ℕ} {e : Exit} (ts : Trees) → Bodies img ts
         → Visits (numbersSeq ts) (record { statements = ts; meaning = m } ∷ []) m e (back img (e .scope) (walkSeq img occurs ts e))
-    nested : {es ns : List ℕ} {rs : List Rule} {D m : ℕ → Option ℕ} {e e′ e″ : Exit} (n : ℕ)
-        → Enters es D (marked img n (e .table .scopes) (childScope img e)) e′
-        → Visits ns rs (λ x. orElse (D x) (m x)) e′ e″ → Visits (n ∷ (es ++ ns)) rs m e (back img (e .scope) e″)
+    nested : {es ds ns : List ℕ} {rs : List Rule} {m : ℕ → Option ℕ} {e e′ e″ : Exit} (n : ℕ)
+        → Enters es ds (marked img n (e .table .scopes) (childScope img e)) e′
+        → Visits ns rs (λ x. orElse (earliest (nameOf img) ds x) (m x)) e′ e″ → Visits (n ∷ (es ++ ns)) rs m e (back img (e .scope) e″)
 
   same-end : {ns : List ℕ} {rs : List Rule} {m : ℕ → Option ℕ} (e f g : Exit) → Visits ns rs m e f → done f ≡ done g → Visits ns rs m e g
   same-end {ns} {rs} {m} e f g h q = subst (Visits ns rs m e) (done-same f g q) h
 
   mutual
-    unfolding visit visited rules says Decl
+    unfolding visit visited rules Decl
 
     pub visits : (u : Tree) → Decl u → (m : ℕ → Option ℕ) (e e′ : Exit) → visit img u e ≡ done e′ → Visits (visited u) (rules img m u) m e e′
     visits (block ts) d m e e′ q = same-end e e e′ idle q

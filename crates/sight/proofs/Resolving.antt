@@ -7,7 +7,7 @@ use native.Mathlib.Omega.{arith}
 use Rattle.ast.specs.Image.{last}
 use Rattle.ast.specs.Tests.{verdict}
 use Rattle.ast.specs.Tree.{Tree}
-use Rattle.table.specs.Sound.{scopesIn, symbolsIn}
+use Rattle.sound.specs.Sound.{scopesIn, symbolsIn}
 use Rattle.table.specs.State.{Exit}
 use Rattle.table.specs.Table.{Table, climb, lookup}
 use Rattle.scopes.specs.Resolve.{zeroed, walked, headed, counted}

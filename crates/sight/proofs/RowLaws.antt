@@ -13,7 +13,7 @@ use Rattle.rows.specs.Rows.{Row, row, lefts}
 use Rattle.table.specs.Table.{Table, isKind}
 use Rattle.ast.proofs.Count.{times-append}
 use Rattle.ordered.proofs.Moves.{numbersSeq}
-use Rattle.ordered.proofs.Bools.{true-not-false}
+use Rattle.ast.proofs.Bools.{true-not-false}
 use Rattle.occurrences.specs.Occurrences.{found, listed, rowsFor, ruleRows, allRows, occurrenceRows}
 use Rattle.sight.specs.Sight.{Place, In}
 use Rattle.ast.specs.Rules.{Rule, moduleRules}

@@ -5,7 +5,7 @@ use mathlib.Core.List.{List, [], _∷_, _++_, append-nil}
 use Prim.Native.Nat.{ℕ, zero, suc, _+_, _≤_, _<_}
 use native.Mathlib.Omega.{arith}
 use Rattle.ast.specs.Image.{kindAt}
-use Rattle.ast.specs.Kinds.{outer, inner, plain, term, ident, head, headMember, member, branch, match, case, ifVar, definedThen, arg}
+use Rattle.ast.specs.Kinds.{outer, inner, plain, term, ident, head, headMember, member, case, ifVar, definedThen, arg}
 use Rattle.ast.specs.Tests.{is, times}
 use Rattle.ast.specs.Tree.{Tree, node, block, Trees, none, _◂_}
 use Rattle.ast.proofs.Count.{times-append}
@@ -268,8 +268,6 @@ module _ (img : List ℕ) where
     meets c a o b (node n k (inner head) (suc e ∷ sh) ts) h m = meets-more (n ∷ []) (meetsSeq occur tt n b ts h m)
     meets c a o b (node n k (inner headMember) sh ts) h m = meets-more (n ∷ []) (meetsFirst n b ts h m)
     meets c a o b (node n k (inner member) sh ts) h m = meets-more (n ∷ []) (meetsFirst n b ts h m)
-    meets c a o b (node n k (inner branch) sh ts) h m = meets-more (n ∷ []) (meetsSeq occur tt n b ts h m)
-    meets c a o b (node n k (inner match) sh ts) h m = meets-more (n ∷ []) (meetsSeq occur tt n b ts h m)
     meets c a o b (node n k (inner case) sh ts) h m = meets-more (n ∷ []) (meets-open (meetsSeq occur tt n (m .next ∷ b) ts h (opened m)))
     meets c a o b (node n k (inner ifVar) sh ts) h m = meets-more (n ∷ []) (meetsThen declare tt n b ts h m)
     meets c a o b (node n k (inner definedThen) sh ts) h m = meets-more (n ∷ []) (meetsBack n b ts h m)

@@ -4,7 +4,7 @@ use mathlib.Core.Logic.{_⊎_, inl, inr}
 use mathlib.Core.List.{List, [], _∷_, _++_, append-nil}
 use Prim.Native.Nat.{ℕ, zero, suc}
 use Rattle.ast.specs.Image.{kindAt}
-use Rattle.ast.specs.Kinds.{Class, outer, inner, plain, term, ident, head, headMember, member, branch, match, case, ifVar, definedThen, arg}
+use Rattle.ast.specs.Kinds.{Class, outer, inner, plain, term, ident, head, headMember, member, case, ifVar, definedThen, arg}
 use Rattle.ast.specs.Tree.{Tree, node, block, Trees, none, _◂_}
 use Rattle.table.specs.Layout.{allOnes}
 use Rattle.table.specs.State.{Exit, back}
@@ -82,8 +82,6 @@ module _ (img : List ℕ) where
     Body (node n k (inner head) (suc c ∷ sh) ts) = Bodies ts
     Body (node n k (inner headMember) sh ts) = Members ts
     Body (node n k (inner member) sh ts) = Members ts
-    Body (node n k (inner branch) sh ts) = Bodies ts
-    Body (node n k (inner match) sh ts) = Bodies ts
     Body (node n k (inner case) sh ts) = Bodies ts
     Body (node n k (inner ifVar) sh ts) = Bodies ts
     Body (node n k (inner definedThen) sh ts) = Defines ts
@@ -217,10 +215,6 @@ module _ (img : List ℕ) where
     steps c o b (node n k (inner headMember) sh ts) h st = next (stepsMember n b ts h st) (marks n allOnes allOnes)
     steps c o b (node n k (inner member) sh ts) h st =
         next (stepsMember n b ts h st) (marks n (st .now .scope) ((walkFirst img names ts (st .now)) .scope))
-    steps c o b (node n k (inner branch) sh ts) h st =
-        next (stepsSeq occur n b ts h st) (marks n (st .now .scope) ((walkSeq img occurs ts (st .now)) .scope))
-    steps c o b (node n k (inner match) sh ts) h st =
-        next (stepsSeq occur n b ts h st) (marks n (st .now .scope) ((walkSeq img occurs ts (st .now)) .scope))
     steps c o b (node n k (inner case) sh ts) h st =
         next (drops (stepsSeq occur n (st .met .next ∷ b) ts h (opening st))) (marks n (st .now .scope) (st .now .scope))
     steps c o b (node n k (inner ifVar) sh ts) h st =

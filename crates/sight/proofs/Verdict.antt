@@ -10,7 +10,7 @@ use native.Mathlib.Omega.{arith}
 use lib.Dec.{T, eqb, eqb→eq, T-not}
 use lib.ListN.{getD}
 use Rattle.ast.specs.Image.{nodes, last, kindAt, startAt, opAt}
-use Rattle.ast.specs.Kinds.{Class, outer, inner, Outer, root, decl, signature, rule, enum, model, plain, term, ident, head, headMember, member, branch, match, case, ifVar, definedThen, arg, Field, name, optName, child, optChild, list, lists, cases, noChild, Kind, kinds, kindOf}
+use Rattle.ast.specs.Kinds.{Class, outer, inner, Outer, root, decl, signature, rule, enum, model, plain, term, ident, head, headMember, member, case, ifVar, definedThen, arg, Field, name, optName, child, optChild, list, lists, cases, noChild, Kind, kinds, kindOf}
 use Rattle.ast.specs.Rows.{Kid, one, many, ones, numbers, opsFrom, after, blockKids, fieldKids, fieldsKids, fieldShape, fieldsShape, fieldsAt, kids, shape}
 use Rattle.ast.specs.Tests.{verdict}
 use Rattle.ast.specs.Tree.{Tree, node, Trees, none, _◂_, swap, swaps, ordered, growAll, grow, classAt, treeAt}
@@ -19,7 +19,7 @@ use Rattle.ast.proofs.Formed.{Child, Items, Formed, FormedBlocks, FormedField, 
 use Rattle.ast.proofs.Unfold.{All, nil, cons, All-append, All-split, All-map, numbers-append, numbers-ones, kids-below, treeAt-is}
 use Rattle.ast.proofs.Shapes.{termKinds, headKinds}
 use Rattle.ast.proofs.Vars.{PlainVar, named, wildcard, Each, AfterFirst, PlainAt, every-kind, vars-at, and-both}
-use Rattle.ordered.proofs.Bools.{is-false}
+use Rattle.ast.proofs.Bools.{is-false}
 use Rattle.sight.proofs.Steps.{IdentOnly, VarTerm, VarTerms, Idents, Body, Bodies, Members, Defines}
 use Rattle.sight.proofs.Lists.{NoVar, Decl, Decls}
 
@@ -32,8 +32,6 @@ bodyClass (inner ident) = false
 bodyClass (inner head) = true
 bodyClass (inner headMember) = true
 bodyClass (inner member) = true
-bodyClass (inner branch) = true
-bodyClass (inner match) = true
 bodyClass (inner case) = true
 bodyClass (inner ifVar) = true
 bodyClass (inner definedThen) = true
@@ -78,8 +76,6 @@ fitsClass (inner ident) k fs = true
 fitsClass (inner head) k fs = eqb k 15
 fitsClass (inner headMember) k fs = eqb k 16
 fitsClass (inner member) k fs = eqb k 17
-fitsClass (inner branch) k fs = fieldsAll bodyKind fs
-fitsClass (inner match) k fs = fieldsAll bodyKind fs
 fitsClass (inner case) k fs = fieldsAll bodyKind fs
 fitsClass (inner ifVar) k fs = fieldsAll bodyKind fs
 fitsClass (inner definedThen) k fs = eqb k 34
@@ -333,8 +329,6 @@ module _ (img : List ℕ) (f : Formed img) (n : ℕ) (n<N : n < nodes img)
   body-at (inner head) k p e b s t h v = head-body k k p (e ∙ eqb→eq k 15 t) (eqb→eq k 15 t) h
   body-at (inner headMember) k p e b s t h v = headMember-body k p (eqb→eq k 16 t) h
   body-at (inner member) k p e b s t h v = member-body k p (eqb→eq k 17 t) h
-  body-at (inner branch) k p e b s t h v = bodies-of ((kindOf k) .fields) p t h
-  body-at (inner match) k p e b s t h v = bodies-of ((kindOf k) .fields) p t h
   body-at (inner case) k p e b s t h v = bodies-of ((kindOf k) .fields) p t h
   body-at (inner ifVar) k p e b s t h v = bodies-swap img (kin k p) (bodies-of ((kindOf k) .fields) p t h)
   body-at (inner definedThen) k p e b s t h v = definedThen-body k p (eqb→eq k 34 t) h v

@@ -9,31 +9,32 @@ use Prim.Native.Nat.{ℕ, _≤_, _<_}
 use native.Mathlib.Omega.{arith}
 use lib.ListN.{length}
 use lib.Dec.{eqb}
+use Rattle.ast.specs.Declarations.{declaredAll, orElse, earliest}
 use Rattle.ast.specs.Image.{nodes, nameOf, kindAt}
 use Rattle.ast.specs.Kinds.{Class}
 use Rattle.ast.specs.Tree.{node, Trees}
 use Rattle.table.specs.Layout.{allOnes, tableLength}
 use Rattle.table.specs.Rows.{parentAt}
 use Rattle.table.specs.State.{Exit, childScope, marked}
-use Rattle.table.specs.Table.{Table, mark, newScope, find, lookup, isKind, exitAt}
+use Rattle.table.specs.Table.{Table, mark, newScope, find, lookup, isKind, entryAt, exitAt}
 use Rattle.table.proofs.Frames.{find-mark, find-scope}
 use Rattle.ordered.specs.Walk.{occurs, walkSeq}
-use Rattle.scopes.specs.Walk.{done, enterAll, visitAll, resolveTree}
+use Rattle.scopes.specs.Walk.{done, recordedAll, enterAll, visitAll, resolveTree}
 use Rattle.ordered.specs.Kept.{Kept}
-use Rattle.ordered.proofs.Agreed.{Agree, lookup-agree}
+use Rattle.table.proofs.Agreed.{Agree, lookup-agree}
 use Rattle.ordered.proofs.Kept.{mark-kept, scope-kept}
 use Rattle.ordered.proofs.Moves.{numbersSeq, rises}
 use Rattle.scopes.proofs.Adds.{and-inv}
 use Rattle.scopes.specs.Resolve.{counted}
-use Rattle.scopes.proofs.Headed.{headed-lookup, headed-exit}
+use Rattle.scopes.proofs.Headed.{headed-lookup, headed-entry, headed-exit}
 use Rattle.scopes.proofs.Resolving.{none-kept}
 use Rattle.sight.specs.Sight.{Place, In, rulePlaces, Naming, Occurrence, Same, outerConst}
-use Rattle.ast.specs.Rules.{Rule, saysAll, rulesAll, orElse}
+use Rattle.ast.specs.Rules.{Rule, saysAll, rulesAll}
 use Rattle.sight.proofs.Members.{in-left, in-right, in-split, Distinct, distinct-left, distinct-right, distinct-apart}
-use Rattle.sight.proofs.Frame.{Bounds, Later, later-next, lookup-child, lookup-root, mark-parent, mark-exit, child-parent, child-parent-other, child-empty, child-exit}
+use Rattle.sight.proofs.Frame.{Bounds, Later, later-next, lookup-child, lookup-root, mark-parent, mark-exit, mark-entry, child-parent, child-parent-other, child-empty, child-exit, child-entry}
 use Rattle.sight.proofs.Steps.{Bodies}
 use Rattle.sight.proofs.Moves.{walks-seq, framed}
-use Rattle.sight.proofs.Lists.{enteredAll, visitedAll, moduleNumbers, Decls, stays, Entered, entering, entersAll, Visits, idle, after, walks, ruled, nested, visitsAll, kind-orElse}
+use Rattle.sight.proofs.Lists.{visitedAll, moduleNumbers, Decls, stays, Entered, entering, entersAll, Visits, idle, after, walks, ruled, nested, visitsAll, kind-orElse}
 use Rattle.sight.proofs.OneRule.{Walked, place-node, occurrences, bindings, introducing}
 
 module _ (img : List ℕ) where
@@ -61,18 +62,24 @@ module _ (img : List ℕ) where
       let g₁ = g .symbols in
       record { scope = refl; scopes = omega arith; symbols = omega arith }
 
-  -- T keeps the lookups of t and the exits of the nodes ns
+  -- T keeps the lookups of t, and the entries and exits of the nodes ns
   pub record Keeps (ns : List ℕ) (t T : Table) : Type 0 where
     pub lookups : (s x : ℕ) → s < t .scopes → lookup img T s x ≡ lookup img t s x
+    pub entries : (m : ℕ) → m < nodes img → In m ns → entryAt img (T .words) m ≡ entryAt img (t .words) m
     pub exits : (m : ℕ) → m < nodes img → In m ns → exitAt img (T .words) m ≡ exitAt img (t .words) m
 
   -- the walk of a rule, from a scope where names have their outer meaning
   abbrev pub WalkOf : Rule → Table → Type 0
-  WalkOf r T = (e : Exit) × Walked img (r .statements) e T × ((x : ℕ) → lookup img (e .table) (e .scope) x ≡ r .meaning x)
+  WalkOf r T =
+      (e : Exit)
+      × Walked img (r .statements) e T
+      × ((x : ℕ) → lookup img (e .table) (e .scope) x ≡ r .meaning x)
+      × Keeps (numbersSeq (r .statements)) ((walkSeq img occurs (r .statements) e) .table) T
 
   pub record Held (ns : List ℕ) (rs : List Rule) (t t′ : Table) : Type 0 where
     pub sane : Kept img t′
     pub later : Later img t t′ ns
+    pub entries : (m : ℕ) → m < nodes img → (In m ns → ⊥) → entryAt img (t′ .words) m ≡ entryAt img (t .words) m
     pub walked : (T : Table) → Keeps ns t′ T → (r : Rule) → In r rs → WalkOf r T
 
   held-after : (ns ms : List ℕ) (rs qs : List Rule) (t t′ t″ : Table) → t .scopes ≤ t′ .scopes → t′ .scopes ≤ t″ .scopes → Distinct (ns ++ ms)
@@ -81,6 +88,7 @@ module _ (img : List ℕ) where
       record {
         sane = g .sane;
         later = later-next img t t′ t″ ns ms a (f .later) (g .later);
+        entries = λ m l k. g .entries m l (λ j. k (in-right m ns ms j)) ∙ f .entries m l (λ j. k (in-left m ns ms j));
         walked = λ T k r i. go T k r (in-split r rs qs i);
       }
     where
@@ -89,10 +97,11 @@ module _ (img : List ℕ) where
           f .walked T
           (record {
             lookups = λ s x l. k .lookups s x (omega arith) ∙ g .later .lookups s x l;
+            entries = λ m l j. k .entries m l (in-left m ns ms j) ∙ g .entries m l (λ h. distinct-apart ns ms d m j h);
             exits = λ m l j. k .exits m l (in-left m ns ms j) ∙ g .later .exits m l (λ h. distinct-apart ns ms d m j h);
           })
           r i
-      go T k r (inr i) = g .walked T (record { lookups = k .lookups; exits = λ m l j. k .exits m l (in-right m ns ms j) }) r i
+      go T k r (inr i) = g .walked T (record { lookups = k .lookups; entries = λ m l j. k .entries m l (in-right m ns ms j); exits = λ m l j. k .exits m l (in-right m ns ms j) }) r i
 
   held-rule : (ts : Trees) (body : Bodies img ts) (m : ℕ → Option ℕ) (e : Exit) → Bounds img ((walkSeq img occurs ts e) .table)
       → ((n : ℕ) → In n (numbersSeq ts) → n < nodes img) → Distinct (numbersSeq ts) → Kept img (e .table) → e .scope < e .table .scopes
@@ -100,7 +109,7 @@ module _ (img : List ℕ) where
       → Held (numbersSeq ts) (record { statements = ts; meaning = m } ∷ []) (e .table) ((walkSeq img occurs ts e) .table)
   held-rule ts body m e b sm di so i reads outs =
       let f = framed img (walks-seq img ts e) b sm so i in
-      record { sane = f .sane; later = f .later; walked = go }
+      record { sane = f .sane; later = f .later; entries = f .entries; walked = go }
     where
       go : (T : Table) → Keeps (numbersSeq ts) ((walkSeq img occurs ts e) .table) T → (r : Rule) → In r (record { statements = ts; meaning = m } ∷ []) → WalkOf r T
       go T k r (inr j) = absurd j
@@ -120,13 +129,17 @@ module _ (img : List ℕ) where
               exits = λ p j. k .exits (p .node) (sm (p .node) (place-node img ts body e p j)) (place-node img ts body e p j);
             },
             reads,
+            k,
           )
 
   -- a new list, its scope below the one of e
-  module _ (n : ℕ) (es : List ℕ) (D m : ℕ → Option ℕ) (e : Exit) (t′ : Table) (so : Kept img (e .table)) (inside : e .scope < e .table .scopes)
+  module _ (n : ℕ) (es ds : List ℕ) (m : ℕ → Option ℕ) (e : Exit) (t′ : Table) (so : Kept img (e .table)) (inside : e .scope < e .table .scopes)
       (K<N : e .table .scopes < nodes img) (n<N : n < nodes img)
-      (en : Entered img (e .table .scopes) es D (mark img n (e .table .scopes) (e .table .scopes) (newScope img (e .scope) (e .table))) t′)
+      (en : Entered img (e .table .scopes) es ds (mark img n (e .table .scopes) (e .table .scopes) (newScope img (e .scope) (e .table))) t′)
       (reads : (x : ℕ) → lookup img (e .table) (e .scope) x ≡ m x) where
+    abbrev D : ℕ → Option ℕ
+    D = earliest (nameOf img) ds
+
     abbrev t : Table
     t = e .table
 
@@ -168,12 +181,15 @@ module _ (img : List ℕ) where
           exits = λ k l f. en .exits k l (λ j. f (inr j)) ∙ mark-exit img n K K t₀ n<N k l (λ q. f (inl q)) ∙ child-exit img s t so K<N k l;
         }
 
+    list-entries : (k : ℕ) → k < nodes img → (In k (n ∷ es) → ⊥) → entryAt img (t′ .words) k ≡ entryAt img (t .words) k
+    list-entries k l f = en .entries k l (λ j. f (inr j)) ∙ mark-entry img n K K t₀ n<N k l (λ q. f (inl q)) ∙ child-entry img s t so K<N k l
+
   holds : {ns : List ℕ} {rs : List Rule} {m : ℕ → Option ℕ} {e e′ : Exit} → Visits img ns rs m e e′ → Bounds img (e′ .table) → ((n : ℕ) → In n ns → n < nodes img)
       → Distinct ns → Kept img (e .table) → e .scope < e .table .scopes → ((x : ℕ) → lookup img (e .table) (e .scope) x ≡ m x)
       → ((x : ℕ) → isKind img 13 (m x) ≡ false) → Held ns rs (e .table) (e′ .table)
   unfolding marked childScope
   holds idle b sm di so i reads outs =
-      record { sane = so; later = record { lookups = λ s x l. refl; exits = λ m l f. refl }; walked = λ T k r j. absurd j }
+      record { sane = so; later = record { lookups = λ s x l. refl; exits = λ m l f. refl }; entries = λ m l f. refl; walked = λ T k r j. absurd j }
   holds (after {ns = ns} {ms = ms} {rs = rs} {qs = qs} {m = m} {e = e} {e′ = e′} {e″ = e″} v u) b sm di so i reads outs =
       let p = returns v in
       let p₀ = p .scope in
@@ -185,9 +201,9 @@ module _ (img : List ℕ) where
       held-after ns ms rs qs (e .table) (e′ .table) (e″ .table) (p .scopes) (q .scopes) di f g
   holds (walks {e = e} ts) b sm di so i reads outs =
       let f = framed img (walks-seq img ts e) b sm so i in
-      record { sane = f .sane; later = f .later; walked = λ T k r j. absurd j }
+      record { sane = f .sane; later = f .later; entries = f .entries; walked = λ T k r j. absurd j }
   holds (ruled {m = m} {e = e} ts body) b sm di so i reads outs = held-rule ts body m e b sm di so i reads outs
-  holds (nested {es = es} {ns = ns} {rs = rs} {D = D} {m = m} {e = e} {e′ = e′} {e″ = e″} n v u) b sm di so i reads outs =
+  holds (nested {es = es} {ds = ds} {ns = ns} {rs = rs} {m = m} {e = e} {e′ = e′} {e″ = e″} n v u) b sm di so i reads outs =
       let K = e .table .scopes in
       let p = stays img v in
       let p₀ = p .scope in
@@ -198,15 +214,15 @@ module _ (img : List ℕ) where
       let q₁ = q .symbols in
       let K<N : K < nodes img = omega arith in
       let n<N = sm n (inl refl) in
-      let en : Entered img K es D (mark img n K K (newScope img (e .scope) (e .table))) (e′ .table) =
+      let en : Entered img K es ds (mark img n K K (newScope img (e .scope) (e .table))) (e′ .table) =
       entering img v (omega arith) (λ k j. sm k (inr (in-left k es ns j)))
       (mark-kept img n K K (newScope img (e .scope) (e .table)) n<N (scope-kept img (e .scope) (e .table) K<N so)) (omega arith) in
       let f : Held (n ∷ es) [] (e .table) (e′ .table) =
-      record { sane = en .sane; later = list-later n es D m e (e′ .table) so i K<N n<N en reads; walked = λ T k r j. absurd j } in
+      record { sane = en .sane; later = list-later n es ds m e (e′ .table) so i K<N n<N en reads; entries = list-entries n es ds m e (e′ .table) so i K<N n<N en reads; walked = λ T k r j. absurd j } in
       let g : Held ns rs (e′ .table) (e″ .table) =
       holds u b (λ k j. sm k (inr (in-right k es ns j))) (distinct-right es ns (di .1)) (en .sane) (omega arith)
-      (λ x. ap (λ s. lookup img (e′ .table) s x) p₀ ∙ list-reads n es D m e (e′ .table) so i K<N n<N en reads x)
-      (λ x. kind-orElse img (D x) (m x) (en .novar x) (outs x)) in
+      (λ x. ap (λ s. lookup img (e′ .table) s x) p₀ ∙ list-reads n es ds m e (e′ .table) so i K<N n<N en reads x)
+      (λ x. kind-orElse img (earliest (nameOf img) ds x) (m x) (en .novar x) (outs x)) in
       held-after (n ∷ es) ns [] rs (e .table) (e′ .table) (e″ .table) (omega arith) q₀ di f g
 
   -- what resolving leaves for the rules rs: their walks, told by the table with its counts in front
@@ -224,7 +240,7 @@ module _ (img : List ℕ) where
       let t₀ : Table = record { words = ws; scopes = 0; symbols = 0 } in
       let t₁ : Table = newScope img allOnes t₀ in
       let so : Kept img t₀ = none-kept img ws size in
-      let es = enteredAll ts in
+      let es = recordedAll ts in
       let ns = visitedAll ts in
       let D = saysAll img ts in
       let n<N = sm n (inl refl) in
@@ -237,7 +253,7 @@ module _ (img : List ℕ) where
       let p₁ = p .scopes in
       let z = returns v in
       let z₀ = z .symbols in
-      let en : Entered img 0 es D (mark img n 0 0 t₁) (h .0 .table) =
+      let en : Entered img 0 es (declaredAll ts) (mark img n 0 0 t₁) (h .0 .table) =
       entering img E (omega arith) (λ m i. sm m (inr (in-left m es ns i))) (mark-kept img n 0 0 t₁ n<N (scope-kept img allOnes t₀ (omega arith) so)) (omega arith) in
       let reads : (x : ℕ) → lookup img (h .0 .table) (h .0 .scope) x ≡ D x = λ x.
       ap (λ s. lookup img (h .0 .table) s x) p₀
@@ -246,7 +262,16 @@ module _ (img : List ℕ) where
       ∙ ap (λ u. orElse u (D x)) (find-mark img n 0 0 t₁ n<N 0 x ∙ child-empty img allOnes t₀ so (omega arith) x) in
       let held : Held ns (rulesAll img D ts) (h .0 .table) (e .table) =
       holds v b (λ m i. sm m (inr (in-right m es ns i))) (distinct-right es ns (di .1)) (en .sane) (omega arith) reads (en .novar) in
-      record { bounds = b; sane = held .sane; walks = held .walked (counted img (e .table)) (record { lookups = λ s x l. sym (headed-lookup img (e .table) s x); exits = λ m l i. sym (headed-exit img (e .table) m) }) }
+      record {
+        bounds = b;
+        sane = held .sane;
+        walks = held .walked (counted img (e .table))
+        (record {
+          lookups = λ s x l. sym (headed-lookup img (e .table) s x);
+          entries = λ m l i. sym (headed-entry img (e .table) m);
+          exits = λ m l i. sym (headed-exit img (e .table) m);
+        });
+      }
 
   -- the third demand for a rule that was walked
   module _ (T : Table) (r : Rule) (w : WalkOf r T) where

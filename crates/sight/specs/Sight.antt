@@ -8,7 +8,7 @@ use mathlib.Core.Option.{Option, none as nothing, some}
 use Prim.Native.Nat.{ℕ, zero, suc, _≤_, _<_}
 use lib.Dec.{eqb}
 use Rattle.ast.specs.Image.{kindAt}
-use Rattle.ast.specs.Kinds.{outer, inner, plain, term, ident, head, headMember, member, branch, match, case, ifVar, definedThen, arg}
+use Rattle.ast.specs.Kinds.{outer, inner, plain, term, ident, head, headMember, member, case, ifVar, definedThen, arg}
 use Rattle.ast.specs.Tree.{Tree, node, block, Trees, none, _◂_}
 use Rattle.ast.specs.Rules.{Rule}
 
@@ -60,8 +60,6 @@ unfoldable mutual
   place σ o b (node n k (inner head) sh ts) m = placeSeq (headSort sh) n b ts m
   place σ o b (node n k (inner headMember) sh ts) m = placeFirst n b ts m
   place σ o b (node n k (inner member) sh ts) m = placeFirst n b ts m
-  place σ o b (node n k (inner branch) sh ts) m = placeSeq ordinary n b ts m
-  place σ o b (node n k (inner match) sh ts) m = placeSeq ordinary n b ts m
   place σ o b (node n k (inner case) sh ts) m = placeSeq ordinary n (m .next ∷ b) ts (opened m)
   place σ o b (node n k (inner ifVar) sh ts) m = placeThen declared n b ts m
   place σ o b (node n k (inner definedThen) sh ts) m = placeThen (defined (m .next)) n b ts m

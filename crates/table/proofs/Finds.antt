@@ -3,23 +3,24 @@ use mathlib.Core.Path.{_≡_, refl, sym, _∙_}
 use mathlib.Core.List.{List}
 use mathlib.Core.Bool.{Bool, true, false}
 use mathlib.Core.Option.{Option, none, some}
-use Prim.Native.Nat.{ℕ, zero, suc, _+_, _*_, _-_, _<_, _≤_}
+use Prim.Native.Nat.{ℕ, zero, suc, _+_, _-_, _<_, _≤_}
 use native.Mathlib.Omega.{arith}
-use lib.ListN.{length, getD}
 use lib.Dec.{ltb, eqb}
 use borrow.Author.Tests.{ltb-true, lt-ltb, le-ltb, eq-eqb, ne-eqb}
 use Rattle.ast.specs.Image.{nodes, kindAt, nameOf}
 use Rattle.ast.proofs.Shapes.{one-more}
+use Rattle.table.specs.Rows.{scopeOf, nodeAt, parentAt}
 use Rattle.table.specs.Table.{rowIs, findFrom, climb, isKind, isValue}
 
-unfoldable pub orElse : Option ℕ → Bool → Option ℕ → Option ℕ
-orElse o b u = elim o [ some n ↦ some n | none ↦ elim b [ true ↦ u | false ↦ none ] ]
+-- o, or else what climbing on gives, where b
+unfoldable pub orClimb : Option ℕ → Bool → Option ℕ → Option ℕ
+orClimb o b u = elim o [ some n ↦ some n | none ↦ elim b [ true ↦ u | false ↦ none ] ]
 
-pub orElse-same : (o : Option ℕ) (b : Bool) (u v : Option ℕ) → (b ≡ true → u ≡ v) → orElse o b u ≡ orElse o b v
-unfolding orElse
-orElse-same (some n) b u v h = refl
-orElse-same none true u v h = h refl
-orElse-same none false u v h = refl
+pub orClimb-same : (o : Option ℕ) (b : Bool) (u v : Option ℕ) → (b ≡ true → u ≡ v) → orClimb o b u ≡ orClimb o b v
+unfolding orClimb
+orClimb-same (some n) b u v h = refl
+orClimb-same none true u v h = h refl
+orClimb-same none false u v h = refl
 
 module _ (img : List ℕ) where
   pub value-var : (n : ℕ) → kindAt img n ≡ 13 → isValue img (some n) ≡ true
@@ -35,15 +36,15 @@ module _ (img : List ℕ) where
   value-none = refl
 
 module _ (img ws : List ℕ) where
-  pub row-out : (j s x : ℕ) → (getD ws (3 + 3 * nodes img + j) 0 ≡ s → ⊥) → rowIs img ws j s x ≡ false
+  pub row-out : (j s x : ℕ) → (scopeOf (nodes img) ws j ≡ s → ⊥) → rowIs img ws j s x ≡ false
   unfolding rowIs
   row-out j s x h = rw (ne-eqb _ _ h, rowIs)
 
-  pub row-in : (j s x : ℕ) → getD ws (3 + 3 * nodes img + j) 0 ≡ s → rowIs img ws j s x ≡ lib.Dec.eqb (nameOf img (getD ws (3 + 4 * nodes img + j) 0)) x
+  pub row-in : (j s x : ℕ) → scopeOf (nodes img) ws j ≡ s → rowIs img ws j s x ≡ lib.Dec.eqb (nameOf img (nodeAt (nodes img) ws j)) x
   unfolding rowIs
   row-in j s x h = rw (eq-eqb _ _ h, rowIs)
 
-  pub find-hit : (c j s x : ℕ) → j < c → rowIs img ws j s x ≡ true → findFrom img (c - j) ws j s x ≡ some (getD ws (3 + 4 * nodes img + j) 0)
+  pub find-hit : (c j s x : ℕ) → j < c → rowIs img ws j s x ≡ true → findFrom img (c - j) ws j s x ≡ some (nodeAt (nodes img) ws j)
   unfolding findFrom
   find-hit c j s x h e = rw (one-more h, findFrom, e)
 
@@ -57,22 +58,22 @@ module _ (img ws : List ℕ) where
 
   -- enough fuel is enough
   climb-fuel : (f g y s x : ℕ) → s < f → s < g → climb img f ws y s x ≡ climb img g ws y s x
-  unfolding climb orElse
+  unfolding climb orClimb
   climb-fuel zero g y s x h k = absurd (omega arith)
   climb-fuel (suc f) zero y s x h k = absurd (omega arith)
   climb-fuel (suc f) (suc g) y s x h k =
-      orElse-same (findFrom img y ws 0 s x) (ltb (getD ws (3 + 2 * nodes img + s) 0) s) _ _
-      (λ e. let l = ltb-true (getD ws (3 + 2 * nodes img + s) 0) s e in climb-fuel f g y (getD ws (3 + 2 * nodes img + s) 0) x (omega arith) (omega arith))
+      orClimb-same (findFrom img y ws 0 s x) (ltb (parentAt (nodes img) ws s) s) _ _
+      (λ e. let l = ltb-true (parentAt (nodes img) ws s) s e in climb-fuel f g y (parentAt (nodes img) ws s) x (omega arith) (omega arith))
 
   pub climb-hit : (y s x n : ℕ) → findFrom img y ws 0 s x ≡ some n → climb img (suc s) ws y s x ≡ some n
   unfolding climb
   climb-hit y s x n e = rw (e, climb)
 
-  pub climb-end : (y s x p : ℕ) → findFrom img y ws 0 s x ≡ none → p ≡ getD ws (3 + 2 * nodes img + s) 0 → s ≤ p → climb img (suc s) ws y s x ≡ none
+  pub climb-end : (y s x p : ℕ) → findFrom img y ws 0 s x ≡ none → p ≡ parentAt (nodes img) ws s → s ≤ p → climb img (suc s) ws y s x ≡ none
   unfolding climb
   climb-end y s x p e q h = rw (e, climb) (rw (← q, le-ltb _ _ h))
 
-  pub climb-up : (y s x p : ℕ) → findFrom img y ws 0 s x ≡ none → p ≡ getD ws (3 + 2 * nodes img + s) 0 → p < s
+  pub climb-up : (y s x p : ℕ) → findFrom img y ws 0 s x ≡ none → p ≡ parentAt (nodes img) ws s → p < s
       → climb img (suc s) ws y s x ≡ climb img (suc p) ws y p x
   unfolding climb
   climb-up y s x p e q h = rw (e, climb) (rw (← q, lt-ltb _ _ h) (rw (← q) (climb-fuel s (suc p) y p x h (omega arith))))

@@ -1,8 +1,9 @@
--- What the steps of a walk do to the symbols of one scope.
+-- What the steps of a walk do to the table's words, and to the symbols of one scope.
 use mathlib.Core.Path.{_≡_, refl, ap, ap₂, _∙_}
 use mathlib.Core.Bool.{Bool, true, false}
-use mathlib.Core.List.{List}
+use mathlib.Core.List.{List, [], _∷_}
 use mathlib.Core.Option.{Option, none, some}
+use mathlib.Core.Logic.{_≢_}
 use Prim.Native.Nat.{ℕ, zero, suc, _+_, _*_, _<_, _≤_}
 use native.Mathlib.Omega.{arith}
 use native.Mathlib.Nat.{zero-add}
@@ -11,12 +12,13 @@ use lib.Dec.{eqb}
 use lib.ListN.{length, getD, set, length-set}
 use lib.Seq.{getD-set-same, getD-set-other}
 use borrow.Author.Tests.{eq-eqb}
+use Rattle.ast.specs.Declarations.{orElse, earliest}
 use Rattle.ast.specs.Image.{nodes, nameOf}
-use Rattle.table.specs.Layout.{scopePlace, nodePlace, tableLength}
+use Rattle.table.specs.Layout.{entryPlace, exitPlace, parentPlace, scopePlace, nodePlace, tableLength}
 use Rattle.table.specs.Rows.{scopeOf, nodeAt}
 use Rattle.table.specs.Table.{Table, rowIs, findFrom, find, mark, newScope, newSymbol}
 use Rattle.table.proofs.Finds.{row-out}
-use Rattle.table.proofs.Rising.{either, hit, find-snoc}
+use Rattle.table.proofs.Rising.{hit, find-snoc}
 
 -- the words ws and vs have the same first y rows, in the table of an image of n nodes
 pub record SameRows (n y : ℕ) (ws vs : List ℕ) : Type 0 where
@@ -24,9 +26,40 @@ pub record SameRows (n y : ℕ) (ws vs : List ℕ) : Type 0 where
   pub nodes : (j : ℕ) → j < y → nodeAt n ws j ≡ nodeAt n vs j
 
 module _ (img : List ℕ) where
-  -- the node n, if it has the name x
-  unfoldable pub own : ℕ → ℕ → Option ℕ
-  own n x = elim (eqb (nameOf img n) x) [ true ↦ some n | false ↦ none ]
+  -- a word that the step does not store stays
+  pub mark-word : (n a b : ℕ) (t : Table) (i : ℕ) → i ≢ entryPlace (nodes img) n → i ≢ exitPlace (nodes img) n → getD ((mark img n a b t) .words) i 0 ≡ getD (t .words) i 0
+  unfolding mark
+  mark-word n a b t i f g =
+      getD-set-other (set (t .words) (entryPlace (nodes img) n) a) (exitPlace (nodes img) n) i b 0 g ∙ getD-set-other (t .words) (entryPlace (nodes img) n) i a 0 f
+
+  pub scope-word : (p : ℕ) (t : Table) (i : ℕ) → i ≢ parentPlace (nodes img) (t .scopes) → getD ((newScope img p t) .words) i 0 ≡ getD (t .words) i 0
+  unfolding newScope
+  scope-word p t i f = getD-set-other (t .words) (parentPlace (nodes img) (t .scopes)) i p 0 f
+
+  pub symbol-word : (s n : ℕ) (t : Table) (i : ℕ) → i ≢ scopePlace (nodes img) (t .symbols) → i ≢ nodePlace (nodes img) (t .symbols) → getD ((newSymbol img s n t) .words) i 0 ≡ getD (t .words) i 0
+  unfolding newSymbol
+  symbol-word s n t i f g =
+      getD-set-other (set (t .words) (scopePlace (nodes img) (t .symbols)) s) (nodePlace (nodes img) (t .symbols)) i n 0 g
+      ∙ getD-set-other (t .words) (scopePlace (nodes img) (t .symbols)) i s 0 f
+
+  -- so the rows that are there stay
+  pub mark-same : (n a b : ℕ) (t : Table) → n < nodes img → SameRows (nodes img) (t .symbols) ((mark img n a b t) .words) (t .words)
+  mark-same n a b t l =
+      record {
+        scopes = λ j k. mark-word n a b t (scopePlace (nodes img) j) (omega arith) (omega arith);
+        nodes = λ j k. mark-word n a b t (nodePlace (nodes img) j) (omega arith) (omega arith);
+      }
+
+  scope-same : (p : ℕ) (t : Table) → t .scopes < nodes img → SameRows (nodes img) (t .symbols) ((newScope img p t) .words) (t .words)
+  scope-same p t l =
+      record { scopes = λ j k. scope-word p t (scopePlace (nodes img) j) (omega arith); nodes = λ j k. scope-word p t (nodePlace (nodes img) j) (omega arith) }
+
+  pub symbol-same : (s n : ℕ) (t : Table) → t .symbols < nodes img → SameRows (nodes img) (t .symbols) ((newSymbol img s n t) .words) (t .words)
+  symbol-same s n t l =
+      record {
+        scopes = λ j k. symbol-word s n t (scopePlace (nodes img) j) (omega arith) (omega arith);
+        nodes = λ j k. symbol-word s n t (nodePlace (nodes img) j) (omega arith) (omega arith);
+      }
 
   isRow : ℕ → ℕ → ℕ → ℕ → Bool
   isRow a n s x = elim (eqb a s) [ true ↦ eqb (nameOf img n) x | false ↦ false ]
@@ -52,23 +85,16 @@ module _ (img : List ℕ) where
   unfolding find
   find-none t s x h = from-none (t .symbols) (t .words) 0 s x (λ i l. h i (omega arith))
 
+  pub find-same : {y : ℕ} {ws vs : List ℕ} → SameRows (nodes img) y ws vs → (s x : ℕ) → findFrom img y ws 0 s x ≡ findFrom img y vs 0 s x
+  find-same {y} {ws} {vs} h s x = from-same y ws vs 0 s x (record { scopes = λ j k. h .scopes j (omega arith); nodes = λ j k. h .nodes j (omega arith) })
+
   pub find-mark : (n a b : ℕ) (t : Table) → n < nodes img → (s x : ℕ) → find img (mark img n a b t) s x ≡ find img t s x
   unfolding find mark
-  find-mark n a b t l s x =
-      from-same (t .symbols) ((mark img n a b t) .words) (t .words) 0 s x
-      (record { scopes = λ j k. word (scopePlace (nodes img) j) (omega arith); nodes = λ j k. word (nodePlace (nodes img) j) (omega arith) })
-    where
-      word : (i : ℕ) → 3 + 2 * nodes img ≤ i → getD ((mark img n a b t) .words) i 0 ≡ getD (t .words) i 0
-      word i h = getD-set-other (set (t .words) (3 + n) a) (3 + nodes img + n) i b 0 (λ q. omega arith) ∙ getD-set-other (t .words) (3 + n) i a 0 (λ q. omega arith)
+  find-mark n a b t l s x = find-same (mark-same n a b t l) s x
 
   pub find-scope : (p : ℕ) (t : Table) → t .scopes < nodes img → (s x : ℕ) → find img (newScope img p t) s x ≡ find img t s x
   unfolding find newScope
-  find-scope p t l s x =
-      from-same (t .symbols) ((newScope img p t) .words) (t .words) 0 s x
-      (record {
-        scopes = λ j k. getD-set-other (t .words) (3 + 2 * nodes img + t .scopes) (scopePlace (nodes img) j) p 0 (λ q. omega arith);
-        nodes = λ j k. getD-set-other (t .words) (3 + 2 * nodes img + t .scopes) (nodePlace (nodes img) j) p 0 (λ q. omega arith);
-      })
+  find-scope p t l s x = find-same (scope-same p t l) s x
 
   -- one symbol more
   module _ (s n : ℕ) (t : Table) (few : t .symbols < nodes img) (long : tableLength (nodes img) ≤ length (t .words)) where
@@ -78,41 +104,29 @@ module _ (img : List ℕ) where
     abbrev vs : List ℕ
     vs = (newSymbol img s n t) .words
 
-    pub symbol-same : SameRows (nodes img) y vs (t .words)
-    unfolding newSymbol
-    symbol-same =
-        record {
-          scopes = λ j k.
-              getD-set-other (set (t .words) (3 + 3 * nodes img + y) s) (3 + 4 * nodes img + y) (scopePlace (nodes img) j) n 0 (λ q. omega arith)
-              ∙ getD-set-other (t .words) (3 + 3 * nodes img + y) (scopePlace (nodes img) j) s 0 (λ q. omega arith);
-          nodes = λ j k.
-              getD-set-other (set (t .words) (3 + 3 * nodes img + y) s) (3 + 4 * nodes img + y) (nodePlace (nodes img) j) n 0 (λ q. omega arith)
-              ∙ getD-set-other (t .words) (3 + 3 * nodes img + y) (nodePlace (nodes img) j) s 0 (λ q. omega arith);
-        }
-
     pub symbol-scope : scopeOf (nodes img) vs y ≡ s
     unfolding newSymbol
     symbol-scope =
-        getD-set-other (set (t .words) (3 + 3 * nodes img + y) s) (3 + 4 * nodes img + y) (3 + 3 * nodes img + y) n 0 (λ q. omega arith)
-        ∙ getD-set-same (t .words) (3 + 3 * nodes img + y) s 0 (omega arith)
+        getD-set-other (set (t .words) (scopePlace (nodes img) y) s) (nodePlace (nodes img) y) (scopePlace (nodes img) y) n 0 (λ q. omega arith)
+        ∙ getD-set-same (t .words) (scopePlace (nodes img) y) s 0 (omega arith)
 
     pub symbol-node : nodeAt (nodes img) vs y ≡ n
     unfolding newSymbol
-    symbol-node = getD-set-same (set (t .words) (3 + 3 * nodes img + y) s) (3 + 4 * nodes img + y) n 0 (rw length-set (omega arith))
+    symbol-node = getD-set-same (set (t .words) (scopePlace (nodes img) y) s) (nodePlace (nodes img) y) n 0 (rw length-set (omega arith))
 
     row-new : (x : ℕ) → rowIs img vs y s x ≡ eqb (nameOf img n) x
     unfolding rowIs
     row-new x = rw (eq-eqb _ _ symbol-scope, rowIs) (ap (λ (m : ℕ). eqb (nameOf img m) x) symbol-node)
 
-    hit-new : (x : ℕ) → hit img vs (rowIs img vs y s x) y ≡ own n x
-    unfolding hit own
+    hit-new : (x : ℕ) → hit img vs (rowIs img vs y s x) y ≡ earliest (nameOf img) (n ∷ []) x
+    unfolding hit earliest
     hit-new x = ap₂ (λ (b : Bool) (m : ℕ). elim b as (λ _. Option ℕ) [ true ↦ some m | false ↦ none ]) (row-new x) symbol-node
 
     -- in its scope: what was there, or else the new node
-    pub find-symbol : (x : ℕ) → find img (newSymbol img s n t) s x ≡ either (find img t s x) (own n x)
+    pub find-symbol : (x : ℕ) → find img (newSymbol img s n t) s x ≡ orElse (find img t s x) (earliest (nameOf img) (n ∷ []) x)
     unfolding find newSymbol
     find-symbol x =
         ap (λ (c : ℕ). findFrom img c vs 0 s x) (add-one y)
         ∙ find-snoc img vs y 0 s x
-        ∙ ap (λ (i : ℕ). either (findFrom img y vs 0 s x) (hit img vs (rowIs img vs i s x) i)) (zero-add y)
-        ∙ ap₂ (λ (o u : Option ℕ). either o u) (from-same y vs (t .words) 0 s x (record { scopes = λ j k. symbol-same .scopes j (omega arith); nodes = λ j k. symbol-same .nodes j (omega arith) })) (hit-new x)
+        ∙ ap (λ (i : ℕ). orElse (findFrom img y vs 0 s x) (hit img vs (rowIs img vs i s x) i)) (zero-add y)
+        ∙ ap₂ (λ (o u : Option ℕ). orElse o u) (find-same (symbol-same s n t few) s x) (hit-new x)

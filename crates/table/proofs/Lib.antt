@@ -1,5 +1,7 @@
+pub mod Places
+pub mod Steps
 pub mod Finds
 pub mod Rising
 pub mod Overs
-pub mod Sounds
 pub mod Frames
+pub mod Agreed

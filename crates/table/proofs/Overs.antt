@@ -13,6 +13,7 @@ use mir.Val.{Fits}
 use mir.Syntax.{w64}
 use Rattle.ast.specs.Image.{nodes, kindAt, startAt, opAt, field, nameOf, word}
 use Rattle.ast.proofs.Words.{word-in}
+use Rattle.table.specs.Layout.{tableLength}
 use Rattle.table.specs.Rows.{scopeOf, nodeAt, parentAt, Sorted, Cut, Before, Rising, Block}
 use Rattle.table.specs.Table.{findFrom, climb}
 use Rattle.table.proofs.Rising.{Among, among-start, among-hit, among-miss, among-end, rising-less, Climbs, climbs-start, climbs-cut, climbs-hit, climbs-end, climbs-up}
@@ -117,7 +118,7 @@ module _ (img ws : List ℕ) where
   over-any o = let h = o .rising in let b = o .below in let z = h .small in (rising-less img ws h (o .climbs .within), omega arith)
 
   module _ {n y t x s r : ℕ} (o : Over n y t x s r) where
-    room : (r ≤ n) × (3 + 5 * n ≤ length ws)
+    room : (r ≤ n) × (tableLength n ≤ length ws)
     room = let h = o .rising .sorted in let a = h .within in let k = o .climbs .within in (omega arith, h .long)
 
     -- what the code reads is there
@@ -216,7 +217,7 @@ module _ (img ws : List ℕ) where
   no-rows : (f s x : ℕ) → climb img f ws 0 s x ≡ none
   unfolding climb findFrom
   no-rows zero s x = refl
-  no-rows (suc f) s x = none-either (ltb (getD ws (3 + 2 * nodes img + s) 0) s) (no-rows f (getD ws (3 + 2 * nodes img + s) 0) x)
+  no-rows (suc f) s x = none-either (ltb (parentAt (nodes img) ws s) s) (no-rows f (parentAt (nodes img) ws s) x)
 
   pub over-none : {n y t x s r : ℕ} → Over n y t x s r → r ≤ 0 → climb img (suc t) ws y t x ≡ none
   over-none {n} {y} {t} {x} {s} {r} o l = o .climbs .same ∙ ap (λ (c : ℕ). climb img (suc s) ws c s x) (let q : r ≡ 0 = omega arith in q) ∙ no-rows (suc s) s x

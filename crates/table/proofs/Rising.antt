@@ -3,17 +3,20 @@ use mathlib.Core.Path.{_≡_, refl, sym, ap, subst, _∙_}
 use mathlib.Core.List.{List}
 use mathlib.Core.Bool.{Bool, true, false}
 use mathlib.Core.Option.{Option, none, some}
-use Prim.Native.Nat.{ℕ, zero, suc, _+_, _*_, _-_, _<_, _≤_}
+use Prim.Native.Nat.{ℕ, zero, suc, _+_, _-_, _<_, _≤_}
 use native.Mathlib.Omega.{arith}
 use native.Mathlib.Nat.{add-zero, add-suc, sub-zero, eq-or-lt-of-le}
 use mathlib.Core.Logic.{⊎-elim}
-use lib.ListN.{length, getD}
+use lib.ListN.{length}
 use lib.Dec.{ltb, eqb}
 use borrow.Author.Tests.{ltb-true, eq-eqb, ne-eqb}
+use Rattle.ast.specs.Declarations.{orElse}
 use Rattle.ast.specs.Image.{nodes, nameOf}
+use Rattle.ast.proofs.Declarations.{orElse-none}
+use Rattle.table.specs.Layout.{scopePlace}
 use Rattle.table.specs.Rows.{scopeOf, nodeAt, parentAt, Sorted, Cut, Before, Rising, Block}
 use Rattle.table.specs.Table.{rowIs, findFrom, climb}
-use Rattle.table.proofs.Finds.{row-out, row-in, find-hit, find-miss, find-end, orElse, orElse-same, climb-hit, climb-end, climb-up}
+use Rattle.table.proofs.Finds.{row-out, row-in, find-hit, find-miss, find-end, orClimb, orClimb-same, climb-hit, climb-end, climb-up}
 
 pub sorted-less : {n y z : ℕ} {ws : List ℕ} → Sorted n y ws → z ≤ y → Sorted n z ws
 sorted-less h l = record { within = (let w = h .within in omega arith); long = h .long; rises = λ i j a b. h .rises i j a (omega arith) }
@@ -72,37 +75,27 @@ before-of {s = s} e c =
 before-cut : {n y s r p : ℕ} {ws : List ℕ} → p < s → Before n y ws s r → Cut n y ws (s - 1) r
 before-cut l b = record { within = b .within; low = λ h. let a = b .low h in omega arith; high = λ h. let a = b .high h in omega arith }
 
--- o, or else u
-unfoldable pub either : Option ℕ → Option ℕ → Option ℕ
-either o u = elim o [ some n ↦ some n | none ↦ u ]
-
-either-none : (o : Option ℕ) → either o none ≡ o
-unfolding either
-either-none none = refl
-either-none (some n) = refl
-
 module _ (img ws : List ℕ) where
   -- row j, if it is of the scope and the name
   unfoldable pub hit : Bool → ℕ → Option ℕ
-  hit b j = elim b [ true ↦ some (getD ws (3 + 4 * nodes img + j) 0) | false ↦ none ]
+  hit b j = elim b [ true ↦ some (nodeAt (nodes img) ws j) | false ↦ none ]
 
-  find-first : (b : Bool) (j : ℕ) (o u : Option ℕ) → either (elim b [ true ↦ some (getD ws (3 + 4 * nodes img + j) 0) | false ↦ o ]) u ≡ elim b [ true ↦ some (getD ws (3 + 4 * nodes img + j) 0) | false ↦ either o u ]
-  unfolding either
+  find-first : (b : Bool) (j : ℕ) (o u : Option ℕ) → orElse (elim b [ true ↦ some (nodeAt (nodes img) ws j) | false ↦ o ]) u ≡ elim b [ true ↦ some (nodeAt (nodes img) ws j) | false ↦ orElse o u ]
   find-first true j o u = refl
   find-first false j o u = refl
 
   -- the last of the rows counts where no other does
-  pub find-snoc : (c j s x : ℕ) → findFrom img (suc c) ws j s x ≡ either (findFrom img c ws j s x) (hit (rowIs img ws (j + c) s x) (j + c))
-  unfolding findFrom hit either
+  pub find-snoc : (c j s x : ℕ) → findFrom img (suc c) ws j s x ≡ orElse (findFrom img c ws j s x) (hit (rowIs img ws (j + c) s x) (j + c))
+  unfolding findFrom hit
   find-snoc zero j s x = ap (λ (i : ℕ). hit (rowIs img ws i s x) i) (sym (add-zero j))
   find-snoc (suc c) j s x =
-      ap (λ (o : Option ℕ). elim (rowIs img ws j s x) as (λ _. Option ℕ) [ true ↦ some (getD ws (3 + 4 * nodes img + j) 0) | false ↦ o ]) (find-snoc c (j + 1) s x ∙ ap (λ (i : ℕ). either (findFrom img c ws (j + 1) s x) (hit (rowIs img ws i s x) i)) (let q : j + 1 + c ≡ j + suc c = omega arith in q))
+      ap (λ (o : Option ℕ). elim (rowIs img ws j s x) as (λ _. Option ℕ) [ true ↦ some (nodeAt (nodes img) ws j) | false ↦ o ]) (find-snoc c (j + 1) s x ∙ ap (λ (i : ℕ). orElse (findFrom img c ws (j + 1) s x) (hit (rowIs img ws i s x) i)) (let q : j + 1 + c ≡ j + suc c = omega arith in q))
       ∙ sym (find-first (rowIs img ws j s x) j (findFrom img c ws (j + 1) s x) (hit (rowIs img ws (j + suc c) s x) (j + suc c)))
 
   last-miss : (j s x : ℕ) → rowIs img ws j s x ≡ false → findFrom img (suc j) ws 0 s x ≡ findFrom img j ws 0 s x
   unfolding hit
   last-miss j s x h =
-      find-snoc j 0 s x ∙ ap (λ (i : ℕ). either (findFrom img j ws 0 s x) (hit (rowIs img ws i s x) i)) (let q : 0 + j ≡ j = omega arith in q) ∙ ap (λ (b : Bool). either (findFrom img j ws 0 s x) (hit b j)) h ∙ either-none (findFrom img j ws 0 s x)
+      find-snoc j 0 s x ∙ ap (λ (i : ℕ). orElse (findFrom img j ws 0 s x) (hit (rowIs img ws i s x) i)) (let q : 0 + j ≡ j = omega arith in q) ∙ ap (λ (b : Bool). orElse (findFrom img j ws 0 s x) (hit b j)) h ∙ orElse-none (findFrom img j ws 0 s x)
 
   -- rows of other scopes do not count
   find-cut : (d r s x : ℕ) → ((i : ℕ) → r ≤ i → i < r + d → scopeOf (nodes img) ws i ≡ s → ⊥) → findFrom img (r + d) ws 0 s x ≡ findFrom img r ws 0 s x
@@ -119,12 +112,12 @@ module _ (img ws : List ℕ) where
 
   -- what lookup from a scope up to s gives, it gives by those rows
   pub climb-less : (f y r s p x : ℕ) → Sorted (nodes img) y ws → Cut (nodes img) y ws s r → p ≤ s → climb img f ws y p x ≡ climb img f ws r p x
-  unfolding climb orElse
+  unfolding climb orClimb
   climb-less zero y r s p x h c l = refl
   climb-less (suc f) y r s p x h c l =
-      ap (λ (o : Option ℕ). orElse o (ltb (getD ws (3 + 2 * nodes img + p) 0) p) (climb img f ws y (getD ws (3 + 2 * nodes img + p) 0) x)) (find-less y r s p x h c l)
-      ∙ orElse-same (findFrom img r ws 0 p x) (ltb (getD ws (3 + 2 * nodes img + p) 0) p) _ _
-      (λ e. let z = ltb-true (getD ws (3 + 2 * nodes img + p) 0) p e in climb-less f y r s (getD ws (3 + 2 * nodes img + p) 0) x h c (omega arith))
+      ap (λ (o : Option ℕ). orClimb o (ltb (parentAt (nodes img) ws p) p) (climb img f ws y (parentAt (nodes img) ws p) x)) (find-less y r s p x h c l)
+      ∙ orClimb-same (findFrom img r ws 0 p x) (ltb (parentAt (nodes img) ws p) p) _ _
+      (λ e. let z = ltb-true (parentAt (nodes img) ws p) p e in climb-less f y r s (parentAt (nodes img) ws p) x h c (omega arith))
 
   block-in : {n f y s : ℕ} → Block img ws n f y s → (j : ℕ) → f ≤ j → j < y → scopeOf n ws j ≡ s
   block-in {n} {f} {y} {s} b j l k =
@@ -228,5 +221,5 @@ module _ (img ws : List ℕ) where
       }
 
   -- the rows that a search reads are there
-  pub climbs-in : {n y t x s r : ℕ} → Rising img ws n y → Climbs y t x s r → 3 + 3 * n + r ≤ length ws
+  pub climbs-in : {n y t x s r : ℕ} → Rising img ws n y → Climbs y t x s r → scopePlace n r ≤ length ws
   climbs-in h k = let a = h .sorted .within in let b = h .sorted .long in let c = k .within in omega arith

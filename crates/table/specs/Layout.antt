@@ -1,11 +1,11 @@
--- The table's layout: three counts, then arrays of N words each. Places are named here and nowhere written as bare offsets.
+-- The table's layout: three counts, then arrays of N words each. Where a word stands is said here alone.
 use Prim.Native.Nat.{ℕ, _+_, _*_}
 
 -- the all-ones word: the parent of the first scope, and both places of an AppHeadMember
 abbrev pub allOnes : ℕ
 allOnes = 4294967295
 
--- the words N, K (scopes) and Y (symbols)
+-- the words N, K (scopes) and Y (symbols), and how many such counts there are
 abbrev pub nodesPlace : ℕ
 nodesPlace = 0
 
@@ -15,27 +15,48 @@ scopesPlace = 1
 abbrev pub symbolsPlace : ℕ
 symbolsPlace = 2
 
-module _ (N : ℕ) where
-  -- the entry of a node
-  abbrev pub entryPlace : ℕ → ℕ
-  entryPlace n = 3 + n
+abbrev pub counts : ℕ
+counts = 3
 
-  -- the exit of a node
-  abbrev pub exitPlace : ℕ → ℕ
-  exitPlace n = 3 + N + n
+-- the arrays by their ranks: a node's entry and exit, a scope's parent, a symbol's scope and node
+abbrev pub entries : ℕ
+entries = 0
 
-  -- the parent of a scope
-  abbrev pub parentPlace : ℕ → ℕ
-  parentPlace s = 3 + 2 * N + s
+abbrev pub exits : ℕ
+exits = 1
 
-  -- the scope of a symbol
-  abbrev pub scopePlace : ℕ → ℕ
-  scopePlace j = 3 + 3 * N + j
+abbrev pub parents : ℕ
+parents = 2
 
-  -- the node of a symbol
-  abbrev pub nodePlace : ℕ → ℕ
-  nodePlace j = 3 + 4 * N + j
+abbrev pub symbolScopes : ℕ
+symbolScopes = 3
 
-  -- how many words a table needs
-  abbrev pub tableLength : ℕ
-  tableLength = 3 + 5 * N
+abbrev pub symbolNodes : ℕ
+symbolNodes = 4
+
+-- how many arrays there are
+abbrev pub arrays : ℕ
+arrays = 5
+
+-- the i-th word of an array, in a table for N nodes
+abbrev pub place : ℕ → ℕ → ℕ → ℕ
+place array N i = counts + array * N + i
+
+-- how many words a table for N nodes needs
+abbrev pub tableLength : ℕ → ℕ
+tableLength N = counts + arrays * N
+
+abbrev pub entryPlace : ℕ → ℕ → ℕ
+entryPlace = place entries
+
+abbrev pub exitPlace : ℕ → ℕ → ℕ
+exitPlace = place exits
+
+abbrev pub parentPlace : ℕ → ℕ → ℕ
+parentPlace = place parents
+
+abbrev pub scopePlace : ℕ → ℕ → ℕ
+scopePlace = place symbolScopes
+
+abbrev pub nodePlace : ℕ → ℕ → ℕ
+nodePlace = place symbolNodes

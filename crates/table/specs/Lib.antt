@@ -3,4 +3,3 @@ pub mod Table
 pub mod State
 pub mod Rows
 pub mod Values
-pub mod Sound

@@ -82,6 +82,7 @@ module _ (img : List ℕ) where
   unfolding climb
   lookup t s x = climb (suc s) (t .words) (t .symbols) s x
 
+  -- of kind k
   unfoldable pub isKind : ℕ → Option ℕ → Bool
   isKind k none = false
   isKind k (some n) = eqb (kindAt img n) k
@@ -101,3 +102,10 @@ module _ (img : List ℕ) where
 
   abbrev pub exitAt : List ℕ → ℕ → ℕ
   exitAt ws n = getD ws (exitPlace N n) 0
+
+  -- what the name of the IdentTerm i is at the entry of the node n, and at its exit
+  abbrev pub atEntry : Table → ℕ → ℕ → Option ℕ
+  atEntry t n i = lookup t (entryAt (t .words) n) (nameOf img i)
+
+  abbrev pub atExit : Table → ℕ → ℕ → Option ℕ
+  atExit t n i = lookup t (exitAt (t .words) n) (nameOf img i)

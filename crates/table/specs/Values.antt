@@ -11,6 +11,10 @@ use Rattle.table.specs.declared.Found.the-variants.{At, Nothing}
 abbrev pub tableOf : Walked → List ℕ → Table
 tableOf w ws = record { words = ws; scopes = w .scopes; symbols = w .symbols }
 
+-- a table as lookup reads it: the words and the count of symbols
+abbrev pub sought : List ℕ → ℕ → Table
+sought ws y = record { words = ws; scopes = 0; symbols = y }
+
 abbrev pub exitOf : Walked → List ℕ → Exit
 exitOf w ws = record { scope = w .scope .0; table = tableOf w ws }
 

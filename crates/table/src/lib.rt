@@ -5,13 +5,12 @@ ghost use Prim.Native.Nat.{ℕ, suc, _+_, _*_, _-_, _<_, _≤_, _^_};
 ghost use lib.ListN.{length, getD, set};
 ghost use lib.Dec.{eqb};
 ghost use Rattle.ast.specs.Image as «image-spec»;
-ghost use Rattle.ast.specs.Tests.{run};
-ghost use Rattle.table.specs.Layout.{parentPlace, scopePlace, nodePlace};
+ghost use Rattle.table.specs.Layout as «layout-spec»;
+ghost use Rattle.table.specs.Layout.{parentPlace, scopePlace, nodePlace, arrays, tableLength};
 ghost use Rattle.table.specs.Table as «table-spec»;
 ghost use Rattle.table.specs.State.{childScope, ownSymbol, introduce, marked, unmarked};
-ghost use Rattle.table.specs.Sound.{hasName, isSymbol, parentBelow, rowSound, testSound};
 ghost use Rattle.table.specs.Rows.{scopeOf, nodeAt, parentAt, Sorted, Cut, Before, Rising, Block};
-ghost use Rattle.table.specs.Values.{tableOf, exitOf, optionOf};
+ghost use Rattle.table.specs.Values.{tableOf, sought, exitOf, optionOf};
 use ast::NodeId;
 
 pub struct ScopeId(pub u32);
@@ -26,6 +25,43 @@ pub struct Walked {
 pub enum Found {
     At(NodeId),
     Nothing,
+}
+
+// The layout, as specs/Layout has it: the places of N, K and Y, and how many such counts there are.
+pub const NODES_PLACE: usize = 0;
+
+pub const SCOPES_PLACE: usize = 1;
+
+pub const SYMBOLS_PLACE: usize = 2;
+
+pub const COUNTS: usize = 3;
+
+// The arrays by their ranks, and how many there are.
+const ENTRIES: usize = 0;
+
+const EXITS: usize = 1;
+
+const PARENTS: usize = 2;
+
+const SYMBOL_SCOPES: usize = 3;
+
+const SYMBOL_NODES: usize = 4;
+
+pub const ARRAYS: usize = 5;
+
+// The place of the i-th word of an array, in the table of an image of n nodes.
+fn place(array: usize, n: u32, i: u32) -> usize
+    requires { ⌜ array < arrays ⌝ }
+    ensures { λ r. ⌜ r ≡ «layout-spec».place array n i ⌝ }
+{
+    COUNTS + array * ast::wide(n) + ast::wide(i)
+}
+
+// How many words a table needs for an image of n nodes.
+pub fn words_for(n: u32) -> usize
+    ensures { λ r. ⌜ r ≡ tableLength n ⌝ }
+{
+    COUNTS + ARRAYS * ast::wide(n)
 }
 
 pub fn get(table: &[u32], i: usize) -> u32
@@ -45,9 +81,9 @@ pub fn put(table: &mut [u32], i: usize, value: u32)
 pub fn insert_ordered(image: &[u8], table: &mut [u32], node: NodeId, entry: ScopeId, exit: ScopeId)
     ensures { λ _. ⌜ now (table .exit) ≡ «table-spec».markWords (now (image .entry)) (node .0) (entry .0) (exit .0) (now (table .entry)) ⌝ }
 {
-    let n = ast::wide(ast::node_count(image));
-    put(table, 3 + ast::wide(node.0), entry.0);
-    put(table, 3 + n + ast::wide(node.0), exit.0);
+    let n = ast::node_count(image);
+    put(table, place(ENTRIES, n, node.0), entry.0);
+    put(table, place(EXITS, n, node.0), exit.0);
 }
 
 // A new scope, whose parent is the one that the walk stands in.
@@ -55,8 +91,8 @@ pub fn new_scope(image: &[u8], table: &mut [u32], at: Walked) -> Walked
     requires { ⌜ at .scopes + 1 < 2 ^ 32 ⌝ }
     ensures { λ r. ⌜ exitOf r (now (table .exit)) ≡ childScope (now (image .entry)) (exitOf at (now (table .entry))) ⌝ }
 {
-    let n = ast::wide(ast::node_count(image));
-    put(table, 3 + 2 * n + ast::wide(at.scopes), at.scope.0);
+    let n = ast::node_count(image);
+    put(table, place(PARENTS, n, at.scopes), at.scope.0);
     Walked {
         scope: ScopeId(at.scopes),
         scopes: at.scopes + 1,
@@ -69,9 +105,9 @@ pub fn insert_symbol(image: &[u8], table: &mut [u32], at: Walked, node: NodeId) 
     requires { ⌜ at .symbols + 1 < 2 ^ 32 ⌝ }
     ensures { λ r. ⌜ exitOf r (now (table .exit)) ≡ ownSymbol (now (image .entry)) (node .0) (exitOf at (now (table .entry))) ⌝ }
 {
-    let n = ast::wide(ast::node_count(image));
-    put(table, 3 + 3 * n + ast::wide(at.symbols), at.scope.0);
-    put(table, 3 + 4 * n + ast::wide(at.symbols), node.0);
+    let n = ast::node_count(image);
+    put(table, place(SYMBOL_SCOPES, n, at.symbols), at.scope.0);
+    put(table, place(SYMBOL_NODES, n, at.symbols), node.0);
     let scope = at.scope;
     Walked {
         scope,
@@ -106,31 +142,30 @@ pub fn leave_bare(image: &[u8], table: &mut [u32], node: NodeId, w: Walked) -> W
     w
 }
 
-// The i-th word of an array of the table: 2 the parents, 3 the symbols' scopes, 4 their nodes.
+// The i-th word of an array of the table.
 fn word_of(image: &[u8], table: &[u32], array: usize, i: u32) -> u32
-    requires { ⌜ array ≤ 4 ⌝ }
-    ensures { λ r. ⌜ r ≡ getD (now (table .entry)) (3 + array * «image-spec».nodes (now (image .entry)) + i) 0 ⌝ }
+    requires { ⌜ array < arrays ⌝ }
+    ensures { λ r. ⌜ r ≡ getD (now (table .entry)) («layout-spec».place array («image-spec».nodes (now (image .entry))) i) 0 ⌝ }
 {
-    let n = ast::wide(ast::node_count(image));
-    get(table, 3 + array * n + ast::wide(i))
+    get(table, place(array, ast::node_count(image), i))
 }
 
 pub fn parent_of(image: &[u8], table: &[u32], scope: ScopeId) -> u32
-    ensures { λ r. ⌜ r ≡ getD (now (table .entry)) (3 + 2 * «image-spec».nodes (now (image .entry)) + scope .0) 0 ⌝ }
+    ensures { λ r. ⌜ r ≡ getD (now (table .entry)) (parentPlace («image-spec».nodes (now (image .entry))) (scope .0)) 0 ⌝ }
 {
-    word_of(image, table, 2, scope.0)
+    word_of(image, table, PARENTS, scope.0)
 }
 
 pub fn symbol_scope(image: &[u8], table: &[u32], j: u32) -> u32
-    ensures { λ r. ⌜ r ≡ getD (now (table .entry)) (3 + 3 * «image-spec».nodes (now (image .entry)) + j) 0 ⌝ }
+    ensures { λ r. ⌜ r ≡ getD (now (table .entry)) (scopePlace («image-spec».nodes (now (image .entry))) j) 0 ⌝ }
 {
-    word_of(image, table, 3, j)
+    word_of(image, table, SYMBOL_SCOPES, j)
 }
 
 pub fn symbol_node(image: &[u8], table: &[u32], j: u32) -> u32
-    ensures { λ r. ⌜ r ≡ getD (now (table .entry)) (3 + 4 * «image-spec».nodes (now (image .entry)) + j) 0 ⌝ }
+    ensures { λ r. ⌜ r ≡ getD (now (table .entry)) (nodePlace («image-spec».nodes (now (image .entry))) j) 0 ⌝ }
 {
-    word_of(image, table, 4, j)
+    word_of(image, table, SYMBOL_NODES, j)
 }
 
 // Row j is a symbol of the scope with the name.
@@ -176,30 +211,30 @@ pub fn lookup(image: &[u8], table: &[u32], symbols: u32, scope: ScopeId, name: u
 
 // The scope of row j.
 fn row_scope(table: &[u32], n: usize, j: usize) -> usize
-    requires { ⌜ 3 + 3 * n + j < length (now table) ⌝ }
+    requires { ⌜ scopePlace n j < length (now table) ⌝ }
     ensures { λ r. ⌜ r ≡ scopeOf n (now (table .entry)) j ⌝ }
 {
-    ast::wide(table[3 + 3 * n + j])
+    ast::wide(table[COUNTS + SYMBOL_SCOPES * n + j])
 }
 
 // The node of row j.
 fn row_node(table: &[u32], n: usize, j: usize) -> u32
-    requires { ⌜ 3 + 4 * n + j < length (now table) ⌝ }
+    requires { ⌜ nodePlace n j < length (now table) ⌝ }
     ensures { λ r. ⌜ r ≡ nodeAt n (now (table .entry)) j ⌝ }
 {
-    table[3 + 4 * n + j]
+    table[COUNTS + SYMBOL_NODES * n + j]
 }
 
 fn parent_at(table: &[u32], n: usize, scope: usize) -> usize
-    requires { ⌜ 3 + 2 * n + scope < 2 ^ 64 ⌝ }
+    requires { ⌜ parentPlace n scope < 2 ^ 64 ⌝ }
     ensures { λ r. ⌜ r ≡ parentAt n (now (table .entry)) scope ⌝ }
 {
-    ast::wide(get(table, 3 + 2 * n + scope))
+    ast::wide(get(table, COUNTS + PARENTS * n + scope))
 }
 
 // How many of the first `end` rows have scopes up to `scope`, where they stand by rising scope.
 fn rows_up_to(table: &[u32], n: usize, end: usize, scope: usize) -> usize
-    requires { ⌜ 3 + 3 * n + end ≤ length (now table) ⌝ }
+    requires { ⌜ scopePlace n end ≤ length (now table) ⌝ }
     ensures { λ r. ⌜ Cut n end (now (table .entry)) scope r ⌝ }
 {
     let mut low = 0usize;
@@ -217,7 +252,7 @@ fn rows_up_to(table: &[u32], n: usize, end: usize, scope: usize) -> usize
 
 // The same, quick where the last row is such a one, or each scope above has one row: a guess, which is checked.
 fn rows_near(table: &[u32], n: usize, end: usize, scope: usize) -> usize
-    requires { ⌜ 3 + 3 * n + end ≤ length (now table) ⌝ }
+    requires { ⌜ scopePlace n end ≤ length (now table) ⌝ }
     ensures { λ r. ⌜ Cut n end (now (table .entry)) scope r ⌝ }
 {
     if end == 0 {
@@ -241,7 +276,7 @@ fn rows_near(table: &[u32], n: usize, end: usize, scope: usize) -> usize
 
 // How many of the first `end` rows have scopes below `scope`.
 fn rows_before(table: &[u32], n: usize, end: usize, scope: usize) -> usize
-    requires { ⌜ 3 + 3 * n + end ≤ length (now table) ⌝ }
+    requires { ⌜ scopePlace n end ≤ length (now table) ⌝ }
     ensures { λ r. ⌜ Before n end (now (table .entry)) scope r ⌝ }
 {
     if scope == 0 {
@@ -369,7 +404,8 @@ pub fn seek(image: &[u8], table: &[u32], symbols: u32, scope: ScopeId, name: u32
     if is_short(image, n, at) {
         return seek_any(image, table, n, at, end, name);
     }
-    let parents = &table[3 + 2 * n..];
+    let parents = &table[COUNTS + PARENTS * n..];
+    // These two start a word before their arrays: the last of `end` rows stands at `end`.
     let scopes = &table[2 + 3 * n..];
     let nodes = &table[2 + 4 * n..];
     let starts = &image[16 + 4 * n..];
@@ -404,6 +440,23 @@ pub fn seek(image: &[u8], table: &[u32], symbols: u32, scope: ScopeId, name: u32
     Found::Nothing
 }
 
+// Of a kind.
+pub fn is_kind(image: &[u8], found: Found, kind: u32) -> bool
+    ensures { λ r. ⌜ r ≡ «table-spec».isKind (now (image .entry)) kind (optionOf found) ⌝ }
+{
+    match found {
+        Found::At(node) => ast::kind_at(image, node) == kind,
+        Found::Nothing => false,
+    }
+}
+
+// A Var.
+pub fn is_var(image: &[u8], found: Found) -> bool
+    ensures { λ r. ⌜ r ≡ «table-spec».isVar (now (image .entry)) (optionOf found) ⌝ }
+{
+    is_kind(image, found, 13)
+}
+
 // A Var or a Const.
 pub fn is_value(image: &[u8], found: Found) -> bool
     ensures { λ r. ⌜ r ≡ «table-spec».isValue (now (image .entry)) (optionOf found) ⌝ }
@@ -424,14 +477,30 @@ pub fn is_value(image: &[u8], found: Found) -> bool
 pub fn entry_of(image: &[u8], table: &[u32], node: NodeId) -> ScopeId
     ensures { λ r. ⌜ r .0 ≡ «table-spec».entryAt (now (image .entry)) (now (table .entry)) (node .0) ⌝ }
 {
-    ScopeId(get(table, 3 + ast::wide(node.0)))
+    ScopeId(word_of(image, table, ENTRIES, node.0))
 }
 
 pub fn exit_of(image: &[u8], table: &[u32], node: NodeId) -> ScopeId
     ensures { λ r. ⌜ r .0 ≡ «table-spec».exitAt (now (image .entry)) (now (table .entry)) (node .0) ⌝ }
 {
-    let n = ast::wide(ast::node_count(image));
-    ScopeId(get(table, 3 + n + ast::wide(node.0)))
+    ScopeId(word_of(image, table, EXITS, node.0))
+}
+
+// What the name of an IdentTerm is at a node's entry, and at its exit.
+pub fn at_entry(image: &[u8], table: &[u32], symbols: u32, node: NodeId, ident: NodeId) -> Found
+    requires { ⌜ Sorted («image-spec».nodes (now image)) symbols (now table) ⌝ }
+    ensures { λ r. ⌜ optionOf r ≡ «table-spec».atEntry (now (image .entry)) (sought (now (table .entry)) symbols) (node .0) (ident .0) ⌝ }
+{
+    let scope = entry_of(image, table, node);
+    seek(image, table, symbols, scope, ast::name_of(image, ident))
+}
+
+pub fn at_exit(image: &[u8], table: &[u32], symbols: u32, node: NodeId, ident: NodeId) -> Found
+    requires { ⌜ Sorted («image-spec».nodes (now image)) symbols (now table) ⌝ }
+    ensures { λ r. ⌜ optionOf r ≡ «table-spec».atExit (now (image .entry)) (sought (now (table .entry)) symbols) (node .0) (ident .0) ⌝ }
+{
+    let scope = exit_of(image, table, node);
+    seek(image, table, symbols, scope, ast::name_of(image, ident))
 }
 
 // The symbol number of each kind, as the cases of `Symbol` go; 0 for a kind that is no symbol's.
@@ -444,108 +513,4 @@ pub fn symbol_of(kind: u32) -> u32
         return SYMBOLS[kind as usize];
     }
     0
-}
-
-// An optional name that is present: a rule's or an argument's.
-fn has_name(image: &[u8], node: NodeId) -> bool
-    ensures { λ r. ⌜ r ≡ hasName (now (image .entry)) (node .0) ⌝ }
-{
-    if ast::field(image, node, 0) == 0 {
-        return false;
-    }
-    true
-}
-
-// A named node of kind 2 to 10 or 13.
-fn is_symbol(image: &[u8], node: NodeId) -> bool
-    ensures { λ r. ⌜ r ≡ isSymbol (now (image .entry)) (node .0) ⌝ }
-{
-    if ast::node_count(image) <= node.0 {
-        return false;
-    }
-    let kind = ast::kind_at(image, node);
-    if kind == 6 {
-        return has_name(image, node);
-    }
-    if kind == 10 {
-        return has_name(image, node);
-    }
-    if kind == 13 {
-        return true;
-    }
-    if kind < 2 {
-        return false;
-    }
-    kind <= 9
-}
-
-// Each scope but the first has a parent below it.
-fn test_parents(image: &[u8], table: &[u32], scopes: u32) -> u32
-    ensures { λ r. ⌜ r ≡ run (parentBelow (now (image .entry)) (now (table .entry))) (scopes - 1) 1 ⌝ }
-{
-    let mut s = 1u32;
-    while s < scopes {
-        if s <= parent_of(image, table, ScopeId(s)) {
-            return 16;
-        }
-        s += 1;
-    }
-    0
-}
-
-// A symbol row: a scope below K and a named node.
-fn test_row(image: &[u8], table: &[u32], j: u32) -> u32
-    ensures { λ r. ⌜ r ≡ rowSound (now (image .entry)) (now (table .entry)) j ⌝ }
-{
-    if get(table, 1) <= symbol_scope(image, table, j) {
-        return 16;
-    }
-    let node = NodeId(symbol_node(image, table, j));
-    if is_symbol(image, node) {
-        return 0;
-    }
-    16
-}
-
-fn test_rows(image: &[u8], table: &[u32], symbols: u32) -> u32
-    ensures { λ r. ⌜ r ≡ run (rowSound (now (image .entry)) (now (table .entry))) symbols 0 ⌝ }
-{
-    let mut j = 0u32;
-    while j < symbols {
-        let code = test_row(image, table, j);
-        if code != 0 {
-            return code;
-        }
-        j += 1;
-    }
-    0
-}
-
-// Refusal 16: a table that is not sound.
-pub fn test_sound(image: &[u8], table: &[u32]) -> u32
-    ensures { λ r. ⌜ r ≡ testSound (now (image .entry)) (now (table .entry)) ⌝ }
-{
-    let n = ast::node_count(image);
-    let scopes = get(table, 1);
-    let symbols = get(table, 2);
-    if get(table, 0) != n {
-        return 16;
-    }
-    if scopes == 0 {
-        return 16;
-    }
-    if n < scopes {
-        return 16;
-    }
-    if n < symbols {
-        return 16;
-    }
-    if parent_of(image, table, ScopeId(0)) != 4294967295 {
-        return 16;
-    }
-    let code = test_parents(image, table, scopes);
-    if code != 0 {
-        return code;
-    }
-    test_rows(image, table, symbols)
 }

@@ -1,1 +1,3 @@
-pub mod ImageAnswers
+pub mod Fields
+pub mod Parts
+pub mod Whole

@@ -2,24 +2,26 @@
 //! slow and plain; what it says is compared with the original Rust on accepted images and with this library on all.
 
 pub mod checks;
+pub mod layout;
 pub mod sight;
 pub mod tests;
 pub mod walk;
 
 use crate::calls::{Answer, Calls};
+use layout::{rows_words, table_words};
 use tests::{table_refusal, verdict};
 use walk::{Resolved, Walk};
 
 pub struct Reading;
 
-/// The first 3 + 5N words of a table, as Resolve leaves them.
+/// The first words of a table, as Resolve leaves them.
 fn put_table(table: &mut [u32], words: &[u32]) {
     table[..words.len()].copy_from_slice(words);
 }
 
 /// A count, then two arrays of N words.
 fn put_rows(rows: &mut [u32], n: usize, list: &[(u32, u32)]) {
-    rows[..1 + 2 * n].fill(0);
+    rows[..rows_words(n)].fill(0);
     rows[0] = list.len() as u32;
     for (i, &(left, right)) in list.iter().enumerate() {
         rows[1 + i] = left;
@@ -31,7 +33,7 @@ impl Reading {
     /// Resolves an image that is not refused; "twice" leaves the table's words zero.
     fn walked(image: &[u8], table: &mut [u32]) -> Result<Resolved, Answer> {
         let walk = Walk::new(image);
-        let words = 3 + 5 * walk.rows.n;
+        let words = table_words(walk.rows.n);
         match walk.module() {
             Ok(resolved) => {
                 put_table(table, &resolved.words());

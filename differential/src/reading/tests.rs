@@ -3,6 +3,8 @@
 
 use std::collections::HashSet;
 
+use super::layout::{rows_words, table_words};
+
 pub struct Sizes {
     pub n: usize,
     pub c: usize,
@@ -293,10 +295,10 @@ pub fn verdict(image: &[u8]) -> Option<u32> {
 
 /// The first refusal of 1 to 13, for a table of so many words.
 pub fn table_refusal(image: &[u8], table: usize) -> Option<u32> {
-    verdict(image).or_else(|| (table < 3 + 5 * sizes(image).n).then_some(13))
+    verdict(image).or_else(|| (table < table_words(sizes(image).n)).then_some(13))
 }
 
 /// The first refusal of 1 to 14.
 pub fn rows_refusal(image: &[u8], table: usize, rows: usize) -> Option<u32> {
-    table_refusal(image, table).or_else(|| (rows < 1 + 2 * sizes(image).n).then_some(14))
+    table_refusal(image, table).or_else(|| (rows < rows_words(sizes(image).n)).then_some(14))
 }

@@ -1,5 +1,6 @@
 //! The walk of document 01 over an accepted image, lookup, and the table's words.
 
+use super::layout::{place, Array};
 use super::tests::{fields, name_span, sizes, word, Field};
 use crate::calls::Answer;
 
@@ -144,7 +145,7 @@ pub struct Resolved {
 }
 
 impl Resolved {
-    /// The table's words: N, K, Y, then five arrays.
+    /// The table's words: N, K, Y, then the arrays.
     pub fn words(&self) -> Vec<u32> {
         let n = self.rows.n;
         let mut words = vec![n as u32, self.parents.len() as u32, self.symbols.len() as u32];
@@ -419,12 +420,16 @@ impl Lent<'_> {
         self.words[2]
     }
 
+    fn at(&self, array: Array, i: u32) -> u32 {
+        self.words[place(array, self.rows.n, i as usize)]
+    }
+
     fn parent(&self, scope: u32) -> u32 {
-        self.words[3 + 2 * self.rows.n + scope as usize]
+        self.at(Array::Parent, scope)
     }
 
     fn symbol(&self, j: u32) -> (u32, u32) {
-        (self.words[3 + 3 * self.rows.n + j as usize], self.words[3 + 4 * self.rows.n + j as usize])
+        (self.at(Array::SymbolScope, j), self.at(Array::SymbolNode, j))
     }
 
     fn sound(&self) -> bool {

@@ -7,8 +7,8 @@ use Rattle.table.specs.Values.{tableOf}
 use Rattle.ast.specs.Image.{nodes, field}
 use Rattle.rows.proofs.Appends.{appended-next}
 use Rattle.rows.proofs.Parts.{appended-as, appended-no, Left, left-start, left-next, left-end}
-use Rattle.ordered.proofs.Blocks.{BlocksFrom, blocks-from, blocks-place}
-use Rattle.bindings.specs.Checks.{inside, listed}
+use Rattle.ast.proofs.Blocks.{BlocksFrom, blocks-from, blocks-place}
+use Rattle.bindings.specs.Promises.{inside, listed}
 use Rattle.bindings.proofs.Epic.{room-as, room-first, room-rest, room-left, listed-start, listed-end}
 use Rattle.bindings.proofs.Bodies.{blocksLeft, blocks-whole, block-item, blocks-end, cases-start, cases-item, case-whole, case-run, stmt-if, stmt-then, stmt-branch, stmt-match, stmt-last, stmts-item}
 use Prim.Native.Nat.{ℕ, _<_}
@@ -149,10 +149,10 @@ walk-branch-walk-stmt-block-requires : (t : ℕ) → walk-branch-lts.Need-walk-s
 walk-branch-walk-stmt-block-requires t c κs = let o = block-item _ _ (c .before .before .before .before .before .before .before .before .before .before .pre .1 .is) (c .before .before .before .before .loop .inv .0) (omega arith) (c .before .wide2 .ensures ∙ c .before .before .field2 .ensures) in (omega arith, record { run = o .run; room = room-left _ (c .before .before .before .before .before .before .before .before .before .before .pre .1 .room .rising) (c .before .before .before .before .loop .inv .1) (o .same) })
 
 walk-branch-add-j : (t : ℕ) → walk-branch-lts.Need-add-j (walk-branch-claims t) (walk-branch-at t) walk-branch.Post walk-branch-Inv-loop walk-branch-μ-loop
-walk-branch-add-j t c = let b = (block-item _ (tableOf (c .before .before .before .before .before .before .before .before .before .before .before .before .before .args .w) (c .before .before .before .before .before .before .before .before .before .before .before .before .before .args .table .now)) (c .before .before .before .before .before .before .before .before .before .before .before .before .before .pre .1 .is) (c .before .before .before .before .before .before .before .loop .inv .0) (omega arith) (c .before .before .before .before .wide2 .ensures ∙ c .before .before .before .before .before .field2 .ensures)) .fits in omega arith
+walk-branch-add-j t c = let b = (block-item _ (tableOf (c .before .before .before .before .before .before .before .before .before .before .before .before .before .args .w) (c .before .before .before .before .before .before .before .before .before .before .before .before .before .args .table .now)) (c .before .before .before .before .before .before .before .before .before .before .before .before .before .pre .1 .is) (c .before .before .before .before .before .before .before .loop .inv .0) (omega arith) (c .before .before .before .before .wide2 .ensures ∙ c .before .before .before .before .before .field2 .ensures)) .run .short in omega arith
 
 walk-branch-add-j-2 : (t : ℕ) → walk-branch-lts.Need-add-j-2 (walk-branch-claims t) (walk-branch-at t) walk-branch.Post walk-branch-Inv-loop walk-branch-μ-loop
-walk-branch-add-j-2 t c = let b = (block-item _ (tableOf (c .before .before .before .before .before .before .before .before .before .before .before .before .before .args .w) (c .before .before .before .before .before .before .before .before .before .before .before .before .before .args .table .now)) (c .before .before .before .before .before .before .before .before .before .before .before .before .before .pre .1 .is) (c .before .before .before .before .before .before .before .loop .inv .0) (omega arith) (c .before .before .before .before .wide2 .ensures ∙ c .before .before .before .before .before .field2 .ensures)) .fits in omega arith
+walk-branch-add-j-2 t c = let b = (block-item _ (tableOf (c .before .before .before .before .before .before .before .before .before .before .before .before .before .args .w) (c .before .before .before .before .before .before .before .before .before .before .before .before .before .args .table .now)) (c .before .before .before .before .before .before .before .before .before .before .before .before .before .pre .1 .is) (c .before .before .before .before .before .before .before .loop .inv .0) (omega arith) (c .before .before .before .before .wide2 .ensures ∙ c .before .before .before .before .before .field2 .ensures)) .run .short in omega arith
 
 walk-branch-add-i : (t : ℕ) → walk-branch-lts.Need-add-i (walk-branch-claims t) (walk-branch-at t) walk-branch.Post walk-branch-Inv-loop walk-branch-μ-loop
 walk-branch-add-i t c = search needs

@@ -5,7 +5,7 @@ use Prim.Native.Nat.{_+_, _*_, _-_, _≤_}
 use Rattle.table.specs.Values.{tableOf}
 use Rattle.ast.specs.Image.{nodes}
 use Rattle.rows.proofs.Parts.{appended-as, appended-no, Left, left-start, left-next, left-end}
-use Rattle.bindings.specs.Checks.{declared}
+use Rattle.bindings.specs.Promises.{declared}
 use Rattle.bindings.proofs.Epic.{room-as, room-left}
 use Rattle.bindings.proofs.RowLaws.{decl-none}
 use Rattle.bindings.proofs.Bodies.{declared-start, declared-end, decls-item, decl-rule, decl-model}

@@ -1,6 +1,7 @@
 use mathlib.Core.Path.{sym, ap, _∙_}
 use mathlib.Core.Option.{some}
 use Rattle.bindings.specs.Errors.{sameNode}
+use Rattle.table.specs.Table.{lookup}
 use Rattle.table.specs.Values.{optionOf}
 use borrow.Author.Needs.{needs}
 use Rattle.bindings.proofs.binding_visible_before.Statement.{statement}
@@ -16,11 +17,11 @@ enum-told : tie.Need-enum-told
 enum-told c = search needs
 
 returns : tie.Need-returns
-unfolding sameNode
+unfolding sameNode lookup
 returns c = sym (ap (sameNode (some (c .before .before .before .before .before .before .before .before .args .binding .0))) (sym (c .before .before .before .before .before .at-entry .ensures) ∙ ap optionOf (c .before .before .before .node .given .1)))
 
 returns-2 : tie.Need-returns-2
-unfolding sameNode
+unfolding sameNode lookup
 returns-2 c = sym (ap (sameNode (some (c .before .before .before .before .before .args .binding .0))) (sym (c .before .before .at-entry .ensures) ∙ ap optionOf (c .enum-told .given .1)))
 
 pub binding-visible-before-spec : {M : Type 1} → statement M

@@ -3,7 +3,7 @@ use borrow.Author.Needs.{needs}
 use Prim.Native.Nat.{_-_, _≤_}
 use Rattle.table.specs.Values.{tableOf}
 use Rattle.ast.specs.Image.{nodes}
-use Rattle.bindings.specs.Checks.{ofArgs}
+use Rattle.bindings.specs.Promises.{ofArgs}
 use Rattle.bindings.proofs.Epic.{room-left}
 use Rattle.rows.proofs.Parts.{Left, left-start, left-next, left-end}
 use Rattle.bindings.proofs.Bodies.{argsLeft, args-start, args-item, args-end}

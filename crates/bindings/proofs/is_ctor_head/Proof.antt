@@ -1,5 +1,5 @@
 use mathlib.Core.Path.{sym, ap, _∙_}
-use Rattle.table.specs.Table.{isKind}
+use Rattle.table.specs.Table.{lookup, isKind}
 use Rattle.bindings.proofs.RowLaws.{ctor-none, ctor-ident}
 use borrow.Author.Needs.{needs}
 use Rattle.bindings.proofs.is_ctor_head.Statement.{statement}
@@ -21,6 +21,7 @@ is-kind-requires : tie.Need-is-kind-requires
 is-kind-requires c κs = search needs
 
 returns-2 : tie.Need-returns-2
+unfolding lookup
 returns-2 c = c .is-kind .ensures ∙ ap (isKind _ 9) (c .before .at-exit .ensures) ∙ sym (ctor-ident _ _ (c .before .before .before .before .before .before .before .pre .is) (sym (c .before .before .before .if1 .left) ∙ c .before .before .before .before .field .ensures) (c .before .before .field2 .ensures))
 
 pub is-ctor-head-spec : {M : Type 1} → statement M

@@ -3,7 +3,7 @@ use native.Mathlib.Omega.{arith}
 use borrow.Author.Needs.{needs}
 use Prim.Native.Nat.{_-_, _≤_}
 use Rattle.bindings.specs.Errors.{repeated, repeatedIn}
-use Rattle.bindings.specs.Checks.{marked}
+use Rattle.bindings.specs.Promises.{marked}
 use Rattle.bindings.proofs.Marking.{argsFrom, no-list, list-is, list-start, list-next, none-marked, arg-low}
 use Rattle.bindings.proofs.mark_list.Statement.{statement}
 use Rattle.bindings.proofs.mark_list.Tie as tie

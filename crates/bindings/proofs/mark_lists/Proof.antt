@@ -3,7 +3,7 @@ use native.Mathlib.Omega.{arith}
 use borrow.Author.Needs.{needs}
 use Prim.Native.Nat.{_-_, _≤_}
 use Rattle.bindings.specs.Errors.{repeatedIn, repeatedTo}
-use Rattle.bindings.specs.Checks.{marked}
+use Rattle.bindings.specs.Promises.{marked}
 use Rattle.bindings.proofs.Marking.{to-start, to-next, to-end}
 use Rattle.bindings.proofs.mark_lists.Statement.{statement}
 use Rattle.bindings.proofs.mark_lists.Tie as tie

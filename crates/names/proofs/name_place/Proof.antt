@@ -1,9 +1,9 @@
 use mathlib.Core.Path.{sym, _∙_}
 use native.Mathlib.Omega.{arith}
 use Rattle.ast.proofs.Accepted.{passed, named}
-use Rattle.ast.proofs.Names.{name-fits}
+use Rattle.names.proofs.Names.{name-fits}
 use Rattle.names.proofs.NameParts.{place-refused, place-beyond, place-is}
-use Rattle.ast.proofs.Whole.{sized-within}
+use Rattle.tests.proofs.Whole.{sized-within}
 use Rattle.names.proofs.name_place.Statement.{statement}
 use Rattle.names.proofs.name_place.Tie as tie
 

@@ -6,7 +6,7 @@ use Rattle.ast.specs.Kinds.{inner, plain, kindOf}
 use Rattle.ast.proofs.Shapes.{case-last}
 use Rattle.rows.proofs.Appends.{appended-next}
 use Rattle.rows.proofs.Parts.{Left, left-start, left-next, left-end}
-use Rattle.occurrences.specs.Collect.{sought, rowsIn, rowsAt}
+use Rattle.occurrences.specs.Promises.{rowsIn, rowsAt}
 use Rattle.occurrences.proofs.CollectRows.{bare, items-none}
 use Rattle.occurrences.proofs.CollectSteps.{appended-as, under, one, plain-sub, stmtKinds, item, run-start, matchCase, matchOf, BlocksLeft, blocks-start, blocks-place, blockOf, blocks-end}
 use Prim.Native.Nat.{ℕ, _<_}
@@ -35,6 +35,7 @@ use Rattle.occurrences.proofs.collect_then_atom.Reads as collect-then-a
 use Rattle.occurrences.proofs.+collect_branch+collect_case+collect_match+collect_stmt+collect_stmts.{statement}
 use Rattle.occurrences.proofs.+collect_branch+collect_case+collect_match+collect_stmt+collect_stmts.Tie.{close}
 use borrow.Author.Needs.{needs}
+use Rattle.table.specs.Values.{sought}
 
 abbrev μ-collect-branch : Measures 3 collect-branch-kinds.ps ℕ
 μ-collect-branch κs a = 3 * a .1 .1 .1 .1 .1 .0 .0 + 2
@@ -158,10 +159,10 @@ collect-branch-collect-stmts-requires : (t : ℕ) → collect-branch-lts.Need-co
 collect-branch-collect-stmts-requires t c κs = (omega arith, (blockOf _ _ (c .before .before .before .before .before .before .before .before .before .before .pre .1) (c .before .before .before .before .loop .inv) (omega arith) (c .before .wide2 .ensures ∙ c .before .before .field2 .ensures)) .run)
 
 collect-branch-add-j : (t : ℕ) → collect-branch-lts.Need-add-j (collect-branch-claims t) (collect-branch-at t) collect-branch.Post collect-branch-Inv-loop collect-branch-μ-loop
-collect-branch-add-j t c = let l = (blockOf _ _ (c .before .before .before .before .before .before .before .before .before .before .before .before .before .pre .1) (c .before .before .before .before .before .before .before .loop .inv) (omega arith) (c .before .before .before .before .wide2 .ensures ∙ c .before .before .before .before .before .field2 .ensures)) .fits in omega arith
+collect-branch-add-j t c = let l = (blockOf _ _ (c .before .before .before .before .before .before .before .before .before .before .before .before .before .pre .1) (c .before .before .before .before .before .before .before .loop .inv) (omega arith) (c .before .before .before .before .wide2 .ensures ∙ c .before .before .before .before .before .field2 .ensures)) .run .run .short in omega arith
 
 collect-branch-add-j-2 : (t : ℕ) → collect-branch-lts.Need-add-j-2 (collect-branch-claims t) (collect-branch-at t) collect-branch.Post collect-branch-Inv-loop collect-branch-μ-loop
-collect-branch-add-j-2 t c = let l = (blockOf _ _ (c .before .before .before .before .before .before .before .before .before .before .before .before .before .pre .1) (c .before .before .before .before .before .before .before .loop .inv) (omega arith) (c .before .before .before .before .wide2 .ensures ∙ c .before .before .before .before .before .field2 .ensures)) .fits in omega arith
+collect-branch-add-j-2 t c = let l = (blockOf _ _ (c .before .before .before .before .before .before .before .before .before .before .before .before .before .pre .1) (c .before .before .before .before .before .before .before .loop .inv) (omega arith) (c .before .before .before .before .wide2 .ensures ∙ c .before .before .before .before .before .field2 .ensures)) .run .run .short in omega arith
 
 collect-branch-add-i : (t : ℕ) → collect-branch-lts.Need-add-i (collect-branch-claims t) (collect-branch-at t) collect-branch.Post collect-branch-Inv-loop collect-branch-μ-loop
 collect-branch-add-i t c = search needs
@@ -221,10 +222,10 @@ collect-match-loop-holds : (t : ℕ) → collect-match-lts.Need-loop-holds (coll
 collect-match-loop-holds t c = (omega arith, left-start _ _ (run-start _ _ _ _ _) (((matchOf _ _ (c .before .before .before .before .before .before .before .before .before .before .pre .1) (c .before .before .before .before .before .before .field .ensures) (c .before .before .before .before .wide .ensures ∙ c .before .before .before .before .before .field2 .ensures)) .second (c .before .before .collect-term .ensures .count)) .room .fits))
 
 collect-match-add-field : (t : ℕ) → collect-match-lts.Need-add-field (collect-match-claims t) (collect-match-at t) collect-match.Post collect-match-Inv-loop collect-match-μ-loop
-collect-match-add-field t c = let s = ((matchOf _ _ (c .before .before .before .before .before .before .before .before .before .before .before .before .pre .1) (c .before .before .before .before .before .before .before .before .field .ensures) (c .before .before .before .before .before .before .wide .ensures ∙ c .before .before .before .before .before .before .before .field2 .ensures)) .second (c .before .before .before .before .collect-term .ensures .count)) .short in omega arith
+collect-match-add-field t c = let s = ((matchOf _ _ (c .before .before .before .before .before .before .before .before .before .before .before .before .pre .1) (c .before .before .before .before .before .before .before .before .field .ensures) (c .before .before .before .before .before .before .wide .ensures ∙ c .before .before .before .before .before .before .before .field2 .ensures)) .second (c .before .before .before .before .collect-term .ensures .count)) .run .short in omega arith
 
 collect-match-field-requires-3 : (t : ℕ) → collect-match-lts.Need-field-requires-3 (collect-match-claims t) (collect-match-at t) collect-match.Post collect-match-Inv-loop collect-match-μ-loop
-collect-match-field-requires-3 t c κs = let s = ((matchOf _ _ (c .before .before .before .before .before .before .before .before .before .before .before .before .pre .1) (c .before .before .before .before .before .before .before .before .field .ensures) (c .before .before .before .before .before .before .wide .ensures ∙ c .before .before .before .before .before .before .before .field2 .ensures)) .second (c .before .before .before .before .collect-term .ensures .count)) .short in omega arith
+collect-match-field-requires-3 t c κs = let s = ((matchOf _ _ (c .before .before .before .before .before .before .before .before .before .before .before .before .pre .1) (c .before .before .before .before .before .before .before .before .field .ensures) (c .before .before .before .before .before .before .wide .ensures ∙ c .before .before .before .before .before .before .before .field2 .ensures)) .second (c .before .before .before .before .collect-term .ensures .count)) .run .short in omega arith
 
 collect-match-collect-case-requires : (t : ℕ) → collect-match-lts.Need-collect-case-requires (collect-match-claims t) (collect-match-at t) collect-match.Post collect-match-Inv-loop collect-match-μ-loop
 unfolding kindOf bare
@@ -313,10 +314,10 @@ collect-stmts-loop-holds : (t : ℕ) → collect-stmts-lts.Need-loop-holds (coll
 collect-stmts-loop-holds t c = (omega arith, left-start _ _ (run-start _ _ _ _ _) (c .before .before .before .pre .1 .room .fits))
 
 collect-stmts-add-field : (t : ℕ) → collect-stmts-lts.Need-add-field (collect-stmts-claims t) (collect-stmts-at t) collect-stmts.Post collect-stmts-Inv-loop collect-stmts-μ-loop
-collect-stmts-add-field t c = let s = c .before .before .before .before .before .pre .1 .short in omega arith
+collect-stmts-add-field t c = let s = c .before .before .before .before .before .pre .1 .run .short in omega arith
 
 collect-stmts-field-requires : (t : ℕ) → collect-stmts-lts.Need-field-requires (collect-stmts-claims t) (collect-stmts-at t) collect-stmts.Post collect-stmts-Inv-loop collect-stmts-μ-loop
-collect-stmts-field-requires t c κs = let s = c .before .before .before .before .before .pre .1 .short in omega arith
+collect-stmts-field-requires t c κs = let s = c .before .before .before .before .before .pre .1 .run .short in omega arith
 
 collect-stmts-collect-stmt-requires : (t : ℕ) → collect-stmts-lts.Need-collect-stmt-requires (collect-stmts-claims t) (collect-stmts-at t) collect-stmts.Post collect-stmts-Inv-loop collect-stmts-μ-loop
 unfolding kindOf bare

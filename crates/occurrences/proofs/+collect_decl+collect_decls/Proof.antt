@@ -3,7 +3,7 @@ use native.Mathlib.Omega.{arith}
 use Prim.Native.Nat.{ℕ, _+_, _*_, _-_, _≤_}
 use Rattle.ast.specs.Image.{nodes}
 use Rattle.rows.proofs.Parts.{Left, appended-no}
-use Rattle.occurrences.specs.Collect.{sought, joined, listsAt}
+use Rattle.occurrences.specs.Promises.{joined, listsAt}
 use Rattle.occurrences.proofs.CollectRules.{declared, decl-none, modelRun, decls-start, decls-item, decls-next, decls-end}
 use Rattle.occurrences.proofs.CollectSteps.{appended-as}
 use Prim.Native.Nat.{_<_}
@@ -21,6 +21,7 @@ use Rattle.occurrences.proofs.collect_rule.Reads as collect-rule-reads
 use Rattle.occurrences.proofs.+collect_decl+collect_decls.{statement}
 use Rattle.occurrences.proofs.+collect_decl+collect_decls.Tie.{close}
 use borrow.Author.Needs.{needs}
+use Rattle.table.specs.Values.{sought}
 
 abbrev μ-collect-decl : Measures 3 collect-decl-kinds.ps ℕ
 μ-collect-decl κs a = 2 * a .1 .1 .1 .1 .1 .0 .0
@@ -102,10 +103,10 @@ collect-decls-loop-holds : (t : ℕ) → collect-decls-lts.Need-loop-holds (coll
 collect-decls-loop-holds t c = (omega arith, decls-start _ _ (c .before .before .before .pre .1))
 
 collect-decls-add-field : (t : ℕ) → collect-decls-lts.Need-add-field (collect-decls-claims t) (collect-decls-at t) collect-decls.Post collect-decls-Inv-loop collect-decls-μ-loop
-collect-decls-add-field t c = let s = c .before .before .before .before .before .pre .1 .short in omega arith
+collect-decls-add-field t c = let s = c .before .before .before .before .before .pre .1 .run .short in omega arith
 
 collect-decls-field-requires : (t : ℕ) → collect-decls-lts.Need-field-requires (collect-decls-claims t) (collect-decls-at t) collect-decls.Post collect-decls-Inv-loop collect-decls-μ-loop
-collect-decls-field-requires t c κs = let s = c .before .before .before .before .before .pre .1 .short in omega arith
+collect-decls-field-requires t c κs = let s = c .before .before .before .before .before .pre .1 .run .short in omega arith
 
 collect-decls-collect-decl-requires : (t : ℕ) → collect-decls-lts.Need-collect-decl-requires (collect-decls-claims t) (collect-decls-at t) collect-decls.Post collect-decls-Inv-loop collect-decls-μ-loop
 collect-decls-collect-decl-requires t c κs = let o = decls-item _ _ (c .before .before .before .before .before .before .before .pre .1) (omega arith) (c .before .field .ensures) (c .before .before .before .loop .inv .1) in (let l = o .low in omega arith, o .listing)

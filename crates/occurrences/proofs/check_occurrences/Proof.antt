@@ -1,7 +1,7 @@
 use mathlib.Core.Path.{sym, ap, _∙_}
 use Rattle.scopes.proofs.Calls.{call-refused, call-stopped}
 use Rattle.occurrences.specs.Occurrences.{loneAnswer, once}
-use Rattle.occurrences.specs.Collect.{loneOf}
+use Rattle.occurrences.specs.Promises.{loneOf}
 use Rattle.occurrences.proofs.CollectCalls.{whole, symbols, once-checked}
 use borrow.Author.Needs.{needs}
 use Rattle.occurrences.proofs.check_occurrences.Statement.{statement}

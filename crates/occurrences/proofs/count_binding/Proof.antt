@@ -3,7 +3,7 @@ use mathlib.Core.Bool.{Bool}
 use lib.ListN.{getD, set}
 use borrow.Author.Needs.{needs}
 use Rattle.ast.proofs.Scans.{bump-first, bump-again}
-use Rattle.occurrences.specs.Collect.{recount}
+use Rattle.occurrences.specs.Promises.{recount}
 use Rattle.occurrences.proofs.count_binding.Statement.{statement}
 use Rattle.occurrences.proofs.count_binding.Tie as tie
 

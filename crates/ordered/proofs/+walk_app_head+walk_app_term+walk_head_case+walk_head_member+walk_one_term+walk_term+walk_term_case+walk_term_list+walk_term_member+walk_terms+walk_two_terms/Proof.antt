@@ -7,7 +7,7 @@ use Rattle.table.specs.State.{Exit, marked, unmarked}
 use Rattle.table.specs.Values.{exitOf}
 use Rattle.ast.proofs.Shapes.{term-last, head-last}
 use Rattle.ordered.specs.Walk.{occurs, names}
-use Rattle.ordered.specs.Walkers.{Ready, over, rest}
+use Rattle.ordered.specs.Promises.{Ready, over, rest}
 use Rattle.ordered.proofs.Lists.{Left, rest-end, headMemberOf, list-run, runItem, list-whole}
 use Rattle.ordered.proofs.Steps.{one, two, memberOf, term-whole, term-wrapped, term-wrapped-one, term-wild, head-whole, head-wrapped, head-ident}
 use Prim.Native.Nat.{_+_, _*_, _-_}

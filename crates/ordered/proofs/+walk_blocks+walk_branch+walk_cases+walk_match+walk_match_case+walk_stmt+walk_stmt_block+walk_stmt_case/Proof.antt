@@ -6,7 +6,7 @@ use Rattle.ast.specs.Kinds.{kindOf}
 use Rattle.table.specs.State.{Exit, marked, back}
 use Rattle.table.specs.Values.{exitOf}
 use Rattle.ordered.specs.Walk.{occurs}
-use Rattle.ordered.specs.Walkers.{rest, Run}
+use Rattle.ordered.specs.Promises.{rest, ReadyRun}
 use Rattle.ordered.proofs.Atoms.{plain-wrapped, plain-last}
 use Rattle.ordered.proofs.Lists.{Left, rest-end, runItem}
 use Rattle.ordered.proofs.Steps.{plain-whole}
@@ -216,10 +216,10 @@ walk-blocks-walk-stmt-block-requires : (t : ℕ) → walk-blocks-lts.Need-walk-s
 walk-blocks-walk-stmt-block-requires t c κs = (omega arith, (blockItem _ (c .before .before .before .before .before .before .before .before .before .pre .1) (c .before .before .before .before .loop .inv) (omega arith) (c .before .wide2 .ensures ∙ c .before .before .field2 .ensures)) .run)
 
 walk-blocks-add-j : (t : ℕ) → walk-blocks-lts.Need-add-j (walk-blocks-claims t) (walk-blocks-at t) walk-blocks.Post walk-blocks-Inv-loop walk-blocks-μ-loop
-walk-blocks-add-j t c = let b = (blockItem _ (c .before .before .before .before .before .before .before .before .before .before .before .before .before .pre .1) (c .before .before .before .before .before .before .before .before .loop .inv) (omega arith) (c .before .before .before .before .before .wide2 .ensures ∙ c .before .before .before .before .before .before .field2 .ensures)) .fits in omega arith
+walk-blocks-add-j t c = let b = (blockItem _ (c .before .before .before .before .before .before .before .before .before .before .before .before .before .pre .1) (c .before .before .before .before .before .before .before .before .loop .inv) (omega arith) (c .before .before .before .before .before .wide2 .ensures ∙ c .before .before .before .before .before .before .field2 .ensures)) .run .run .short in omega arith
 
 walk-blocks-add-j-2 : (t : ℕ) → walk-blocks-lts.Need-add-j-2 (walk-blocks-claims t) (walk-blocks-at t) walk-blocks.Post walk-blocks-Inv-loop walk-blocks-μ-loop
-walk-blocks-add-j-2 t c = let b = (blockItem _ (c .before .before .before .before .before .before .before .before .before .before .before .before .before .pre .1) (c .before .before .before .before .before .before .before .before .loop .inv) (omega arith) (c .before .before .before .before .before .wide2 .ensures ∙ c .before .before .before .before .before .before .field2 .ensures)) .fits in omega arith
+walk-blocks-add-j-2 t c = let b = (blockItem _ (c .before .before .before .before .before .before .before .before .before .before .before .before .before .pre .1) (c .before .before .before .before .before .before .before .before .loop .inv) (omega arith) (c .before .before .before .before .before .wide2 .ensures ∙ c .before .before .before .before .before .before .field2 .ensures)) .run .run .short in omega arith
 
 walk-blocks-add-i : (t : ℕ) → walk-blocks-lts.Need-add-i (walk-blocks-claims t) (walk-blocks-at t) walk-blocks.Post walk-blocks-Inv-loop walk-blocks-μ-loop
 walk-blocks-add-i t c = search needs
@@ -294,7 +294,7 @@ walk-match-walk-term-requires : (t : ℕ) → walk-match-lts.Need-walk-term-requ
 walk-match-walk-term-requires t c κs = (matchOf _ (c .before .before .before .before .pre .1) (c .before .field .ensures)) .first
 
 walk-match-walk-cases-requires : (t : ℕ) → walk-match-lts.Need-walk-cases-requires (walk-match-claims t) (walk-match-at t) walk-match.Post
-walk-match-walk-cases-requires t c κs = (omega arith, subst (Run _ 35 _ 2 _) (sym (c .before .before .before .walk-term .ensures)) ((matchOf _ (c .before .before .before .before .before .before .before .before .pre .1) (c .before .before .before .before .before .field .ensures)) .second))
+walk-match-walk-cases-requires t c κs = (omega arith, subst (ReadyRun _ 35 _ 2 _) (sym (c .before .before .before .walk-term .ensures)) ((matchOf _ (c .before .before .before .before .before .before .before .before .pre .1) (c .before .before .before .before .before .field .ensures)) .second))
 
 walk-match-leave-requires : (t : ℕ) → walk-match-lts.Need-leave-requires (walk-match-claims t) (walk-match-at t) walk-match.Post
 walk-match-leave-requires t c κs = search needs
@@ -319,7 +319,7 @@ walk-match-case-walk-term-requires t c κs = (matchCase _ (c .before .before .be
 
 walk-match-case-walk-stmt-block-requires :
     (t : ℕ) → walk-match-case-lts.Need-walk-stmt-block-requires (walk-match-case-claims t) (walk-match-case-at t) walk-match-case.Post
-walk-match-case-walk-stmt-block-requires t c κs = (omega arith, subst (Run _ 36 _ 2 _) (sym (c .before .before .before .walk-term .ensures)) ((matchCase _ (c .before .before .before .before .before .before .before .before .before .before .pre .1) (c .before .before .before .before .before .before .before .field .ensures) (c .before .before .before .before .before .wide .ensures ∙ c .before .before .before .before .before .before .field2 .ensures)) .second))
+walk-match-case-walk-stmt-block-requires t c κs = (omega arith, subst (ReadyRun _ 36 _ 2 _) (sym (c .before .before .before .walk-term .ensures)) ((matchCase _ (c .before .before .before .before .before .before .before .before .before .before .pre .1) (c .before .before .before .before .before .before .before .field .ensures) (c .before .before .before .before .before .wide .ensures ∙ c .before .before .before .before .before .before .field2 .ensures)) .second))
 
 walk-match-case-leave-requires : (t : ℕ) → walk-match-case-lts.Need-leave-requires (walk-match-case-claims t) (walk-match-case-at t) walk-match-case.Post
 walk-match-case-leave-requires t c κs = search needs
@@ -353,10 +353,10 @@ walk-stmt-block-loop-holds : (t : ℕ) → walk-stmt-block-lts.Need-loop-holds (
 walk-stmt-block-loop-holds t c = record { within = omega arith; long = refl; left = refl }
 
 walk-stmt-block-add-field : (t : ℕ) → walk-stmt-block-lts.Need-add-field (walk-stmt-block-claims t) (walk-stmt-block-at t) walk-stmt-block.Post walk-stmt-block-Inv-loop walk-stmt-block-μ-loop
-walk-stmt-block-add-field t c = let b = c .before .before .before .before .pre .1 .short in omega arith
+walk-stmt-block-add-field t c = let b = c .before .before .before .before .pre .1 .run .short in omega arith
 
 walk-stmt-block-field-requires : (t : ℕ) → walk-stmt-block-lts.Need-field-requires (walk-stmt-block-claims t) (walk-stmt-block-at t) walk-stmt-block.Post walk-stmt-block-Inv-loop walk-stmt-block-μ-loop
-walk-stmt-block-field-requires t c κs = let b = c .before .before .before .before .pre .1 .short in omega arith
+walk-stmt-block-field-requires t c κs = let b = c .before .before .before .before .pre .1 .run .short in omega arith
 
 walk-stmt-block-walk-stmt-requires : (t : ℕ) → walk-stmt-block-lts.Need-walk-stmt-requires (walk-stmt-block-claims t) (walk-stmt-block-at t) walk-stmt-block.Post walk-stmt-block-Inv-loop walk-stmt-block-μ-loop
 walk-stmt-block-walk-stmt-requires t c κs = let o = runItem _ (c .before .before .before .before .before .before .pre .1) (c .before .before .loop-test .taken) (c .before .field .ensures) (c .before .before .before .loop .inv .left) in (let l = o .low in omega arith, o .ready)

@@ -3,7 +3,7 @@ use native.Mathlib.Omega.{arith}
 use Rattle.table.specs.State.{introduce, childScope, ownSymbol}
 use Rattle.table.specs.Table.{newScope, newSymbol}
 use Rattle.table.specs.Values.{exitOf}
-use Rattle.ordered.specs.Walkers.{Room}
+use Rattle.ordered.specs.Promises.{Room}
 use Rattle.ordered.proofs.Steps.{ident-rising, ident-known, ident-new}
 use borrow.Author.Needs.{needs}
 use Rattle.ordered.proofs.bind_ident.Statement.{statement}

@@ -4,7 +4,7 @@ use borrow.Author.Needs.{needs}
 use Rattle.table.specs.State.{introduce, childScope, ownSymbol}
 use Rattle.table.specs.Table.{newScope, newSymbol}
 use Rattle.table.specs.Values.{exitOf}
-use Rattle.ordered.specs.Walkers.{Room}
+use Rattle.ordered.specs.Promises.{Room}
 use Rattle.ordered.proofs.Steps.{ident-rising}
 use Rattle.ordered.proofs.Atoms.{var-known, var-new}
 use Rattle.ordered.proofs.bind_var.Statement.{statement}

@@ -2,7 +2,7 @@ use mathlib.Core.Path.{sym, ap, subst, _∙_}
 use native.Mathlib.Omega.{arith}
 use Rattle.table.specs.State.{Exit, introduce, childScope, ownSymbol, marked}
 use Rattle.table.specs.Table.{newScope, newSymbol}
-use Rattle.ordered.specs.Walkers.{Room}
+use Rattle.ordered.specs.Promises.{Room}
 use Rattle.ordered.proofs.Args.{argOf}
 use borrow.Author.Needs.{needs}
 use Rattle.ordered.proofs.walk_arg_decl.Statement.{statement}

@@ -3,7 +3,7 @@ use Rattle.ast.specs.Kinds.{kindOf}
 use Rattle.table.specs.State.{marked}
 use Rattle.table.specs.Values.{exitOf}
 use Rattle.ordered.specs.Walk.{occurs}
-use Rattle.ordered.specs.Walkers.{rest}
+use Rattle.ordered.specs.Promises.{rest}
 use Rattle.ordered.proofs.Lists.{list-whole, list-run}
 use borrow.Author.Needs.{needs}
 use Rattle.ordered.proofs.walk_arg_decl_list.Statement.{statement}

@@ -3,7 +3,7 @@ use native.Mathlib.Omega.{arith}
 use Prim.Native.Nat.{_-_}
 use Rattle.table.specs.State.{marked}
 use Rattle.ordered.specs.Walk.{defines, walk}
-use Rattle.ordered.specs.Walkers.{Variable}
+use Rattle.ordered.specs.Promises.{Variable}
 use Rattle.ordered.proofs.Atoms.{definedOf}
 use borrow.Author.Needs.{needs}
 use Rattle.ordered.proofs.walk_defined_atom.Statement.{statement}

@@ -4,7 +4,7 @@ use native.Mathlib.Omega.{arith}
 use Rattle.ast.specs.Image.{field}
 use Rattle.table.specs.Values.{exitOf}
 use Rattle.ordered.specs.Walk.{names}
-use Rattle.ordered.specs.Walkers.{rest}
+use Rattle.ordered.specs.Promises.{rest}
 use Rattle.ordered.proofs.Lists.{Left, rest-end, name-more}
 use Prim.Native.Nat.{_-_}
 use Rattle.ordered.proofs.walk_names.Statement.{statement}

@@ -2,7 +2,7 @@ use mathlib.Core.Path.{sym, ap, subst, _∙_}
 use Prim.Native.Nat.{_-_}
 use Rattle.ast.specs.Kinds.{kindOf}
 use Rattle.table.specs.State.{marked}
-use Rattle.ordered.specs.Walkers.{Ready, over}
+use Rattle.ordered.specs.Promises.{Ready, over}
 use Rattle.ordered.proofs.Steps.{two}
 use borrow.Author.Needs.{needs}
 use Rattle.ordered.proofs.walk_pred_atom.Statement.{statement}

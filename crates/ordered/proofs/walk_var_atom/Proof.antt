@@ -2,7 +2,7 @@ use mathlib.Core.Path.{sym, ap, subst, _∙_}
 use borrow.Author.Needs.{needs}
 use Rattle.table.specs.State.{Exit, marked}
 use Rattle.ordered.specs.Walk.{declares, walk}
-use Rattle.ordered.specs.Walkers.{Variable}
+use Rattle.ordered.specs.Promises.{Variable}
 use Rattle.ordered.proofs.Atoms.{ifVarOf}
 use Rattle.ordered.proofs.walk_var_atom.Statement.{statement}
 use Rattle.ordered.proofs.walk_var_atom.Tie as tie

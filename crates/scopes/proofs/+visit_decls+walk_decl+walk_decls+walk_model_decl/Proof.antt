@@ -110,10 +110,10 @@ visit-decls-loop-holds : (t : ℕ) → visit-decls-lts.Need-loop-holds (visit-de
 visit-decls-loop-holds t c = (refl, visit-begin _ (c .before .before .before .pre .1))
 
 visit-decls-add-field : (t : ℕ) → visit-decls-lts.Need-add-field (visit-decls-claims t) (visit-decls-at t) visit-decls.Post visit-decls-Inv-loop visit-decls-μ-loop
-visit-decls-add-field t c = let b = c .before .before .before .before .before .pre .1 .lists .short in omega arith
+visit-decls-add-field t c = let b = c .before .before .before .before .before .pre .1 .run .short in omega arith
 
 visit-decls-field-requires : (t : ℕ) → visit-decls-lts.Need-field-requires (visit-decls-claims t) (visit-decls-at t) visit-decls.Post visit-decls-Inv-loop visit-decls-μ-loop
-visit-decls-field-requires t c κs = let b = c .before .before .before .before .before .pre .1 .lists .short in omega arith
+visit-decls-field-requires t c κs = let b = c .before .before .before .before .before .pre .1 .run .short in omega arith
 
 visit-decls-walk-decl-requires : (t : ℕ) → visit-decls-lts.Need-walk-decl-requires (visit-decls-claims t) (visit-decls-at t) visit-decls.Post visit-decls-Inv-loop visit-decls-μ-loop
 visit-decls-walk-decl-requires t c κs = let o = visitItem _ (c .before .before .before .before .before .before .before .before .pre .1) (c .before .before .before .before .loop .inv .1) (c .before .before .before .loop-test .taken) (c .before .before .field .ensures) in (let l = o .low in let m = c .before .before .before .before .before .before .before .before .pre .0 in omega arith, o .ready)

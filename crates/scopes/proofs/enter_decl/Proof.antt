@@ -1,6 +1,6 @@
 use mathlib.Core.Path.{refl, sym, _∙_}
 use native.Mathlib.Omega.{arith}
-use Rattle.scopes.proofs.Entries.{entering-less, declOf, declEnter, decl-last, sigDecl, sig-entering, rule-ent, model-ent, model-enter, enters-as}
+use Rattle.scopes.proofs.Entries.{entering-less, declOf, declEnter, decl-last, sigDecl, sig-entering, model-ent, model-enter, enters-as}
 use borrow.Author.Needs.{needs}
 use Rattle.scopes.proofs.enter_decl.Statement.{statement}
 use Rattle.scopes.proofs.enter_decl.Tie as tie
@@ -15,7 +15,7 @@ insert-unordered-requires : tie.Need-insert-unordered-requires
 insert-unordered-requires c κs = search needs
 
 enter-rule-requires : tie.Need-enter-rule-requires
-enter-rule-requires c κs = let o = declOf _ (c .before .before .before .before .before .before .before .before .before .before .before .before .pre .0) 4 (sym (c .before .before .match .keys1) ∙ c .before .before .before .before .before .before .before .before .field .ensures) (c .before .before .before .before .before .before .before .field2 .ensures) refl in let d = declEnter _ o (c .before .before .before .before .before .before .before .before .before .before .before .before .pre .0 .below) (c .before .before .before .before .before .before .before .before .before .before .before .before .pre .1) (c .before .before .before .before .before .insert-unordered .ensures) in (o .is, let z = rule-ent _ (o .is) in entering-less _ (omega arith) (d .entering))
+enter-rule-requires c κs = let o = declOf _ (c .before .before .before .before .before .before .before .before .before .before .before .before .pre .0) 4 (sym (c .before .before .match .keys1) ∙ c .before .before .before .before .before .before .before .before .field .ensures) (c .before .before .before .before .before .before .before .field2 .ensures) refl in let d = declEnter _ o (c .before .before .before .before .before .before .before .before .before .before .before .before .pre .0 .below) (c .before .before .before .before .before .before .before .before .before .before .before .before .pre .1) (c .before .before .before .before .before .insert-unordered .ensures) in (o .is, d .entering)
 
 enter-enum-requires : tie.Need-enter-enum-requires
 enter-enum-requires c κs = let o = declOf _ (c .before .before .before .before .before .before .before .before .before .before .before .before .pre .0) 5 (sym (c .before .before .match .keys2) ∙ c .before .before .before .before .before .before .before .before .field .ensures) (c .before .before .before .before .before .before .before .field2 .ensures) refl in let d = declEnter _ o (c .before .before .before .before .before .before .before .before .before .before .before .before .pre .0 .below) (c .before .before .before .before .before .before .before .before .before .before .before .before .pre .1) (c .before .before .before .before .before .insert-unordered .ensures) in (o .is, d .entering)

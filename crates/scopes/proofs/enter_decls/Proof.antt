@@ -3,7 +3,8 @@ use native.Mathlib.Omega.{arith}
 use Prim.Native.Nat.{_-_}
 use lib.ListN.{length}
 use Rattle.table.specs.Values.{exitOf}
-use Rattle.scopes.proofs.Entries.{EnterLeft, enter-begin, enterItem, enter-ended, item-is}
+use Rattle.ast.proofs.Shapes.{run-item}
+use Rattle.scopes.proofs.Entries.{EnterLeft, enter-begin, enterItem, enter-ended}
 use Rattle.scopes.proofs.enter_decls.Statement.{statement}
 use Rattle.scopes.proofs.enter_decls.Tie as tie
 use borrow.Author.Needs.{needs}
@@ -18,13 +19,13 @@ loop-holds : tie.Need-loop-holds Inv-loop μ-loop
 loop-holds c = (refl, enter-begin _ (c .before .before .before .pre .entering))
 
 add-field : tie.Need-add-field Inv-loop μ-loop
-add-field c = let b = c .before .before .before .before .before .pre .lists .short in omega arith
+add-field c = let b = c .before .before .before .before .before .pre .run .short in omega arith
 
 field-requires : tie.Need-field-requires Inv-loop μ-loop
-field-requires c κs = let b = c .before .before .before .before .before .pre .lists .short in omega arith
+field-requires c κs = let b = c .before .before .before .before .before .pre .run .short in omega arith
 
 enter-decl-requires : tie.Need-enter-decl-requires Inv-loop μ-loop
-enter-decl-requires c κs = (item-is _ (c .before .before .before .before .before .before .before .before .pre .lists) (c .before .before .before .loop-test .taken) (c .before .before .field .ensures), enterItem _ (c .before .before .before .before .loop .inv .1) (c .before .before .before .loop-test .taken) (c .before .before .field .ensures) .entering)
+enter-decl-requires c κs = (run-item _ (c .before .before .before .before .before .before .before .before .pre .run) (c .before .before .before .loop-test .taken) (c .before .before .field .ensures) .1, enterItem _ (c .before .before .before .before .loop .inv .1) (c .before .before .before .loop-test .taken) (c .before .before .field .ensures) .entering)
 
 enum-known-v : tie.Need-enum-known-v Inv-loop μ-loop
 enum-known-v c = search needs

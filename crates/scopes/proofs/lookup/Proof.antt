@@ -1,6 +1,6 @@
 use mathlib.Core.Path.{sym, ap, _∙_}
 use Rattle.scopes.proofs.Lookups.{lookup-accepted, call-refused, call-answer, call-none}
-use Rattle.scopes.specs.Answers.{numberIn}
+use Rattle.names.specs.Number.{numberIn}
 use borrow.Author.Needs.{needs}
 use Rattle.scopes.proofs.lookup.Statement.{statement}
 use Rattle.scopes.proofs.lookup.Tie as tie

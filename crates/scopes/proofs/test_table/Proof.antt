@@ -14,14 +14,8 @@ returns c = sym (table-refused _ _ _ (c .before .verdict .ensures) (c .if1 .take
 node-count-requires : tie.Need-node-count-requires
 node-count-requires c κs = search needs
 
-wide-requires : tie.Need-wide-requires
-wide-requires c κs = search needs
-
-mul-if2 : tie.Need-mul-if2
-mul-if2 c = search needs
-
-add-if2 : tie.Need-add-if2
-add-if2 c = search needs
+words-for-requires : tie.Need-words-for-requires
+words-for-requires c κs = search needs
 
 returns-2 : tie.Need-returns-2
 returns-2 c = sym (table-short _ _ _ (c .before .before .before .before .verdict .ensures) (c .before .before .before .if1 .left) (omega arith))
@@ -36,8 +30,6 @@ test-table-spec =
     verdict-requires
     returns
     node-count-requires
-    wide-requires
-    mul-if2
-    add-if2
+    words-for-requires
     returns-2
     returns-3)

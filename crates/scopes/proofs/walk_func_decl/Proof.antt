@@ -1,6 +1,6 @@
 use mathlib.Core.Path.{sym, ap, subst, _∙_}
 use Rattle.table.specs.State.{back}
-use Rattle.ordered.specs.Walkers.{over, Ready}
+use Rattle.ordered.specs.Promises.{over, Ready}
 use Rattle.ast.specs.Kinds.{kindOf}
 use Rattle.scopes.proofs.Visiting.{sigTwo, dropped-is}
 use borrow.Author.Needs.{needs}

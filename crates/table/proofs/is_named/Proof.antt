@@ -1,7 +1,9 @@
 use borrow.Author.Needs.{needs}
 use native.Mathlib.Omega.{arith}
 use borrow.Author.Tests.{ne-eqb}
-use mathlib.Core.Path.{sym, _∙_}
+use mathlib.Core.Path.{sym, ap, _∙_}
+use Prim.Native.Nat.{ℕ, _-_}
+use lib.Dec.{eqb}
 use Rattle.ast.proofs.Words.{name-rule, name-arg, name-plain}
 use Rattle.table.proofs.Overs.{other-name}
 use Rattle.table.proofs.is_named.Statement.{statement}
@@ -20,16 +22,16 @@ less-one-requires : tie.Need-less-one-requires
 less-one-requires c κs = search needs
 
 returns-2 : tie.Need-returns-2
-returns-2 c = cc (name-rule (c .before .before .before .before .before .before .args .image .now) (c .before .before .before .before .before .before .args .node .0) (sym (c .before .before .kind-at .ensures) ∙ c .before .if2 .taken))
+returns-2 c = ap (λ (m : ℕ). eqb m (c .before .before .before .before .before .before .args .name)) (c .less-one .ensures ∙ ap (λ (w : ℕ). w - 1) (c .before .before .before .before .before .before .pre) ∙ sym (name-rule (c .before .before .before .before .before .before .args .image .now) (c .before .before .before .before .before .before .args .node .0) (sym (c .before .before .kind-at .ensures) ∙ c .before .if2 .taken)))
 
 less-one-requires-2 : tie.Need-less-one-requires-2
 less-one-requires-2 c κs = search needs
 
 returns-3 : tie.Need-returns-3
-returns-3 c = cc (name-arg (c .before .before .before .before .before .before .before .args .image .now) (c .before .before .before .before .before .before .before .args .node .0) (sym (c .before .before .before .kind-at .ensures) ∙ c .before .if3 .taken))
+returns-3 c = ap (λ (m : ℕ). eqb m (c .before .before .before .before .before .before .before .args .name)) (c .less-one2 .ensures ∙ ap (λ (w : ℕ). w - 1) (c .before .before .before .before .before .before .before .pre) ∙ sym (name-arg (c .before .before .before .before .before .before .before .args .image .now) (c .before .before .before .before .before .before .before .args .node .0) (sym (c .before .before .before .kind-at .ensures) ∙ c .before .if3 .taken)))
 
 returns-4 : tie.Need-returns-4
-returns-4 c = cc (name-plain (c .before .before .before .before .before .before .args .image .now) (c .before .before .before .before .before .before .args .node .0) (λ e. c .before .if2 .left (c .before .before .kind-at .ensures ∙ e)) (λ e. c .if3 .left (c .before .before .kind-at .ensures ∙ e)))
+returns-4 c = ap (λ (m : ℕ). eqb m (c .before .before .before .before .before .before .args .name)) (c .before .before .before .before .before .before .pre ∙ sym (name-plain (c .before .before .before .before .before .before .args .image .now) (c .before .before .before .before .before .before .args .node .0) (λ e. c .before .if2 .left (c .before .before .kind-at .ensures ∙ e)) (λ e. c .if3 .left (c .before .before .kind-at .ensures ∙ e))))
 
 pub is-named-spec : {M : Type 1} → statement M
 is-named-spec =

@@ -1,6 +1,5 @@
 use borrow.Author.Needs.{needs}
-use Rattle.table.specs.State.{marked}
-use Rattle.table.specs.Table.{mark}
+use Rattle.table.proofs.Steps.{marked-is}
 use Rattle.table.proofs.leave.Statement.{statement}
 use Rattle.table.proofs.leave.Tie as tie
 
@@ -11,8 +10,7 @@ same-length : tie.Need-same-length
 same-length c = search needs
 
 returns : tie.Need-returns
-unfolding marked mark
-returns c = cc
+returns c = marked-is _ _ _ _ _ _ _ _ (c .before .before .insert-ordered .ensures)
 
 pub leave-spec : {M : Type 1} → statement M
 leave-spec = tie.close (tie.spec insert-ordered-requires same-length returns)

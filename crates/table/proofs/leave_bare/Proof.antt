@@ -1,6 +1,5 @@
-use Rattle.table.specs.State.{unmarked}
-use Rattle.table.specs.Table.{mark}
 use borrow.Author.Needs.{needs}
+use Rattle.table.proofs.Steps.{unmarked-is}
 use Rattle.table.proofs.leave_bare.Statement.{statement}
 use Rattle.table.proofs.leave_bare.Tie as tie
 
@@ -11,8 +10,7 @@ same-length : tie.Need-same-length
 same-length c = search needs
 
 returns : tie.Need-returns
-unfolding unmarked mark
-returns c = cc
+returns c = unmarked-is _ _ _ _ _ _ _ (c .before .before .insert-ordered .ensures)
 
 pub leave-bare-spec : {M : Type 1} → statement M
 leave-bare-spec = tie.close (tie.spec insert-ordered-requires same-length returns)

@@ -1,5 +1,8 @@
 use borrow.Author.Needs.{needs}
-use mathlib.Core.Path.{sym, _∙_}
+use mathlib.Core.Path.{sym, ap, _∙_}
+use Prim.Native.Nat.{ℕ}
+use lib.Dec.{eqb}
+use Rattle.ast.specs.Image.{nameOf}
 use Rattle.table.proofs.Finds.{row-in, row-out}
 use Rattle.table.proofs.row_is.Statement.{statement}
 use Rattle.table.proofs.row_is.Tie as tie
@@ -14,7 +17,7 @@ name-of-requires : tie.Need-name-of-requires
 name-of-requires c κs = search needs
 
 returns : tie.Need-returns
-returns c = let a = c .before .before .before .before .before .before .before .args in cc (row-in (a .image .now) (a .table .now) (a .j) (a .scope .0) (a .name) (sym (c .before .before .before .before .symbol-scope .ensures) ∙ c .before .before .if1 .taken))
+returns c = let a = c .before .before .before .before .before .before .before .args in ap (λ (m : ℕ). eqb m (a .name)) (c .name-of .ensures ∙ ap (nameOf (a .image .now)) (c .before .symbol-node .ensures)) ∙ sym (row-in _ _ (a .j) (a .scope .0) (a .name) (sym (c .before .before .before .before .symbol-scope .ensures) ∙ c .before .before .if1 .taken))
 
 returns-2 : tie.Need-returns-2
 returns-2 c = sym (row-out _ _ _ _ _ (λ e. c .if1 .left (c .before .before .symbol-scope .ensures ∙ e)))

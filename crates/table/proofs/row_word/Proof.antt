@@ -1,4 +1,7 @@
 use borrow.Author.Needs.{needs}
+use mathlib.Core.Path.{sym, ap, _∙_}
+use Prim.Native.Nat.{ℕ, _+_, _*_}
+use Rattle.ast.specs.Image.{word}
 use Rattle.table.proofs.Overs.{field-as}
 use Rattle.table.proofs.row_word.Statement.{statement}
 use Rattle.table.proofs.row_word.Tie as tie
@@ -40,7 +43,7 @@ word-requires-2 : tie.Need-word-requires-2
 word-requires-2 c κs = search needs
 
 returns : tie.Need-returns
-returns c = let a = c .before .before .before .before .before .args in let f = field-as (a .image .now) {st = c .before .wide2 .result} (a .node .0) (c .before .before .before .before .before .pre .0) (cc) in cc
+returns c = let a = c .before .before .before .before .before .args in c .word2 .ensures ∙ sym (field-as (a .image .now) {st = c .before .wide2 .result} (a .node .0) (c .before .before .before .before .before .pre .0) (c .before .wide2 .ensures ∙ c .before .before .word .ensures ∙ ap (λ (k : ℕ). word (a .image .now) (16 + 4 * a .n + 4 * k)) (c .before .before .before .wide .ensures)))
 
 pub row-word-spec : {M : Type 1} → statement M
 row-word-spec =

@@ -5,7 +5,7 @@ use Prim.Native.Nat.{_-_}
 use mathlib.Core.Logic.{⊎-elim}
 use Rattle.ast.specs.Image as images
 use Rattle.ast.proofs.Runs.{RunSeen, seen-begin, seen-next, seen-first, seen-end, once, not-once}
-use Rattle.ast.proofs.Whole.{parent, parents-are}
+use Rattle.tests.proofs.Whole.{parent, parents-are}
 use Rattle.tests.proofs.test_parents.Statement.{statement}
 use Rattle.tests.proofs.test_parents.Tie as tie
 

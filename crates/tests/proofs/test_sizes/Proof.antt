@@ -1,6 +1,6 @@
 use mathlib.Core.Path.{sym}
 use native.Mathlib.Omega.{arith}
-use Rattle.ast.proofs.Whole.{sizes-1, sizes-2, sizes-3, sizes-4, sizes-5, sizes-6, sizes-7, sizes-0}
+use Rattle.tests.proofs.Whole.{sizes-1, sizes-2, sizes-3, sizes-4, sizes-5, sizes-6, sizes-7, sizes-0}
 use Rattle.tests.proofs.test_sizes.Statement.{statement}
 use Rattle.tests.proofs.test_sizes.Tie as tie
 

@@ -2,7 +2,7 @@ use mathlib.Core.Path.{_≡_, sym, ap, _∙_}
 use native.Mathlib.Omega.{arith}
 use Prim.Native.Nat.{_-_}
 use Rattle.ast.specs.Image.{kindAt}
-use Rattle.ast.proofs.Whole.{tree-open, tree-top, tree-parents, tree-vars}
+use Rattle.tests.proofs.Whole.{tree-open, tree-top, tree-parents, tree-vars}
 use Rattle.ast.specs.Image as image
 use Rattle.tests.proofs.test_tree.Statement.{statement}
 use Rattle.tests.proofs.test_tree.Tie as tie
