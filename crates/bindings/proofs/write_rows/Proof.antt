@@ -6,7 +6,7 @@ use Rattle.ast.proofs.Accepted.{sized}
 use Rattle.rows.proofs.Appends.{appended-next, wrote}
 use Rattle.rows.proofs.Parts.{appended-as}
 use Rattle.bindings.proofs.Calls.{root-ready, plain-of, mode-fits, errors-are}
-use Rattle.bindings.proofs.Few.{rows-few}
+use Rattle.bindings.proofs.Bound.{rows-few}
 use borrow.Author.Needs.{needs}
 use Rattle.bindings.proofs.write_rows.Statement.{statement}
 use Rattle.bindings.proofs.write_rows.Tie as tie
