@@ -7,8 +7,8 @@ use Prim.Native.Nat.{ℕ, zero, suc, _+_, _*_, _-_, _<_, _≤_}
 use native.Mathlib.Omega.{arith}
 use native.Mathlib.Nat.{zero-add}
 use lib.Dec.{leb→le}
-use lib.ListN.{length, getD, set, drop, replicate, length-set, length-append, length-replicate}
-use lib.Seq.{getD-set-same, getD-set-other, drop-set-lt, drop-at}
+use lib.ListN.{length, getD, set, drop, length-set}
+use lib.Seq.{getD-set-same, getD-set-other, drop-set-lt}
 use Rattle.ast.specs.Answer.{twice as twiceAnswer, result}
 use Rattle.ast.specs.Image.{nodes, last, kindAt, nameOf}
 use Rattle.ast.specs.Declarations.{moduleLists}

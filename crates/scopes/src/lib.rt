@@ -427,7 +427,7 @@ pub fn test_rows(image: &[u8], table: &[u32], rows: &[u32]) -> u32
     if code != 0 {
         return code;
     }
-    if rows.len() < rows::words(ast::node_count(image)) {
+    if rows.len() < rows::words_for(ast::node_count(image)) {
         return 14;
     }
     0

@@ -266,11 +266,11 @@ module _ (img : List ℕ) where
         bounds = b;
         sane = held .sane;
         walks = held .walked (counted img (e .table))
-        (record {
-          lookups = λ s x l. sym (headed-lookup img (e .table) s x);
-          entries = λ m l i. sym (headed-entry img (e .table) m);
-          exits = λ m l i. sym (headed-exit img (e .table) m);
-        });
+            (record {
+              lookups = λ s x l. sym (headed-lookup img (e .table) s x);
+              entries = λ m l i. sym (headed-entry img (e .table) m);
+              exits = λ m l i. sym (headed-exit img (e .table) m);
+            });
       }
 
   -- the third demand for a rule that was walked
