@@ -13,5 +13,6 @@ pub mod Words
 pub mod Scans
 pub mod Runs
 pub mod Kids
+pub mod ByKind
 pub mod Declarations
 pub mod Bools

@@ -23,9 +23,9 @@ use Rattle.scopes.specs.declared.Declared.{Declared}
 use Rattle.scopes.specs.declared.Declared.the-variants.{Done}
 use Rattle.scopes.proofs.Calls.{rows-table, rows-long}
 use Rattle.scopes.proofs.Headed.{resolved-filled}
-use Rattle.bindings.specs.Errors.{isStrict, strictRows, declRows, plainRows, testErrors}
+use Rattle.bindings.specs.Errors.{isStrict, strictRows, declRows, plainRows, errorRows, testErrors}
 use Rattle.bindings.specs.Promises.{Ready, ofMode, Filled}
-use Rattle.bindings.proofs.Few.{both-few}
+use Rattle.bindings.proofs.Bound.{both-few}
 
 -- writing the rows ------------------------------------------------------------------------------------------------------
 module _ (img : List ℕ) where
@@ -56,6 +56,10 @@ module _ (img : List ℕ) where
 
   pub mode-fits : (t : Table) {N r : ℕ} {ws vs : List ℕ} → verdict img ≡ 0 → Appended N (plainRows img t) 0 ws r vs → r + length (strictRows img) < 2 ^ 32
   mode-fits t e h = let a = rows-fit t e in let b = h .count in omega arith
+
+  pub errors-are : (t : Table) (mode : ℕ) → plainRows img t ++ ofMode img mode ≡ errorRows img t mode
+  unfolding errorRows
+  errors-are t mode = refl
 
 -- the refusals ----------------------------------------------------------------------------------------------------------
 module _ (img tab rows : List ℕ) (mode : ℕ) where

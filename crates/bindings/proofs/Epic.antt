@@ -10,7 +10,7 @@ use lib.Dec.{eqb}
 use lib.ListN.{length-append, getD}
 use Rattle.ast.specs.Image.{nodes, field}
 use Rattle.ast.specs.Kinds.{inner, term, head, noChild, kindOf}
-use Rattle.ast.specs.Is.{Is}
+use Rattle.ast.specs.Is.{Is, twoTerms}
 use Rattle.ast.specs.Tree.{ordered, treeAt}
 use Rattle.ast.specs.Items.{items}
 use Rattle.ast.proofs.Row.{Child, FormedFields, next}
@@ -148,10 +148,10 @@ module _ (img : List ℕ) (t : Table) where
   abbrev pub headRows : ℕ → List Row
   headRows h = rowsOf img t true h (treeAt img h)
 
-  pub epic-pair : {n c d : ℕ} → Is img (kindOf 21) n → c ≡ field img n 0 → d ≡ field img n 1
+  pub epic-two : {n c d : ℕ} → Is img twoTerms n → c ≡ field img n 0 → d ≡ field img n 1
       → Both 12 12 n c d (inside img t true n) (inside img t true c) (inside img t true d)
   unfolding kindOf FormedFields next
-  epic-pair {n} {c} {d} is q r =
+  epic-two {n} {c} {d} is q r =
       let h : Child img n 12 c = subst (Child img n 12) (sym q) ((fields-of img is) .0) in
       let k : Child img n 12 d = subst (Child img n 12) (sym r) ((fields-of img is) .1 .0) in
       record {

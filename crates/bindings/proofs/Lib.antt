@@ -4,10 +4,5 @@ pub mod Quiet
 pub mod Epic
 pub mod Bodies
 pub mod Marking
-pub mod Fine
-pub mod Standing
-pub mod Reached
-pub mod Sentences
-pub mod Few
-pub mod Alike
+pub mod Bound
 pub mod Calls

@@ -1,3 +1,2 @@
 pub mod Errors
 pub mod Promises
-pub mod Places

@@ -8,7 +8,7 @@ ghost use lib.ListN.{length};
 ghost use Rattle.ast.specs.Image as «image-spec»;
 ghost use Rattle.ast.specs.Kinds.{kindOf};
 ghost use Rattle.ast.specs.Tests as «tests-spec»;
-ghost use Rattle.ast.specs.Is.{Is};
+ghost use Rattle.ast.specs.Is.{Is, twoTerms};
 ghost use Rattle.ast.specs.Tree.{treeAt};
 ghost use Rattle.table.specs.Table as «table-spec»;
 ghost use Rattle.table.specs.Rows.{Sorted};
@@ -110,26 +110,26 @@ fn check_epic_term(
             let inner = NodeId(ast::field(image, child, 0));
             check_epic_term(image, table, w, rows, count, inner)
         }
-        7 => check_epic_pair(image, table, w, rows, count, child),
+        7 => check_epic_two_terms(image, table, w, rows, count, child),
         // Wildcard; and nothing is asked for below Dom and Cod
         _ => count,
     }
 }
 
-// The two terms of a CompTerm or an EqualAtom.
-fn check_epic_pair(
+// A Comp term, or an Equal atom: two terms.
+fn check_epic_two_terms(
     image: &[u8],
     table: &[u32],
     w: Walked,
     rows: &mut [u32],
     count: u32,
-    pair: NodeId,
+    id: NodeId,
 ) -> u32
-    requires { ⌜ Ready (now image) (tableOf w (now table)) (kindOf 21) (pair .0) (inside (now image) (tableOf w (now table)) true (pair .0)) count ⌝ }
-    ensures { λ r. ⌜ Appended («image-spec».nodes (now (image .entry))) (inside (now (image .entry)) (tableOf w (now (table .entry))) true (pair .0)) count (now (rows .entry)) r (now (rows .exit)) ⌝ }
+    requires { ⌜ Ready (now image) (tableOf w (now table)) twoTerms (id .0) (inside (now image) (tableOf w (now table)) true (id .0)) count ⌝ }
+    ensures { λ r. ⌜ Appended («image-spec».nodes (now (image .entry))) (inside (now (image .entry)) (tableOf w (now (table .entry))) true (id .0)) count (now (rows .entry)) r (now (rows .exit)) ⌝ }
 {
-    let first = NodeId(ast::field(image, pair, 0));
-    let second = NodeId(ast::field(image, pair, 1));
+    let first = NodeId(ast::field(image, id, 0));
+    let second = NodeId(ast::field(image, id, 1));
     let after = check_epic_term(image, table, w, rows, count, first);
     check_epic_term(image, table, w, rows, after, second)
 }
@@ -256,7 +256,7 @@ fn check_then_atom(
     let case = ast::field(image, atom, 0);
     let child = NodeId(ast::field(image, atom, 1));
     match case {
-        0 => check_epic_pair(image, table, w, rows, count, child),
+        0 => check_epic_two_terms(image, table, w, rows, count, child),
         1 => check_then_defined(image, table, w, rows, count, atom, child),
         _ => {
             // a member predicate's receiver is not asked

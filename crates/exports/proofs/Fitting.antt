@@ -18,17 +18,19 @@ use Rattle.sound.specs.Sound.{symbolsIn, scopesIn, parentBelow, rowSound, testS
 use Rattle.table.specs.State.{Exit}
 use Rattle.table.specs.Table.{symbolOf, lookup}
 use Rattle.scopes.specs.Lookup.{testLookup, symbolAnswer, foundBy, lookupCall}
+use Rattle.scopes.specs.Resolve.{testTable, walked, counted, Way, refuses, stops, fills, way, answerBy, tableCall, resolve}
+use Rattle.scopes.specs.Calls.{testRows, rowsCall}
+use Rattle.scopes.specs.Walk.{done}
 use Rattle.names.specs.Number.{numberOf}
-use Rattle.scopes.specs.Resolve.{testTable, walked, resolve}
-use Rattle.scopes.specs.Resolve as resolving
-use Rattle.scopes.specs.Rows.{testRows, Outcome}
-use Rattle.scopes.specs.Walk.{Listed, done, twice}
 use Rattle.ast.proofs.Bools.{true-is}
 use Rattle.scopes.proofs.Namings.{symbol-below}
-use Rattle.scopes.proofs.Resolving.{Ways, refuses, stops, fills, ways, refuses-outcome, stops-outcome, fills-outcome, walked-ended, table-accepted}
-use Rattle.bindings.specs.Errors.{errorRows, testErrors, errorsOf, errors}
-use Rattle.bindings.proofs.Few as errors-few
-use Rattle.occurrences.specs.Occurrences.{occurrenceRows, lone, rowsByRule, onceAnswer, occurrencesOf, occurrences, onceOf, once}
+use Rattle.scopes.proofs.Calls.{rows-table, Went, went}
+use Rattle.scopes.proofs.Headed.{FilledTable, counted-filled}
+use Rattle.scopes.proofs.Resolving.{walked-ended, table-accepted}
+use Rattle.bindings.specs.Errors.{errorRows, testErrors, errors}
+use Rattle.bindings.proofs.Calls.{errors-table}
+use Rattle.bindings.proofs.Bound as errors-few
+use Rattle.occurrences.specs.Occurrences.{occurrenceRows, lone, rowsByRule, loneAnswer, occurrences, once}
 use Rattle.ast.specs.Rules.{moduleRules}
 use Rattle.occurrences.proofs.CollectLone.{climb-low}
 use Rattle.occurrences.proofs.Few as occurrences-few
@@ -67,17 +69,27 @@ module _ (img tab : List ℕ) where
   unfolding testLookup
   lookup-low s = first-low _ _ table-low (first-low _ _ sound-low (need-low 17 _ (omega arith)))
 
+-- a call that is lent a table: what it says of a table that it has filled fits
+call-fits : (img tab : List ℕ) {r : ℕ} (f : Table → Answer) → Low r → (r ≡ 0 → testTable img tab ≡ 0) → ((e : Exit) → testTable img tab ≡ 0 → walked img tab ≡ done e → Fits (f (counted img (e .table))))
+    → Fits (answerBy f (way img tab r))
+unfolding answerBy
+call-fits img tab {r} f low tested fits = go (way img tab r) (went img tab r)
+  where
+    go : (w : Way) → Went img tab r w → Fits (answerBy f w)
+    go (refuses k) (q, h) = refused-fits k (subst Low q low)
+    go (stops x a b) (q, h) = twice-fits img tab x a b (tested q) h
+    go (fills t) (q, (e, h, i)) = subst (λ (u : Table). Fits (f u)) (sym i) (fits e (tested q) h)
+
 -- Resolve ----------------------------------------------------------------------------------------------------------------
 pub resolve-fits : (img tab : List ℕ) → Fits ((resolve img tab) .answer)
-resolve-fits img tab = go (ways img tab)
+unfolding resolve tableCall
+resolve-fits img tab = call-fits img tab _ (table-low img tab) (λ p. p) counts
   where
-    go : Ways img tab → Fits ((resolve img tab) .answer)
-    go (refuses r q) = subst Fits (sym ((refuses-outcome img tab r q) .0)) (refused-fits (suc r) (let l = table-low img tab in omega arith))
-    go (stops x a b q h) = subst Fits (sym ((stops-outcome img tab x a b q h) .0)) (twice-fits img tab x a b q h)
-    go (fills e q h) =
+    counts : (e : Exit) → testTable img tab ≡ 0 → walked img tab ≡ done e → Fits (result (e .table .scopes) (e .table .symbols))
+    counts e q h = unfold Fits in
         let d = walked-ended img tab q e h in
         let s = sized img (table-accepted img tab q) in
-        subst Fits (sym ((fills-outcome img tab e q h) .0)) (unfold Fits in (omega arith, omega arith))
+        (omega arith, omega arith)
 
 -- Lookup -----------------------------------------------------------------------------------------------------------------
 -- a symbol number is at most 9: one computed check of the table
@@ -136,56 +148,40 @@ lookup-fits img tab s bs = go (testLookup img tab s) refl
     go (suc r) q = refused-fits (suc r) (let l = lookup-low img tab s in omega arith)
 
 -- Errors and Occurrences ---------------------------------------------------------------------------------------------------
-count-fits : (img : List ℕ) (c : ℕ) → verdict img ≡ 0 → c ≤ nodes img → Fits (result 0 c)
-unfolding Fits
-count-fits img c accepted l = let s = sized img accepted in (omega arith, omega arith)
+-- a call that writes rows, no more than nodes
+rows-fit : (img tab rows : List ℕ) {r : ℕ} (f : Table → List Row) → Low r → (r ≡ 0 → testTable img tab ≡ 0) → (verdict img ≡ 0 → (t : Table) → length (f t) ≤ nodes img)
+    → Fits ((rowsCall img tab rows r f) .answer)
+unfolding rowsCall
+rows-fit img tab rows f low tested few = call-fits img tab (λ t. result 0 (length (f t))) low tested count
+  where
+    count : (e : Exit) → testTable img tab ≡ 0 → walked img tab ≡ done e → Fits (result 0 (length (f (counted img (e .table)))))
+    count e q h = unfold Fits in
+        let a = table-accepted img tab q in
+        let s = sized img a in
+        let l = few a (counted img (e .table)) in
+        (omega arith, omega arith)
 
 pub errors-fit : (img tab rows : List ℕ) (mode : ℕ) → Fits ((errors img tab rows mode) .answer)
-unfolding errors errorsOf testErrors testRows
-errors-fit img tab rows mode = go (testErrors img tab rows mode) refl (walked img tab) refl
-  where
-    go : (r : ℕ) → testErrors img tab rows mode ≡ r → (w : Listed) → walked img tab ≡ w
-        → Fits ((elim r as (λ _. Outcome) [ zero ↦ errorsOf img tab rows mode w | suc i ↦ record { answer = refused (suc i); table = tab; rows = rows } ]) .answer)
-    go zero q (done e) h =
-        let a = table-accepted img tab (both _ _ (both _ _ q .0) .0) in
-        count-fits img (length (errorRows img (e .table) mode)) a (errors-few.rows-few img a (e .table) mode)
-    go zero q (twice x a b) h = twice-fits img tab x a b (both _ _ (both _ _ q .0) .0) h
-    go (suc r) q w h = refused-fits (suc r) (let l = errors-low img tab rows mode in omega arith)
+unfolding errors
+errors-fit img tab rows mode =
+    rows-fit img tab rows (λ t. errorRows img t mode) (errors-low img tab rows mode) (errors-table img tab rows mode) (λ a t. errors-few.rows-few img a t mode)
 
 pub occurrences-fit : (img tab rows : List ℕ) → Fits ((occurrences img tab rows) .answer)
-unfolding occurrences occurrencesOf testRows
-occurrences-fit img tab rows = go (testRows img tab rows) refl (walked img tab) refl
-  where
-    go : (r : ℕ) → testRows img tab rows ≡ r → (w : Listed) → walked img tab ≡ w
-        → Fits ((elim r as (λ _. Outcome) [ zero ↦ occurrencesOf img tab rows w | suc i ↦ record { answer = refused (suc i); table = tab; rows = rows } ]) .answer)
-    go zero q (done e) h =
-        let a = table-accepted img tab (both _ _ q .0) in
-        count-fits img (length (occurrenceRows img (e .table))) a (occurrences-few.rows-few img (e .table) a)
-    go zero q (twice x a b) h = twice-fits img tab x a b (both _ _ q .0) h
-    go (suc r) q w h = refused-fits (suc r) (let l = rows-low img tab rows in omega arith)
+unfolding occurrences
+occurrences-fit img tab rows = rows-fit img tab rows (occurrenceRows img) (rows-low img tab rows) (rows-table img tab rows) (λ a t. occurrences-few.rows-few img t a)
 
 -- Once -------------------------------------------------------------------------------------------------------------------
 -- a lone occurrence and its binding are below N
-lone-below : (img tab : List ℕ) (e : Exit) → testTable img tab ≡ 0 → walked img tab ≡ done e → (w : Row)
-    → lone (rowsByRule img (e .table) (moduleRules img)) ≡ some w → (w .left < nodes img) × (w .right < nodes img)
-lone-below img tab e passes ended w q =
-    occurrences-few.lone-below img (e .table) (λ j l. symbol-below img _ (walked-ended img tab passes e ended .good .symbols j l)) (table-accepted img tab passes) w q
-
-lone-fits : (img tab : List ℕ) (e : Exit) → testTable img tab ≡ 0 → walked img tab ≡ done e → (o : Option Row)
-    → lone (rowsByRule img (e .table) (moduleRules img)) ≡ o → Fits (onceAnswer o)
-unfolding onceAnswer Fits
-lone-fits img tab e q h nothing p = (omega arith, omega arith)
-lone-fits img tab e q h (some w) p =
-    let s = sized img (table-accepted img tab q) in
-    let l = lone-below img tab e q h w p in
+lone-fits : (img : List ℕ) (t : Table) → FilledTable img t → (o : Option Row) → lone (rowsByRule img t (moduleRules img)) ≡ o → Fits (loneAnswer o)
+unfolding loneAnswer Fits
+lone-fits img t g nothing p = (omega arith, omega arith)
+lone-fits img t g (some w) p =
+    let s = sized img (g .accepted) in
+    let l = occurrences-few.lone-below img t (g .symbols) (g .accepted) w p in
     (omega arith, omega arith)
 
 pub once-fits : (img tab : List ℕ) → Fits ((once img tab) .answer)
-unfolding once onceOf
-once-fits img tab = go (testTable img tab) refl (walked img tab) refl
-  where
-    go : (r : ℕ) → testTable img tab ≡ r → (w : Listed) → walked img tab ≡ w
-        → Fits ((elim r as (λ _. resolving.Outcome) [ zero ↦ onceOf img tab w | suc i ↦ record { answer = refused (suc i); table = tab } ]) .answer)
-    go zero q (done e) h = lone-fits img tab e q h (lone (rowsByRule img (e .table) (moduleRules img))) refl
-    go zero q (twice x a b) h = twice-fits img tab x a b q h
-    go (suc r) q w h = refused-fits (suc r) (let l = table-low img tab in omega arith)
+unfolding once tableCall
+once-fits img tab =
+    call-fits img tab (λ t. loneAnswer (lone (rowsByRule img t (moduleRules img)))) (table-low img tab) (λ p. p)
+    (λ e q h. lone-fits img (counted img (e .table)) (counted-filled img tab q h) _ refl)

@@ -4,8 +4,8 @@ use mathlib.Core.List.{List}
 use Prim.Native.Nat.{ℕ, _≤_}
 use native.Mathlib.Omega.{arith}
 use Rattle.ast.specs.Answer.{Answer, refused, twice, result, other}
-use Rattle.scopes.specs.Resolve as resolving
-use Rattle.scopes.specs.Rows.{Outcome}
+use Rattle.scopes.specs.Resolve.{Outcome}
+use Rattle.scopes.specs.Calls.{RowsOutcome}
 use Rattle.exports.specs.Packed.{packed, Short, Fits, Leaves, LeavesRows}
 
 -- what `pack` asks
@@ -30,17 +30,17 @@ module _ {answer : Answer} where
   other-room {a} {b} e h = let f : Short a × Short b = subst Fits e h in (omega arith, omega arith, f .0, f .1)
 
 -- what a call leaves, from the packed answer of the code's enum
-pub leaves : {o : resolving.Outcome} {answer : Answer} {ws : List ℕ} {r : ℕ} → o ≡ record { answer = answer; table = ws } → Fits (o .answer) → r ≡ packed answer → Leaves o r ws
+pub leaves : {o : Outcome} {answer : Answer} {ws : List ℕ} {r : ℕ} → o ≡ record { answer = answer; table = ws } → Fits (o .answer) → r ≡ packed answer → Leaves o r ws
 leaves e f p =
-    record {
-      packs = record { number = p ∙ sym (ap (λ (x : resolving.Outcome). packed (x .answer)) e); fits = f };
-      table-is = sym (ap (λ (x : resolving.Outcome). x .table) e);
-    }
-
-pub leaves-rows : {o : Outcome} {answer : Answer} {ws vs : List ℕ} {r : ℕ} → o ≡ record { answer = answer; table = ws; rows = vs } → Fits (o .answer) → r ≡ packed answer → LeavesRows o r ws vs
-leaves-rows e f p =
     record {
       packs = record { number = p ∙ sym (ap (λ (x : Outcome). packed (x .answer)) e); fits = f };
       table-is = sym (ap (λ (x : Outcome). x .table) e);
-      rows-are = sym (ap (λ (x : Outcome). x .rows) e);
+    }
+
+pub leaves-rows : {o : RowsOutcome} {answer : Answer} {ws vs : List ℕ} {r : ℕ} → o ≡ record { answer = answer; table = ws; rows = vs } → Fits (o .answer) → r ≡ packed answer → LeavesRows o r ws vs
+leaves-rows e f p =
+    record {
+      packs = record { number = p ∙ sym (ap (λ (x : RowsOutcome). packed (x .answer)) e); fits = f };
+      table-is = sym (ap (λ (x : RowsOutcome). x .table) e);
+      rows-are = sym (ap (λ (x : RowsOutcome). x .rows) e);
     }

@@ -4,8 +4,8 @@ use mathlib.Core.List.{List}
 use Prim.Native.Nat.{ℕ, _+_, _*_, _<_}
 use Rattle.ast.specs.Answer.{Answer, refused, twice, result, other}
 use Rattle.names.specs.declared.NamePlace.{NamePlace}
-use Rattle.scopes.specs.Resolve as resolving
-use Rattle.scopes.specs.Rows.{Outcome}
+use Rattle.scopes.specs.Resolve.{Outcome}
+use Rattle.scopes.specs.Calls.{RowsOutcome}
 
 -- a tag and three fields of 16 bits: tag · 2^48 + a · 2^32 + b · 2^16 + c
 abbrev pub fields : ℕ → ℕ → ℕ → ℕ → ℕ
@@ -35,12 +35,12 @@ pub record Packs (r : ℕ) (answer : Answer) : Type 0 where
   pub fits : Fits answer  -- no field runs into the next
 
 -- what a call that is lent a table does: its packed answer, and the words of the table afterwards
-pub record Leaves (o : resolving.Outcome) (r : ℕ) (table : List ℕ) : Type 0 where
+pub record Leaves (o : Outcome) (r : ℕ) (table : List ℕ) : Type 0 where
   pub packs : Packs r (o .answer)
   pub table-is : table ≡ o .table
 
 -- what a call that is lent rows too does
-pub record LeavesRows (o : Outcome) (r : ℕ) (table rows : List ℕ) : Type 0 where
+pub record LeavesRows (o : RowsOutcome) (r : ℕ) (table rows : List ℕ) : Type 0 where
   pub packs : Packs r (o .answer)
   pub table-is : table ≡ o .table
   pub rows-are : rows ≡ o .rows

@@ -2,19 +2,17 @@
 ghost use mathlib.Core.Path.{_≡_};
 ghost use Prim.Native.Nat.{_≤_};
 ghost use Rattle.names.specs.Name.{namePlace};
-ghost use Rattle.scopes.specs.Answers.{resolvedAnswer, lookedAnswer};
+ghost use Rattle.scopes.specs.Answers.{resolvedAnswer, lookedAnswer, rowedAnswer};
 ghost use Rattle.scopes.specs.Resolve.{resolve};
 ghost use Rattle.scopes.specs.Lookup.{lookupCall};
-ghost use Rattle.bindings.specs.Answers as «bindings-spec»;
 ghost use Rattle.bindings.specs.Errors.{errors};
-ghost use Rattle.occurrences.specs.Answers as «occurrences-spec»;
+ghost use Rattle.occurrences.specs.Answers.{onceAnswer};
 ghost use Rattle.occurrences.specs.Occurrences as «calls-spec»;
 ghost use Rattle.exports.specs.Packed.{fields, packed, Short, Fits, Packs, Leaves, LeavesRows, placed};
-use bindings::Checked;
-use occurrences::Listed;
 use occurrences::Once;
 use scopes::Looked;
 use scopes::Resolved;
+use scopes::Rowed;
 use table::ScopeId;
 
 // A tag and three fields of 16 bits.
@@ -47,37 +45,26 @@ fn pack_looked(answer: Looked) -> u64
     }
 }
 
-fn pack_checked(answer: Checked) -> u64
-    requires { ⌜ Fits («bindings-spec».checkedAnswer answer) ⌝ }
-    ensures { λ r. ⌜ r ≡ packed («bindings-spec».checkedAnswer answer) ⌝ }
+fn pack_rowed(answer: Rowed) -> u64
+    requires { ⌜ Fits (rowedAnswer answer) ⌝ }
+    ensures { λ r. ⌜ r ≡ packed (rowedAnswer answer) ⌝ }
 {
     match answer {
-        Checked::Refused(number) => pack(0, 0, 0, number),
-        Checked::Twice(name, first, second) => pack(1, name, first.0, second.0),
-        Checked::Rows(count) => pack(2, 0, 0, count),
+        Rowed::Refused(number) => pack(0, 0, 0, number),
+        Rowed::Twice(name, first, second) => pack(1, name, first.0, second.0),
+        Rowed::Rows(count) => pack(2, 0, 0, count),
     }
 }
 
 fn pack_once(answer: Once) -> u64
-    requires { ⌜ Fits («occurrences-spec».checkedAnswer answer) ⌝ }
-    ensures { λ r. ⌜ r ≡ packed («occurrences-spec».checkedAnswer answer) ⌝ }
+    requires { ⌜ Fits (onceAnswer answer) ⌝ }
+    ensures { λ r. ⌜ r ≡ packed (onceAnswer answer) ⌝ }
 {
     match answer {
         Once::Refused(number) => pack(0, 0, 0, number),
         Once::Twice(name, first, second) => pack(1, name, first.0, second.0),
         Once::Ok => pack(2, 0, 0, 0),
         Once::Lone(node, binding) => pack(3, 0, node.0, binding.0),
-    }
-}
-
-fn pack_listed(answer: Listed) -> u64
-    requires { ⌜ Fits («occurrences-spec».listedAnswer answer) ⌝ }
-    ensures { λ r. ⌜ r ≡ packed («occurrences-spec».listedAnswer answer) ⌝ }
-{
-    match answer {
-        Listed::Refused(number) => pack(0, 0, 0, number),
-        Listed::Twice(name, first, second) => pack(1, name, first.0, second.0),
-        Listed::Rows(count) => pack(2, 0, 0, count),
     }
 }
 
@@ -102,7 +89,7 @@ pub extern "C" fn eqlog_lookup(image: &[u8], table: &[u32], scope: u32, name: &[
 pub extern "C" fn eqlog_errors(image: &[u8], table: &mut [u32], rows: &mut [u32], mode: u32) -> u64
     ensures { λ r. ⌜ LeavesRows (errors (now (image .entry)) (now (table .entry)) (now (rows .entry)) mode) r (now (table .exit)) (now (rows .exit)) ⌝ }
 {
-    pack_checked(bindings::check_bindings(image, table, rows, mode))
+    pack_rowed(bindings::check_bindings(image, table, rows, mode))
 }
 
 // Once: resolves, then looks for the first lone occurrence.
@@ -118,7 +105,7 @@ pub extern "C" fn eqlog_once(image: &[u8], table: &mut [u32]) -> u64
 pub extern "C" fn eqlog_occurrences(image: &[u8], table: &mut [u32], rows: &mut [u32]) -> u64
     ensures { λ r. ⌜ LeavesRows («calls-spec».occurrences (now (image .entry)) (now (table .entry)) (now (rows .entry))) r (now (table .exit)) (now (rows .exit)) ⌝ }
 {
-    pack_listed(occurrences::occurrences(image, table, rows))
+    pack_rowed(occurrences::occurrences(image, table, rows))
 }
 
 // Name: where the name's bytes stand in the image, start and length; 0 where there is none.

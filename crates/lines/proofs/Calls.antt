@@ -1,22 +1,22 @@
 -- The lines of what the calls hand back: rows that a call has left, its last answer, the whole report.
 use mathlib.Core.Path.{_≡_, refl, sym, ap, _∙_}
 use mathlib.Core.List.{List, [], _∷_, _++_, append-nil, append-assoc}
-use Prim.Native.Nat.{ℕ, zero, suc, _+_, _*_, _≤_}
+use Prim.Native.Nat.{ℕ, _+_, _*_, _≤_}
 use native.Mathlib.Omega.{arith}
-use lib.Dec.{leb→le}
 use lib.ListN.{length, take, drop, length-replicate}
 use lib.Seq.{length-take-le}
 use Rattle.ast.specs.Image.{nodes}
 use Rattle.ast.specs.Answer.{Answer, refused, twice as twiceAnswer, result}
-use Rattle.ast.proofs.Accepted.{both, needed, sized}
+use Rattle.ast.proofs.Accepted.{sized}
 use Rattle.rows.specs.Rows.{Row, rowsLength, written}
-use Rattle.table.specs.State.{Exit}
-use Rattle.scopes.specs.Walk.{Listed, done, twice}
-use Rattle.scopes.specs.Resolve.{testTable, walked, headed}
-use Rattle.scopes.specs.Resolve as resolving
-use Rattle.scopes.specs.Rows.{testRows, Outcome}
-use Rattle.bindings.specs.Errors.{errorRows, testErrors, errorsOf, errors}
-use Rattle.occurrences.specs.Occurrences.{occurrenceRows, occurrencesOf, occurrences}
+use Rattle.table.specs.Table.{Table}
+use Rattle.scopes.specs.Resolve.{Way, refuses, stops, fills, way, answerBy}
+use Rattle.scopes.specs.Calls.{testRows, rowsBy, rowsCall}
+use Rattle.scopes.proofs.Calls.{rows-table, rows-long, Went, went}
+use Rattle.scopes.proofs.Resolving.{table-accepted}
+use Rattle.bindings.specs.Errors.{errorRows, errors}
+use Rattle.bindings.proofs.Calls.{errors-rows}
+use Rattle.occurrences.specs.Occurrences.{occurrenceRows, occurrences}
 use Rattle.lines.specs.Report.{Line, error, var, zipped, rowLines, errorLines, varLines, report, lentTable, lentRows}
 use Rattle.lines.specs.Bytes.{text, numbers, lineBytes, linesBytes, reportBytes}
 use Rattle.lines.specs.Out.{Out, outAt, write, rowsFrom, Wrote, Printed}
@@ -28,36 +28,20 @@ pub record Few (img : List ℕ) (c : ℕ) : Type 0 where
   pub small : nodes img ≤ 2048
 
 rows-few : (img tab rows : List ℕ) (l : List Row) → testRows img tab rows ≡ 0 → length (written (nodes img) l rows) ≡ length rows → Few img (length l)
-unfolding testRows testTable
 rows-few img tab rows l t e =
-    let a = both _ _ t in
-    let s = sized img (both _ _ (a .0) .0) in
-    record { few = written-few (nodes img) l rows (leb→le _ _ (needed 13 _ (a .1))) e; small = s .fewNodes }
+    let s = sized img (table-accepted img tab (rows-table img tab rows t)) in
+    record { few = written-few (nodes img) l rows (rows-long img tab rows t) e; small = s .fewNodes }
 
--- what a call leaves after its refusals, from a walk
-module _ (img tab rows : List ℕ) (of : Listed → Outcome) (l : Exit → List Row) where
-  abbrev after : ℕ → Listed → Outcome
-  after t w = elim t [ zero ↦ of w | suc r ↦ record { answer = refused (suc r); table = tab; rows = rows } ]
-
-  call-few : ((e : Exit) → of (done e) ≡ record { answer = result 0 (length (l e)); table = headed img (e .table); rows = written (nodes img) (l e) rows })
-      → ((x a b : ℕ) → (of (twice x a b)) .answer ≡ twiceAnswer x a b)
-      → (t : ℕ) → (t ≡ 0 → testRows img tab rows ≡ 0) → (w : Listed) (a c : ℕ) → result a c ≡ (after t w) .answer → length ((after t w) .rows) ≡ length rows → Few img c
-  call-few whole clash (suc r) passed w a c p q = let z : _≡_ {A = ℕ} 0 1 = cc in absurd (omega arith)
-  call-few whole clash zero passed (twice x y u) a c p q = let h = clash x y u in let z : _≡_ {A = ℕ} 0 1 = cc in absurd (omega arith)
-  call-few whole clash zero passed (done e) a c p q =
-      let f = p ∙ ap (λ (o : Outcome). o .answer) (whole e) in
-      let k : c ≡ length (l e) = cc in
-      rw k (rows-few img tab rows (l e) (passed refl) (ap (λ (o : Outcome). length (o .rows)) (sym (whole e)) ∙ q))
-
-errors-few : (img tab rows : List ℕ) (mode a c : ℕ) → result a c ≡ (errors img tab rows mode) .answer → length ((errors img tab rows mode) .rows) ≡ length rows → Few img c
-unfolding errors errorsOf testErrors
-errors-few img tab rows mode =
-    call-few img tab rows (errorsOf img tab rows mode) (λ e. errorRows img (e .table) mode) (λ e. refl) (λ x a b. refl) (testErrors img tab rows mode) (λ e. both _ _ e .0) (walked img tab)
-
-occurrences-few : (img tab rows : List ℕ) (a c : ℕ) → result a c ≡ (occurrences img tab rows) .answer → length ((occurrences img tab rows) .rows) ≡ length rows → Few img c
-unfolding occurrences occurrencesOf
-occurrences-few img tab rows =
-    call-few img tab rows (occurrencesOf img tab rows) (λ e. occurrenceRows img (e .table)) (λ e. refl) (λ x a b. refl) (testRows img tab rows) (λ e. e) (walked img tab)
+-- what a call that writes rows says of them
+call-few : (img tab rows : List ℕ) {r : ℕ} (f : Table → List Row) → (r ≡ 0 → testRows img tab rows ≡ 0) → (a c : ℕ) → result a c ≡ (rowsCall img tab rows r f) .answer
+    → length ((rowsCall img tab rows r f) .rows) ≡ length rows → Few img c
+unfolding rowsCall answerBy rowsBy
+call-few img tab rows {r} f passed a c = go (way img tab r) (went img tab r)
+  where
+    go : (w : Way) → Went img tab r w → result a c ≡ answerBy (λ t. result 0 (length (f t))) w → length (rowsBy img rows f w) ≡ length rows → Few img c
+    go (refuses k) h p q = let z : _≡_ {A = ℕ} 0 1 = cc in absurd (omega arith)
+    go (stops x y z) h p q = let z : _≡_ {A = ℕ} 0 1 = cc in absurd (omega arith)
+    go (fills t) h p q = let k : c ≡ length (f t) = cc in rw k (rows-few img tab rows (f t) (passed (h .0)) q)
 
 -- lines ---------------------------------------------------------------------------------------------------------------
 lines-append : (l k : List Line) → linesBytes (l ++ k) ≡ linesBytes l ++ linesBytes k
@@ -110,24 +94,24 @@ rows-lines f word same img ws n c a o p ans e k few long w =
     (omega arith)
     w
 
+-- the rows of a call
+call-lines : (f : ℕ → ℕ → Line) (word : List ℕ) → ((a b : ℕ) → lineBytes (f a b) ≡ word ++ numbers (a ∷ b ∷ [])) → (img : List ℕ) {r : ℕ} (g : Table → List Row)
+    → (r ≡ 0 → testRows img lentTable lentRows ≡ 0) → (ws : List ℕ) (n c : ℕ) (o p : Out) → result 0 c ≡ (rowsCall img lentTable lentRows r g) .answer → ws ≡ (rowsCall img lentTable lentRows r g) .rows
+    → length ws ≡ length lentRows → n ≡ nodes img → Wrote (rowsFrom word ws n c 0) (28 * c) o p
+    → Wrote (linesBytes (rowLines f (nodes img) ((rowsCall img lentTable lentRows r g) .answer) ((rowsCall img lentTable lentRows r g) .rows))) 57344 o p
+call-lines f word same img {r} g passed ws n c o p e q h k w =
+    rw q at (rows-lines f word same img ws n c 0 o p _ e k (call-few img lentTable lentRows g passed 0 c e (ap length (sym q) ∙ h)) h w)
+
 module _ (img : List ℕ) where
-  abbrev E : Outcome
-  E = errors img lentTable lentRows 1
-
-  abbrev O : Outcome
-  O = occurrences img lentTable lentRows
-
-  pub error-lines : (ws : List ℕ) (n c : ℕ) (o p : Out) → result 0 c ≡ E .answer → ws ≡ E .rows → length ws ≡ length lentRows → n ≡ nodes img
+  pub error-lines : (ws : List ℕ) (n c : ℕ) (o p : Out) → result 0 c ≡ (errors img lentTable lentRows 1) .answer → ws ≡ (errors img lentTable lentRows 1) .rows → length ws ≡ length lentRows → n ≡ nodes img
       → Wrote (rowsFrom (text "error") ws n c 0) (28 * c) o p → Wrote (linesBytes (errorLines img)) 57344 o p
-  unfolding text lineBytes
-  error-lines ws n c o p e r h k w =
-      rw r at (rows-lines error (text "error") (λ a b. refl) img ws n c 0 o p (E .answer) e k (errors-few img lentTable lentRows 1 0 c e (ap length (sym r) ∙ h)) h w)
+  unfolding text lineBytes errors
+  error-lines = call-lines error (text "error") (λ a b. refl) img (λ t. errorRows img t 1) (errors-rows img lentTable lentRows 1)
 
-  pub var-lines : (ws : List ℕ) (n c : ℕ) (o p : Out) → result 0 c ≡ O .answer → ws ≡ O .rows → length ws ≡ length lentRows → n ≡ nodes img
+  pub var-lines : (ws : List ℕ) (n c : ℕ) (o p : Out) → result 0 c ≡ (occurrences img lentTable lentRows) .answer → ws ≡ (occurrences img lentTable lentRows) .rows → length ws ≡ length lentRows → n ≡ nodes img
       → Wrote (rowsFrom (text "var") ws n c 0) (28 * c) o p → Wrote (linesBytes (varLines img)) 57344 o p
-  unfolding text lineBytes
-  var-lines ws n c o p e r h k w =
-      rw r at (rows-lines var (text "var") (λ a b. refl) img ws n c 0 o p (O .answer) e k (occurrences-few img lentTable lentRows 0 c e (ap length (sym r) ∙ h)) h w)
+  unfolding text lineBytes occurrences
+  var-lines = call-lines var (text "var") (λ a b. refl) img (occurrenceRows img) (λ e. e)
 
 -- the lines of a report, put into a buffer that holds them, are printed there
 pub printed : (img : List ℕ) {ws vs : List ℕ} {r : ℕ} → 114750 ≤ length ws → Wrote (linesBytes (report img)) 114750 (outAt 0 ws) (outAt r vs) → Printed (reportBytes img) r vs

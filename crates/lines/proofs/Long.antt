@@ -15,6 +15,7 @@ use Rattle.ast.proofs.Words.{word-in}
 use Rattle.ast.proofs.Accepted.{needed, stop, passed, sizes-ok}
 use Rattle.ast.specs.Answer.{refused}
 use Rattle.scopes.specs.Resolve.{Outcome, testTable, resolve}
+use Rattle.scopes.proofs.Calls.{call-refused}
 use Rattle.lines.specs.Report.{refusal, linesOf, report, lentTable}
 use Rattle.lines.specs.Bytes.{reportBytes, linesBytes}
 
@@ -99,7 +100,7 @@ module _ (img : List ℕ) (h : tooMany ≤ length img) where
 
 resolve-refused : (img tab : List ℕ) (r : ℕ) → testTable img tab ≡ suc r → resolve img tab ≡ record { answer = refused (suc r); table = tab }
 unfolding resolve
-resolve-refused img tab r e = rw (e, resolve)
+resolve-refused img tab r e = call-refused img tab _ (suc r) (sym e) (λ q. omega arith)
 
 -- an image that is refused has this one line
 report-refused : (img : List ℕ) (r : ℕ) → verdict img ≡ suc r → report img ≡ refusal (suc r) ∷ []

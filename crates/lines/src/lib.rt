@@ -7,13 +7,12 @@ ghost use Rattle.occurrences.specs.Occurrences.{once};
 ghost use Rattle.lines.specs.Report.{resolved, refusal, declaredTwice, endOk, endOnce, endLines, errorLines, varLines, bodyLines, lentTable};
 ghost use Rattle.lines.specs.Bytes.{digits, numbers, lineBytes, linesBytes, reportBytes};
 ghost use Rattle.lines.specs.Out.{outAt, put, write, rowsFrom, Wrote, Printed};
-use bindings::Checked;
-use occurrences::Listed;
 use occurrences::Once;
 use scopes::Resolved;
+use scopes::Rowed;
 
-// The words that the report lends to a call, all 0 and enough for any image: 3 + 5N and 1 + 2N at N = 2,048.
-const TABLE: usize = 10243;
+// The words that the report lends to a call, all 0 and enough for any image: those of a table, and 1 + 2N, at N = 2,048.
+const TABLE: usize = table::COUNTS + table::ARRAYS * 2048;
 
 const ROWS: usize = 4097;
 
@@ -149,11 +148,9 @@ fn put_errors(image: &[u8], out: &mut [u8], at: usize) -> usize
     let mut table = [0u32; TABLE];
     let mut rows = [0u32; ROWS];
     match bindings::check_bindings(image, &mut table, &mut rows, 1) {
-        Checked::Refused(_) => at,
-        Checked::Twice(_, _, _) => at,
-        Checked::Rows(count) => {
-            put_rows(out, at, b"error", &rows, ast::node_count(image), count)
-        }
+        Rowed::Refused(_) => at,
+        Rowed::Twice(_, _, _) => at,
+        Rowed::Rows(count) => { put_rows(out, at, b"error", &rows, ast::node_count(image), count) }
     }
 }
 
@@ -164,9 +161,9 @@ fn put_vars(image: &[u8], out: &mut [u8], at: usize) -> usize
     let mut table = [0u32; TABLE];
     let mut rows = [0u32; ROWS];
     match occurrences::occurrences(image, &mut table, &mut rows) {
-        Listed::Refused(_) => at,
-        Listed::Twice(_, _, _) => at,
-        Listed::Rows(count) => put_rows(out, at, b"var", &rows, ast::node_count(image), count),
+        Rowed::Refused(_) => at,
+        Rowed::Twice(_, _, _) => at,
+        Rowed::Rows(count) => put_rows(out, at, b"var", &rows, ast::node_count(image), count),
     }
 }
 

@@ -17,10 +17,10 @@ use Rattle.ast.specs.Tree.{Tree, node, block, Trees, none, _◂_}
 use Rattle.ast.proofs.Accepted.{formed, last-below}
 use Rattle.ast.proofs.Unfold.{treeOf}
 use Rattle.ast.proofs.Vars.{and-both, Everywhere, EverywhereAll}
-use Rattle.ast.proofs.Bools.{not-equal}
 use Rattle.rows.specs.Rows.{Row, row, when}
 use Rattle.error.specs.Kinds.{introducedInThen, definedNotNew, patternNotFresh, asked}
-use Rattle.scopes.specs.Resolve.{walked}
+use Rattle.scopes.specs.Resolve.{walked, counted}
+use Rattle.ast.proofs.Bools.{not-equal}
 use Rattle.scopes.specs.Walk.{done}
 use Rattle.table.specs.State.{Exit}
 use Rattle.table.specs.Table.{Table, lookup, isVar, entryAt, atEntry, atExit}
@@ -390,13 +390,13 @@ module _ (img : List ℕ) (T₀ : Table) where
   module-faults n k sh ts s d t = decls-faults ts d (s .1) (kindsAll-map (no-module k) ts (s .0 .0 .kids)) (saysAll img ts) t
 
 -- what the table says and what the tree says
-pub faults-by-meaning : (img tab : List ℕ) (e : Exit) → verdict img ≡ 0 → walked img tab ≡ done e → plainRows img (e .table) ≡ faultsIn img
+pub faults-by-meaning : (img tab : List ℕ) (e : Exit) → verdict img ≡ 0 → walked img tab ≡ done e → plainRows img (counted img (e .table)) ≡ faultsIn img
 unfolding plainRows faultsIn moduleRules kindOf kinds
 faults-by-meaning img tab e accepted q =
     let f = formed img accepted in
     let r = root-of img accepted in
-    subst (λ (u : Tree). Everywhere ShapedAt u → DeclsBelow img (e .table) u → Tells img (e .table) (rulesOf img u)
-    → declRows img (e .table) u ≡ faultsOf (nameOf img) (kindAt img) (rulesOf img u))
+    subst (λ (u : Tree). Everywhere ShapedAt u → DeclsBelow img (counted img (e .table)) u → Tells img (counted img (e .table)) (rulesOf img u)
+    → declRows img (counted img (e .table)) u ≡ faultsOf (nameOf img) (kindAt img) (rulesOf img u))
     (sym (treeOf img f (last img) (last-below img accepted) 0 (f .root)))
-    (λ s d t. module-faults img (e .table) (last img) 0 _ _ s d t)
-    (module-shaped img accepted) (subst (DeclsBelow img (e .table)) (sym (r .is)) (r .decls)) (rules-told img tab e accepted q)
+    (λ s d t. module-faults img (counted img (e .table)) (last img) 0 _ _ s d t)
+    (module-shaped img accepted) (subst (DeclsBelow img (counted img (e .table))) (sym (r .is)) (r .decls)) (rules-told img tab e accepted q)

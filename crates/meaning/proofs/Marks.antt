@@ -11,7 +11,7 @@ use Rattle.ast.specs.Kinds.{outer, inner, plain, term, ident, head, headMember,
 use Rattle.ast.specs.Tests.{verdict}
 use Rattle.ast.specs.Tree.{Tree, node, block, Trees, none, _◂_}
 use Rattle.rows.specs.Rows.{Row, row}
-use Rattle.scopes.specs.Resolve.{walked}
+use Rattle.scopes.specs.Resolve.{walked, counted}
 use Rattle.scopes.specs.Walk.{done}
 use Rattle.table.specs.State.{Exit}
 use Rattle.table.specs.Table.{Table, lookup, exitAt}
@@ -113,8 +113,8 @@ module _ (img : List ℕ) (T : Table) where
       ap₂ _++_ (let g = f r (inl refl) in marks-along (r .statements) (g .0) occurs 0 (r .meaning) (g .1)) (rules-marks rs (λ q i. f q (inr i)))
 
 -- what the table says and what the tree says
-pub by-meaning : (img tab : List ℕ) (e : Exit) → verdict img ≡ 0 → walked img tab ≡ done e → occurrenceRows img (e .table) ≡ marksIn img
+pub by-meaning : (img tab : List ℕ) (e : Exit) → verdict img ≡ 0 → walked img tab ≡ done e → occurrenceRows img (counted img (e .table)) ≡ marksIn img
 unfolding occurrenceRows marksIn
 by-meaning img tab e accepted q =
-    rules-marks img (e .table) (moduleRules img)
+    rules-marks img (counted img (e .table)) (moduleRules img)
     (λ r i. (((resolved img tab e accepted q) .walks r i) .1 .body, rules-told img tab e accepted q r i))

@@ -6,7 +6,7 @@ use native.Mathlib.Omega.{arith}
 use Rattle.ast.specs.Rules.{Rule, moduleRules}
 use Rattle.ast.specs.Tests.{verdict}
 use Rattle.table.specs.State.{Exit}
-use Rattle.scopes.specs.Resolve.{walked}
+use Rattle.scopes.specs.Resolve.{walked, counted}
 use Rattle.scopes.specs.Walk.{done}
 use Rattle.sight.specs.Sight.{In}
 use Rattle.sight.proofs.Moves.{walks-seq, framed}
@@ -16,7 +16,7 @@ use Rattle.meaning.proofs.Keeps.{walks-rise}
 use Rattle.meaning.proofs.Told.{ToldSeq, rule-told}
 
 pub rules-told : (img tab : List ℕ) (e : Exit) → verdict img ≡ 0 → walked img tab ≡ done e
-    → (r : Rule) → In r (moduleRules img) → ToldSeq img (e .table) occurs (r .statements) (r .meaning)
+    → (r : Rule) → In r (moduleRules img) → ToldSeq img (counted img (e .table)) occurs (r .statements) (r .meaning)
 rules-told img tab e accepted q r i =
     let w = (resolved img tab e accepted q) .walks r i in
     let d = w .1 in
@@ -25,7 +25,7 @@ rules-told img tab e accepted q r i =
     let f = framed img v (d .scopes≤, d .symbols≤) (d .small) (d .sane) (d .inside) in
     let m = walks-rise img v in
     let n = d .inside in
-    rule-told img (e .table) (r .statements) (d .body) (w .0)
+    rule-told img (counted img (e .table)) (r .statements) (d .body) (w .0)
     (record { sane = d .sane; inside = d .inside; reads = λ x. k .lookups (w .0 .scope) x (omega arith) ∙ f .later .lookups (w .0 .scope) x (d .inside) ∙ w .2 x })
     (record {
       few = (d .scopes≤, d .symbols≤);

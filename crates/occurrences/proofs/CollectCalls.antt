@@ -1,23 +1,23 @@
--- Occurrences and Once as their code goes: what the collectors find in the table that resolving fills, and that the lists are the same
--- with the counts in front and without the count of scopes, which lookup does not read.
+-- Occurrences and Once as their code goes: what the collectors find in the table that resolving fills, and that the lists do not need the
+-- count of scopes, which lookup does not read.
 use mathlib.Core.Path.{_≡_, refl, sym, ap, _∙_}
 use mathlib.Core.List.{List}
 use mathlib.Core.Option.{Option}
-use Prim.Native.Nat.{ℕ, suc}
-use Rattle.ast.specs.Image.{nodes, nameOf}
+use Prim.Native.Nat.{ℕ}
+use Rattle.ast.specs.Image.{nodes}
 use Rattle.table.specs.Values.{sought}
 use Rattle.ast.specs.Rules.{moduleRules}
-use Rattle.table.specs.Table.{Table, climb, lookup, exitAt}
+use Rattle.table.specs.Table.{Table, lookup}
 use Rattle.table.specs.Values.{tableOf}
 use Rattle.table.specs.declared.Walked.{Walked}
 use Rattle.rows.specs.Rows.{Row, Wrote}
 use Rattle.rows.proofs.Appends.{wrote-as}
-use Rattle.scopes.specs.Resolve.{testTable, headed, counted}
+use Rattle.scopes.specs.Resolve.{testTable}
 use Rattle.scopes.specs.Answers.{Resolves}
 use Rattle.scopes.specs.declared.Declared.{Declared}
 use Rattle.scopes.specs.declared.Declared.the-variants.{Done}
 use Rattle.scopes.proofs.Calls.{call-filled}
-use Rattle.scopes.proofs.Headed.{headed-lookup, headed-exit, resolved-filled}
+use Rattle.scopes.proofs.Headed.{resolved-filled}
 use Rattle.occurrences.specs.Spots.{Spot}
 use Rattle.occurrences.specs.Occurrences.{found, occurrenceRows, lone, rowsByRule, loneAnswer, once}
 use Rattle.occurrences.specs.Promises.{Whole, Nodes}
@@ -25,16 +25,6 @@ use Rattle.occurrences.proofs.Few.{rows-few}
 use Rattle.occurrences.proofs.CollectRules.{same-lists, same-all}
 
 module _ (img : List ℕ) (t : Table) where
-  headed-found : (s : Spot) → found img t s ≡ found img (counted img t) s
-  unfolding lookup
-  headed-found s =
-      let x = nameOf img (s .ident) in
-      headed-lookup img t (exitAt img (t .words) (s .node)) x ∙ ap (λ (m : ℕ). climb img (suc m) (headed img t) (t .symbols) m x) (headed-exit img t (s .node))
-
-  -- the counts in front change no row
-  pub rows-headed : occurrenceRows img t ≡ occurrenceRows img (counted img t)
-  rows-headed = same-all img t (counted img t) headed-found
-
   sought-found : (s : Spot) → found img t s ≡ found img (sought (t .words) (t .symbols)) s
   unfolding lookup
   sought-found s = refl

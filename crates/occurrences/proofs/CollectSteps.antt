@@ -12,7 +12,7 @@ use lib.ListN.{length, getD, length-append}
 use Rattle.ast.specs.Image.{nodes, field}
 use Rattle.ast.specs.Kinds.{Class, inner, plain, term, head, headMember, member, case, name, child, list, cases, noChild, Kind, kindOf}
 use Rattle.ast.specs.Tree.{Trees, ordered, treeAt}
-use Rattle.ast.specs.Is.{Is, kindBy}
+use Rattle.ast.specs.Is.{Is, kindBy, twoTerms}
 use Rattle.ast.proofs.Row.{Child, FormedFields, next}
 use Rattle.ast.proofs.Shapes.{termKinds, headKinds, one-more, row, child-is, case-child, case-last, run-item, run-list, run-tail}
 use Rattle.table.specs.Table.{Table, isVar}
@@ -187,9 +187,9 @@ module _ (img : List ℕ) (t : Table) where
   unfolding kindOf bare
   term-app p q r u v = let s = term-sub p 2 q r refl refl in pair-under s (two refl refl (s .ready) u v)
 
-  pub term-comp : {n d a b c : ℕ} → Ready img t (kindOf 12) n c → 7 ≡ field img n 0 → d ≡ field img n 1 → a ≡ field img d 0 → b ≡ field img d 1 → Pair 12 12 n a b c
+  pub term-two : {n d c : ℕ} → Ready img t (kindOf 12) n c → 7 ≡ field img n 0 → d ≡ field img n 1 → Sub twoTerms n d c
   unfolding kindOf bare
-  term-comp p q r u v = let s = term-sub p 7 q r refl refl in pair-under s (two refl refl (s .ready) u v)
+  term-two p q r = term-sub p 7 q r refl refl
 
   -- a Member, Dom, Cod or Id term: the one term in it
   pub term-inner : {n d e c x : ℕ} → Ready img t (kindOf 12) n c → 3 ≤ x → x ≤ 6 → x ≡ field img n 0 → d ≡ field img n 1 → e ≡ field img d 0 → Sub (kindOf 12) n e c

@@ -4,6 +4,7 @@ ghost use mathlib.Core.List.{[], _∷_};
 ghost use Prim.Native.Nat.{_+_, _<_, _≤_, _^_};
 ghost use lib.ListN.{length, getD, set};
 ghost use Rattle.ast.specs.Image as «image-spec»;
+ghost use Rattle.ast.specs.Is.{twoTerms};
 ghost use Rattle.ast.specs.Kinds.{kindOf};
 ghost use Rattle.table.specs.Rows.{Sorted};
 ghost use Rattle.table.specs.Values.{sought};
@@ -70,14 +71,27 @@ fn collect_term(
             let inner = NodeId(ast::field(image, id, 0));
             collect_term(image, table, symbols, rows, count, inner)
         }
-        7 => {
-            let first = NodeId(ast::field(image, id, 0));
-            let second = NodeId(ast::field(image, id, 1));
-            let after = collect_term(image, table, symbols, rows, count, first);
-            collect_term(image, table, symbols, rows, after, second)
-        }
+        7 => collect_two_terms(image, table, symbols, rows, count, id),
         _ => count,
     }
+}
+
+// A Comp term, or an Equal atom: two terms.
+fn collect_two_terms(
+    image: &[u8],
+    table: &[u32],
+    symbols: u32,
+    rows: &mut [u32],
+    count: u32,
+    id: NodeId,
+) -> u32
+    requires { ⌜ Ready (now image) (sought (now table) symbols) twoTerms (id .0) count ⌝ }
+    ensures { λ r. ⌜ Appended («image-spec».nodes (now (image .entry))) (rowsIn (now (image .entry)) (sought (now (table .entry)) symbols) (id .0)) count (now (rows .entry)) r (now (rows .exit)) ⌝ }
+{
+    let first = NodeId(ast::field(image, id, 0));
+    let second = NodeId(ast::field(image, id, 1));
+    let after = collect_term(image, table, symbols, rows, count, first);
+    collect_term(image, table, symbols, rows, after, second)
 }
 
 fn collect_app_head(
@@ -165,24 +179,6 @@ fn collect_pred_expr(
     count
 }
 
-// Two terms: an Equal atom.
-fn collect_equal(
-    image: &[u8],
-    table: &[u32],
-    symbols: u32,
-    rows: &mut [u32],
-    count: u32,
-    id: NodeId,
-) -> u32
-    requires { ⌜ Ready (now image) (sought (now table) symbols) (kindOf 30) (id .0) count ⌝ }
-    ensures { λ r. ⌜ Appended («image-spec».nodes (now (image .entry))) (rowsIn (now (image .entry)) (sought (now (table .entry)) symbols) (id .0)) count (now (rows .entry)) r (now (rows .exit)) ⌝ }
-{
-    let lhs = NodeId(ast::field(image, id, 0));
-    let rhs = NodeId(ast::field(image, id, 1));
-    let after = collect_term(image, table, symbols, rows, count, lhs);
-    collect_term(image, table, symbols, rows, after, rhs)
-}
-
 fn collect_pred(
     image: &[u8],
     table: &[u32],
@@ -236,7 +232,7 @@ fn collect_if_atom(
     let case = ast::field(image, atom, 0);
     let id = NodeId(ast::field(image, atom, 1));
     match case {
-        0 => collect_equal(image, table, symbols, rows, count, id),
+        0 => collect_two_terms(image, table, symbols, rows, count, id),
         1 => {
             let term = NodeId(ast::field(image, id, 0));
             collect_term(image, table, symbols, rows, count, term)
@@ -265,7 +261,7 @@ fn collect_then_atom(
     let case = ast::field(image, atom, 0);
     let id = NodeId(ast::field(image, atom, 1));
     match case {
-        0 => collect_equal(image, table, symbols, rows, count, id),
+        0 => collect_two_terms(image, table, symbols, rows, count, id),
         1 => collect_defined(image, table, symbols, rows, count, id),
         _ => collect_pred(image, table, symbols, rows, count, id),
     }

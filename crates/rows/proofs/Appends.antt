@@ -5,6 +5,7 @@ use Prim.Native.Nat.{ℕ, zero, suc, _+_, _*_, _-_, _<_, _≤_}
 use native.Mathlib.Nat.{add-zero}
 use native.Mathlib.Omega.{arith}
 use lib.ListN.{length, set, drop, replicate, length-append, length-replicate, length-drop, length-set, replicate-append-replicate}
+use lib.Seq.{drop-at}
 use borrow.Author.Fill.{fill-none, fill-more}
 use Rattle.rows.specs.Rows.{Row, lefts, rights, rowsLength, filled, written, cleared, putRows, Appended, Wrote}
 
@@ -48,6 +49,14 @@ pub clear-length : (n : ℕ) (ws : List ℕ) → n ≤ length ws → length (cle
 unfolding cleared
 clear-length n ws h =
     length-append (replicate n 0) (drop n ws) ∙ (let a = length-replicate {A = ℕ} n 0 in let b = length-drop n ws in omega arith)
+
+pub clear-long : (n : ℕ) (ws : List ℕ) → n ≤ length (cleared n ws)
+unfolding cleared
+clear-long n ws = let a = length-append (replicate n 0) (drop n ws) in let b = length-replicate {A = ℕ} n 0 in omega arith
+
+pub clear-past : (n : ℕ) (ws : List ℕ) → drop n (cleared n ws) ≡ drop n ws
+unfolding cleared
+clear-past n ws = drop-at (replicate n 0) (drop n ws) n (length-replicate n 0)
 
 -- the whole -----------------------------------------------------------------------------------------------------------
 put-length : (N c : ℕ) (l : List Row) (ws : List ℕ) → length (putRows N c l ws) ≡ length ws

@@ -4,10 +4,10 @@ use mathlib.Core.List.{List, [], _∷_}
 use Prim.Native.Nat.{ℕ, zero, suc, _+_, _-_, _<_, _≤_}
 use native.Mathlib.Nat.{sub-zero}
 use native.Mathlib.Omega.{arith}
-use lib.ListN.{length, getD, set, drop, replicate, length-set, length-append, length-replicate}
+use lib.ListN.{length, getD, set, length-set}
 use lib.Seq.{getD-set-same, getD-set-other}
-use Rattle.rows.specs.Rows.{Row, row, rowsLength, written, cleared, putRows, Appended, readRows, held}
-use Rattle.rows.proofs.Appends.{written-is}
+use Rattle.rows.specs.Rows.{Row, row, rowsLength, written, putRows, Appended, readRows, held}
+use Rattle.rows.proofs.Appends.{clear-long, written-is}
 
 -- a place that no row takes
 put-keeps : (N c : ℕ) (l : List Row) (ws : List ℕ) (k : ℕ) → ((d : ℕ) → c ≤ d → d < c + length l → (k ≡ 1 + d → ⊥) × (k ≡ 1 + N + d → ⊥))
@@ -72,10 +72,5 @@ read-behind N ws v (suc c) i =
 pub held-written : (N : ℕ) (l : List Row) (old : List ℕ) → length l ≤ N → held N (written N l old) ≡ l
 unfolding written
 held-written N l old few =
-    ap (λ (ws : List ℕ). readRows N ws (length l) 0) (written-is N l old few) ∙ read-behind N _ (length l) (length l) 0 ∙ read-back N 0 l _ (omega arith) long
-  where
-    long : rowsLength N ≤ length (cleared (rowsLength N) old)
-    long = unfold cleared in
-        let a = length-append (replicate (rowsLength N) 0) (drop (rowsLength N) old) in
-        let b = length-replicate {A = ℕ} (rowsLength N) 0 in
-        omega arith
+    ap (λ (ws : List ℕ). readRows N ws (length l) 0) (written-is N l old few) ∙ read-behind N _ (length l) (length l) 0
+    ∙ read-back N 0 l _ (omega arith) (clear-long (rowsLength N) old)

@@ -19,7 +19,7 @@ use Rattle.table.specs.declared.Walked.{Walked}
 use Rattle.rows.specs.Rows.{Row, rowsLength, written, Wrote, held}
 use Rattle.rows.proofs.Reading.{held-written}
 use Rattle.scopes.specs.Walk.{Listed, done, twice}
-use Rattle.scopes.specs.Resolve.{testTable, zeroed, walked, headed, counted, Way, refuses, stops, fills, wayOf, way, answerBy, tableBy, Outcome, tableCall}
+use Rattle.scopes.specs.Resolve.{testTable, zeroed, walked, headed, counted, Way, refuses, stops, fills, wayOf, way, answerBy, tableBy, tableCall}
 use Rattle.scopes.specs.Calls.{testRows, RowsOutcome, rowsBy, rowsCall}
 use Rattle.scopes.specs.Answers.{declaredWay, Resolves}
 use Rattle.scopes.specs.declared.Declared.{Declared}
@@ -135,6 +135,11 @@ module _ (img tab rows : List ℕ) (f : Table → List Row) where
       pub rowed-held : {e : Exit} → walked img tab ≡ done e → length (f (counted img (e .table))) ≤ nodes img
           → held (nodes img) ((rowsCall img tab rows r f) .rows) ≡ f (counted img (e .table))
       rowed-held h few = ap (λ (o : RowsOutcome). held (nodes img) (o .rows)) (rowed-done h) ∙ held-written (nodes img) _ rows few
+
+      -- and counted
+      pub rowed-count : {e : Exit} → walked img tab ≡ done e → length (f (counted img (e .table))) ≤ nodes img
+          → (rowsCall img tab rows r f) .answer ≡ result 0 (length (held (nodes img) ((rowsCall img tab rows r f) .rows)))
+      rowed-count h few = ap (λ (o : RowsOutcome). o .answer) (rowed-done h) ∙ ap (λ (l : List Row). result 0 (length l)) (sym (rowed-held h few))
 
       -- by what resolving hands back, as the code has it
       module _ {d : Declared} {ws : List ℕ} (h : Resolves img tab d ws) where

@@ -12,3 +12,4 @@ pub mod Entries
 pub mod Visiting
 pub mod Rooting
 pub mod Headed
+pub mod Single

@@ -29,8 +29,7 @@ use Rattle.sound.proofs.Sounds.{parent-low, row-yes, sound-rest}
 use Rattle.ordered.specs.Promises.{Few}
 use Rattle.ordered.specs.Kept.{Kept}
 use Rattle.ordered.proofs.Kept.{past, mark-kept, scope-kept, mark-past, scope-past, mark-length, scope-length}
-use Rattle.rows.specs.Rows.{cleared}
-use Rattle.rows.proofs.Appends.{clear-length}
+use Rattle.rows.proofs.Appends.{clear-length, clear-long, clear-past}
 use Rattle.scopes.specs.Walk.{done, enterAll, visitAll, resolveTree}
 use Rattle.scopes.specs.Resolve.{testTable, zeroed, walked, headed, Way, refuses, stops, fills, way, answerBy, tableBy, tableCall, resolve}
 use Rattle.scopes.specs.Clash.{Clash, clashIn, firstClash}
@@ -137,20 +136,16 @@ module _ (img tab : List ℕ) where
   table-long e = leb→le _ _ (needed 12 _ (both _ _ e .1))
 
   pub zeroed-length : tableLength (nodes img) ≤ length tab → length (zeroed img tab) ≡ length tab
-  unfolding zeroed cleared
+  unfolding zeroed
   zeroed-length h = clear-length (tableLength (nodes img)) tab h
 
   pub zeroed-long : tableLength (nodes img) ≤ length (zeroed img tab)
   unfolding zeroed
-  zeroed-long =
-      let L = tableLength (nodes img) in
-      let a = length-append (replicate L 0) (drop L tab) in
-      let b = length-replicate {A = ℕ} L 0 in
-      omega arith
+  zeroed-long = clear-long (tableLength (nodes img)) tab
 
   pub zeroed-past : drop (tableLength (nodes img)) (zeroed img tab) ≡ drop (tableLength (nodes img)) tab
   unfolding zeroed
-  zeroed-past = drop-at (replicate (tableLength (nodes img)) 0) (drop (tableLength (nodes img)) tab) (tableLength (nodes img)) (length-replicate (tableLength (nodes img)) 0)
+  zeroed-past = clear-past (tableLength (nodes img)) tab
 
   module _ (accepted : verdict img ≡ 0) where
     whole-size : size (treeAt img (last img)) ≡ nodes img

@@ -1,7 +1,7 @@
 -- The module's list, and Resolve as the code goes: cleared words, the walk, the counts, or words cleared again.
 use mathlib.Core.Path.{_≡_, refl, sym, ap, subst, _∙_}
 use mathlib.Core.List.{List, _++_}
-use Prim.Native.Nat.{ℕ, zero, suc, _+_, _<_, _≤_}
+use Prim.Native.Nat.{ℕ, suc, _+_, _<_, _≤_}
 use native.Mathlib.Omega.{arith}
 use lib.ListN.{length, drop, replicate}
 use Rattle.ast.specs.Answer.{Answer, refused, twice as twiceAnswer, result}
@@ -18,7 +18,7 @@ use Rattle.ast.proofs.Row.{append, append-none, nodeOf}
 use Rattle.ast.proofs.Shapes.{tree-of, run-list}
 use Rattle.table.specs.Layout.{allOnes, tableLength}
 use Rattle.table.specs.State.{Exit, childScope, marked}
-use Rattle.table.specs.Values.{tableOf, exitOf}
+use Rattle.table.specs.Values.{tableOf}
 use Rattle.table.specs.declared.Walked.{Walked}
 use Rattle.rows.specs.Rows.{cleared}
 use Rattle.scopes.specs.Walk.{andThen, enterAll, visitAll, resolveTree}
@@ -105,7 +105,7 @@ module _ (img : List ℕ) where
 -- Resolve, by the words that the code has at each step
 module _ (img tab : List ℕ) (passes : testTable img tab ≡ 0) (us : List ℕ) (c : ℕ) (count-is : c ≡ tableLength (nodes img)) (begins : us ≡ cleared c tab) where
   as-zeroed : us ≡ zeroed img tab
-  unfolding zeroed cleared
+  unfolding zeroed
   as-zeroed = begins ∙ ap (λ (k : ℕ). cleared k tab) count-is
 
   pub lent : length us ≡ length tab → Lent img us

@@ -1,6 +1,6 @@
 -- The calls that write rows: their refusals, and what they leave.
 use mathlib.Core.List.{List}
-use Prim.Native.Nat.{ℕ, _+_, _*_}
+use Prim.Native.Nat.{ℕ}
 use lib.Dec.{leb}
 use lib.ListN.{length}
 use Rattle.ast.specs.Image.{nodes}

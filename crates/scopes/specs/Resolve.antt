@@ -1,17 +1,16 @@
 -- Resolve: its answer and every word of the table afterwards, for every image and every lent table. Other calls resolve first: the
 -- ways that such a call can go, and what it leaves by each, are told here for all of them.
-use mathlib.Core.Bool.{Bool, true, false}
-use mathlib.Core.List.{List, [], _∷_, _++_}
-use Prim.Native.Nat.{ℕ, zero, suc, _+_, _*_}
+use mathlib.Core.List.{List}
+use Prim.Native.Nat.{ℕ, zero, suc}
 use lib.Dec.{leb}
-use lib.ListN.{length, set, drop, replicate}
+use lib.ListN.{length, set}
 use Rattle.ast.specs.Image.{nodes, last}
 use Rattle.ast.specs.Tests.{_▸_, need, verdict}
 use Rattle.ast.specs.Tree.{treeAt}
 use Rattle.ast.specs.Answer.{Answer, refused, twice as twiceAnswer, result}
 use Rattle.table.specs.Layout.{nodesPlace, scopesPlace, symbolsPlace, tableLength}
 use Rattle.table.specs.Table.{Table}
-use Rattle.table.specs.State.{Exit}
+use Rattle.rows.specs.Rows.{cleared}
 use Rattle.scopes.specs.Walk.{Listed, done, twice, resolveTree}
 
 module _ (img tab : List ℕ) where
@@ -21,7 +20,7 @@ module _ (img tab : List ℕ) where
 
   -- the first 3 + 5N words zero, the rest as it is
   unfoldable pub zeroed : List ℕ
-  zeroed = replicate (tableLength (nodes img)) 0 ++ drop (tableLength (nodes img)) tab
+  zeroed = cleared (tableLength (nodes img)) tab
 
   -- the walk over the module's tree, from a table with no scope and no symbol
   unfoldable pub walked : Listed

@@ -185,6 +185,3 @@ module _ (img : List ℕ) (e : verdict img ≡ 0) where
   -- each node stands once among the nodes of rules
   pub rule-nodes-once : (v : ℕ) → times v (ruleNumbers (moduleRules img)) ≤ 1
   rule-nodes-once v = let a = rules-times v in let b = tree-times v in omega arith
-
-  pub rule-nodes-small : (v : ℕ) → 1 ≤ times v (ruleNumbers (moduleRules img)) → v < nodes img
-  rule-nodes-small v h = let a = rules-times v in tree-small v (omega arith)

@@ -14,13 +14,13 @@ use Prim.Native.Nat.{ℕ, _≤_}
 use lib.ListN.{length}
 use Rattle.ast.specs.Answer.{result}
 use Rattle.ast.specs.Image.{nodes, kindAt, nameOf}
-use Rattle.rows.specs.Rows.{Row, lefts}
+use Rattle.rows.specs.Rows.{Row, lefts, held}
 use Rattle.scopes.specs.Resolve.{walked}
-use Rattle.scopes.specs.Rows.{testRows, Outcome}
+use Rattle.scopes.specs.Calls.{testRows, RowsOutcome}
 use Rattle.scopes.specs.Twice.{declaredTwice}
 use Rattle.scopes.specs.Walk.{done}
-use Rattle.ast.proofs.Accepted.{both}
-use Rattle.scopes.proofs.Declaring.{twice-exactly}
+use Rattle.scopes.proofs.Calls.{rows-table}
+use Rattle.scopes.proofs.Single.{single-done}
 use Rattle.table.specs.State.{Exit}
 use Rattle.table.specs.Table.{lookup, exitAt}
 use Rattle.occurrences.specs.Occurrences.{occurrences}
@@ -30,17 +30,15 @@ use Rattle.sight.proofs.Leaving.{answered, list-few, lists-all, lists-o
 use Rattle.sight.proofs.Listing.{placesOf, Occurs, AllRows}
 use Rattle.sight.proofs.Members.{Distinct}
 use Rattle.sight.proofs.Resolving.{tableOf}
-use Rattle.sight.proofs.Written.{rowsIn}
-use Rattle.sight.proofs.Single.{single-done}
 
 module _ (img tab rows : List ℕ) where
   -- what the call leaves: its answer, the table's words and the rows' words
-  abbrev pub left : Outcome
+  abbrev pub left : RowsOutcome
   left = occurrences img tab rows
 
   -- the list: the rows that it has written, a count, then N nodes, then N bindings
   abbrev pub list : List Row
-  list = rowsIn (nodes img) (left .rows)
+  list = held (nodes img) (left .rows)
 
   -- the binding: the node that lookup of its name gives, in the table, at the exit of the occurrence's node
   abbrev pub binding : Place → Option ℕ
@@ -49,8 +47,7 @@ module _ (img tab rows : List ℕ) where
   module _ (unrefused : testRows img tab rows ≡ 0) (once : declaredTwice img ≡ false) where
     -- the walk comes to its end
     ended : (e : Exit) × (walked img tab ≡ done e)
-    unfolding testRows
-    ended = let p = (both _ _ unrefused) .0 in single-done img tab p (twice-exactly img tab p) once
+    ended = single-done img tab (rows-table img tab rows unrefused) once
 
     -- the call hands back how long the list is; there is room for all of it
     pub count : left .answer ≡ result 0 (length list)

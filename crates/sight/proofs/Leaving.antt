@@ -1,92 +1,87 @@
 -- What Occurrences leaves where it refuses nothing and no name is declared twice: the resolver's table, and the list.
-use mathlib.Core.Path.{_≡_, refl, sym, _∙_, ap, ap₂, subst, fun-ext}
+use mathlib.Core.Path.{_≡_, sym, _∙_, ap, ap₂, subst, fun-ext}
 use mathlib.Core.Logic.{_⊎_, inl, inr, _↔_}
 use mathlib.Core.List.{List}
 use mathlib.Core.Option.{Option, some}
-use Prim.Native.Nat.{ℕ, zero, suc, _≤_}
-use native.Mathlib.Omega.{arith}
+use Prim.Native.Nat.{ℕ, _≤_}
 use lib.ListN.{length}
 use borrow.Author.Tests.{eqb-true}
-use Rattle.ast.specs.Answer.{refused, result}
+use Rattle.ast.specs.Answer.{result}
 use Rattle.ast.specs.Image.{nodes, kindAt, nameOf}
 use Rattle.ast.specs.Tests.{verdict}
-use Rattle.rows.specs.Rows.{Row, row, lefts, written}
-use Rattle.scopes.specs.Resolve.{testTable, walked, headed}
-use Rattle.scopes.specs.Rows.{testRows, Outcome}
+use Rattle.rows.specs.Rows.{Row, row, lefts, held}
+use Rattle.scopes.specs.Resolve.{walked, headed, counted}
+use Rattle.scopes.specs.Calls.{testRows, RowsOutcome}
 use Rattle.scopes.specs.Walk.{done}
 use Rattle.table.specs.State.{Exit}
-use Rattle.table.specs.Table.{lookup, isKind, exitAt}
-use Rattle.ast.proofs.Accepted.{both}
-use Rattle.scopes.proofs.Headed.{headed-exit}
-use Rattle.occurrences.specs.Occurrences.{occurrenceRows, occurrencesOf, occurrences}
+use Rattle.table.specs.Table.{Table, lookup, isKind, exitAt}
+use Rattle.scopes.proofs.Calls.{rows-table, rowed-done, rowed-held, rowed-count}
+use Rattle.scopes.proofs.Resolving.{table-accepted}
+use Rattle.occurrences.specs.Occurrences.{occurrenceRows, occurrences}
+use Rattle.occurrences.proofs.Few.{rows-few}
 use Rattle.sight.specs.Sight.{Sort, ordinary, declared, applied, defined, Place, In, outerConst, Same}
 use Rattle.ast.specs.Rules.{Rule, moduleRules}
 use Rattle.sight.proofs.Listing.{placesOf, Occurs, AllRows}
 use Rattle.sight.proofs.Members.{Distinct}
 use Rattle.sight.proofs.Resolving.{tableOf, resolved, left-lookup}
-use Rattle.sight.proofs.RowLaws.{bindingOf, RowAt, all-only, all-all, one-row, rows-list, rows-distinct, rows-few}
+use Rattle.sight.proofs.RowLaws.{bindingOf, RowAt, all-only, all-all, one-row, rows-list, rows-distinct}
 use Rattle.sight.proofs.Spots.{ownerKind, ordered}
 use Rattle.sight.proofs.WholeModule.{WalkOf, var-is-occurrence, equal-is-same}
-use Rattle.sight.proofs.Written.{rowsIn, rows-read}
-
--- no more rows than nodes: no row is dropped
-pub few-rows : (img tab : List ℕ) (e : Exit) → verdict img ≡ 0 → walked img tab ≡ done e → length (occurrenceRows img (e .table)) ≤ nodes img
-few-rows img tab e accepted single = rows-few img (e .table) accepted ((resolved img tab e accepted single) .walks)
 
 module _ (img tab rows : List ℕ) (accepted : testRows img tab rows ≡ 0) (e : Exit) (single : walked img tab ≡ done e) where
   pub image-accepted : verdict img ≡ 0
-  unfolding testRows testTable
-  image-accepted = (both _ _ ((both _ _ accepted) .0)) .0
+  image-accepted = table-accepted img tab (rows-table img tab rows accepted)
+
+  -- the table that the call fills, and its rows: no more than nodes, so that no row is dropped
+  abbrev filled : Table
+  filled = counted img (e .table)
 
   abbrev found-rows : List Row
-  found-rows = occurrenceRows img (e .table)
+  found-rows = occurrenceRows img filled
 
-  leaves : occurrences img tab rows ≡ record { answer = result 0 (length found-rows); table = headed img (e .table); rows = written (nodes img) found-rows rows }
-  unfolding occurrences occurrencesOf
-  leaves = by-test (testRows img tab rows) accepted ∙ ap (occurrencesOf img tab rows) single
-    where
-      tested : ℕ → Outcome
-      tested = elim [ zero ↦ occurrencesOf img tab rows (walked img tab) | suc r ↦ record { answer = refused (suc r); table = tab; rows = rows } ]
-
-      by-test : (r : ℕ) → r ≡ 0 → tested r ≡ occurrencesOf img tab rows (walked img tab)
-      by-test zero q = refl
-      by-test (suc r) q = absurd (omega arith)
+  rows-fit : length found-rows ≤ nodes img
+  rows-fit = rows-few img filled image-accepted
 
   -- what the call leaves, the rows that it has written, and what lookup gives in its table at the exit of a place's node
-  abbrev left : Outcome
+  abbrev left : RowsOutcome
   left = occurrences img tab rows
 
   abbrev list : List Row
-  list = rowsIn (nodes img) (left .rows)
+  list = held (nodes img) (left .rows)
 
   abbrev binding : Place → Option ℕ
   binding p = lookup img (tableOf img (left .table)) (exitAt img (left .table) (p .node)) (nameOf img (p .ident))
 
-  walks : (r : Rule) → In r (moduleRules img) → WalkOf img r (e .table)
+  walks : (r : Rule) → In r (moduleRules img) → WalkOf img r filled
   walks = (resolved img tab e image-accepted single) .walks
 
   pub list-is : list ≡ found-rows
-  list-is = ap (λ (o : Outcome). rowsIn (nodes img) (o .rows)) leaves ∙ rows-read (nodes img) found-rows rows (few-rows img tab e image-accepted single)
+  unfolding occurrences
+  list-is = rowed-held img tab rows (occurrenceRows img) accepted single rows-fit
 
-  pub binding-is : (p : Place) → binding p ≡ bindingOf img (e .table) p
+  table-is : left .table ≡ headed img (e .table)
+  unfolding occurrences
+  table-is = ap (λ (o : RowsOutcome). o .table) (rowed-done img tab rows (occurrenceRows img) accepted single)
+
+  pub binding-is : (p : Place) → binding p ≡ bindingOf img filled p
   binding-is p =
-      ap (λ (o : Outcome). lookup img (tableOf img (o .table)) (exitAt img (o .table) (p .node)) (nameOf img (p .ident))) leaves
+      ap (λ (ws : List ℕ). lookup img (tableOf img ws) (exitAt img ws (p .node)) (nameOf img (p .ident))) table-is
       ∙ left-lookup img tab e image-accepted single (exitAt img (headed img (e .table)) (p .node)) (nameOf img (p .ident))
-      ∙ ap (λ s. lookup img (e .table) s (nameOf img (p .ident))) (sym (headed-exit img (e .table) (p .node)))
 
   pub list-few : length list ≤ nodes img
-  list-few = subst (λ (l : List Row). length l ≤ nodes img) (sym list-is) (few-rows img tab e image-accepted single)
+  list-few = subst (λ (l : List Row). length l ≤ nodes img) (sym list-is) rows-fit
 
   pub answered : left .answer ≡ result 0 (length list)
-  answered = ap (λ (o : Outcome). o .answer) leaves ∙ ap (λ (l : List Row). result 0 (length l)) (sym list-is)
+  unfolding occurrences
+  answered = rowed-count img tab rows (occurrenceRows img) accepted single rows-fit
 
   pub lists-all : AllRows img binding (moduleRules img) list
   lists-all =
       subst (λ (f : Place → Option ℕ). AllRows img f (moduleRules img) list) (sym (fun-ext binding-is))
-      (subst (λ (l : List Row). AllRows img (bindingOf img (e .table)) (moduleRules img) l) (sym list-is) (rows-list img (e .table) image-accepted walks))
+      (subst (λ (l : List Row). AllRows img (bindingOf img filled) (moduleRules img) l) (sym list-is) (rows-list img filled image-accepted walks))
 
   pub lists-once : Distinct (lefts list)
-  lists-once = subst (λ (l : List Row). Distinct (lefts l)) (sym list-is) (rows-distinct img (e .table) image-accepted walks)
+  lists-once = subst (λ (l : List Row). Distinct (lefts l)) (sym list-is) (rows-distinct img filled image-accepted walks)
 
   -- which rows are in the list
   pub row-of : (w : Row) → In w list ↔ ((r : Rule) × In r (moduleRules img) × ((p : Place) × In p (placesOf r) × RowAt img binding r p w))
@@ -120,8 +115,8 @@ module _ (img tab rows : List ℕ) (accepted : testRows img tab rows ≡ 0) (e :
       let b = listed-binding r i q k u v y n in
       let c = binding-is p in
       let d = binding-is q in
-      let s = equal-is-same img (e .table) r (walks r i) p q j k o in (
-        (λ h. let g : bindingOf img (e .table) p ≡ bindingOf img (e .table) q = cc in s .0 g),
+      let s = equal-is-same img filled r (walks r i) p q j k o in (
+        (λ h. let g : bindingOf img filled p ≡ bindingOf img filled q = cc in s .0 g),
         (λ h. let g = s .1 h in cc),
       )
 
@@ -140,7 +135,7 @@ module _ (img tab rows : List ℕ) (accepted : testRows img tab rows ≡ 0) (e :
           → ((kindAt img (w .left) ≡ 12) ⊎ (kindAt img (w .left) ≡ 15)) × (kindAt img (w .right) ≡ 13)
       go (r, j, (p, k, (o, l, b))) =
           let m = ordered img (r .statements) ((walks r j) .1 .body) in
-          let v = (var-is-occurrence img (e .table) r (walks r j) p k) .1 o in (
+          let v = (var-is-occurrence img filled r (walks r j) p k) .1 o in (
             owner-kinds (p .sort) (kindAt img (w .left)) (ap (kindAt img) l ∙ m .kinds p (m .all p k)),
             eqb-true (kindAt img (w .right)) 13 (ap (isKind img 13) (sym b ∙ binding-is p) ∙ v),
           )

@@ -14,8 +14,6 @@ pub mod Verdict
 pub mod Counting
 pub mod Resolving
 pub mod RowLaws
-pub mod Written
 pub mod Leaving
 pub mod LoneTerm
-pub mod Single
 pub mod Demand

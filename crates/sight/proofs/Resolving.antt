@@ -1,5 +1,5 @@
--- What resolving an accepted image leaves: no more scopes and symbols than nodes, the walk of every rule, and a table whose
--- lookups the three counts in front do not touch.
+-- What resolving an accepted image leaves: no more scopes and symbols than nodes, the walk of every rule, and words that give the same
+-- lookups as the table.
 use mathlib.Core.Path.{_≡_, sym, _∙_, ap, subst}
 use mathlib.Core.List.{List}
 use Prim.Native.Nat.{ℕ, suc}
@@ -10,9 +10,8 @@ use Rattle.ast.specs.Tree.{Tree}
 use Rattle.sound.specs.Sound.{scopesIn, symbolsIn}
 use Rattle.table.specs.State.{Exit}
 use Rattle.table.specs.Table.{Table, climb, lookup}
-use Rattle.scopes.specs.Resolve.{zeroed, walked, headed}
+use Rattle.scopes.specs.Resolve.{zeroed, walked, headed, counted}
 use Rattle.scopes.specs.Walk.{done, resolveTree}
-use Rattle.scopes.proofs.Headed.{headed-lookup}
 use Rattle.scopes.proofs.Resolving.{Ended, walk-ended, zeroed-long, headed-symbols}
 use Rattle.ast.specs.Rules.{Rule, moduleRules}
 use Rattle.sight.proofs.Verdict.{root-of}
@@ -36,8 +35,7 @@ module _ (img tab : List ℕ) (e : Exit) (accepted : verdict img ≡ 0) (done-e 
       (ap (λ (u : Tree). resolveTree img u (record { words = zeroed img tab; scopes = 0; symbols = 0 })) (sym (r .is)) ∙ done-e)
       (zeroed-long img tab) (ended .scopes, ended .symbols) (r .decls) (module-small img accepted) (module-distinct img accepted))
 
-  pub left-lookup : (s x : ℕ) → lookup img (tableOf img (headed img (e .table))) s x ≡ lookup img (e .table) s x
+  pub left-lookup : (s x : ℕ) → lookup img (tableOf img (headed img (e .table))) s x ≡ lookup img (counted img (e .table)) s x
   unfolding lookup
   left-lookup s x =
       ap (λ (y : ℕ). climb img (suc s) (headed img (e .table)) y s x) (headed-symbols img (e .table) (let z = ended .long in let l = zeroed-long img tab in omega arith))
-      ∙ sym (headed-lookup img (e .table) s x)

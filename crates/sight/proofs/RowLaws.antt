@@ -7,11 +7,9 @@ use mathlib.Core.Option.{Option, none as nothing, some}
 use Prim.Native.Nat.{ℕ, _+_, _≤_}
 use native.Mathlib.Omega.{arith}
 use lib.Dec.{eqb}
-use lib.ListN.{length}
-use Rattle.ast.specs.Image.{nodes, kindAt}
+use Rattle.ast.specs.Image.{kindAt}
 use Rattle.ast.specs.Tests.{is, times, verdict}
 use Rattle.rows.specs.Rows.{Row, row, lefts}
-use Rattle.rows.proofs.Appends.{lefts-length}
 use Rattle.table.specs.Table.{Table, isKind}
 use Rattle.ast.proofs.Count.{times-append}
 use Rattle.ordered.proofs.Moves.{numbersSeq}
@@ -20,9 +18,9 @@ use Rattle.occurrences.specs.Occurrences.{found, listed, rowsFor, ruleRows, all
 use Rattle.sight.specs.Sight.{Place, In}
 use Rattle.ast.specs.Rules.{Rule, moduleRules}
 use Rattle.occurrences.specs.Spots.{Spot, ruleSpots}
-use Rattle.sight.proofs.Counting.{in-times, distinct-times, ruleNumbers, rule-nodes-once, rule-nodes-small}
+use Rattle.sight.proofs.Counting.{distinct-times, ruleNumbers, rule-nodes-once}
 use Rattle.sight.proofs.Listing.{spotOf, spotsOf, placesOf, Occurs, RowsOf, end, put, pass, RuleRows, AllRows, noRule, rule}
-use Rattle.sight.proofs.Members.{in-left, in-right, in-split, Distinct, pigeonhole}
+use Rattle.sight.proofs.Members.{in-left, in-right, in-split, Distinct}
 use Rattle.occurrences.proofs.Few.{owners}
 use Rattle.sight.proofs.Spots.{ordered, owners-once}
 use Rattle.sight.proofs.WholeModule.{WalkOf, var-is-occurrence}
@@ -173,12 +171,3 @@ module _ (img : List ℕ) (t : Table) where
     rows-distinct =
         distinct-times (lefts (occurrenceRows img t))
         (λ v. let a = all-once v (moduleRules img) walks in let b = rule-nodes-once img accepted v in omega arith)
-
-    -- no more rows than nodes
-    pub rows-few : length (occurrenceRows img t) ≤ nodes img
-    unfolding occurrenceRows
-    rows-few =
-        let a = lefts-length (occurrenceRows img t) in
-        let b = pigeonhole (nodes img) (lefts (occurrenceRows img t)) rows-distinct
-        (λ v i. let c = in-times v (lefts (occurrenceRows img t)) i in let d = all-once v (moduleRules img) walks in rule-nodes-small img accepted v (omega arith)) in
-        omega arith

@@ -25,6 +25,8 @@ use Rattle.table.proofs.Agreed.{Agree, lookup-agree}
 use Rattle.ordered.proofs.Kept.{mark-kept, scope-kept}
 use Rattle.ordered.proofs.Moves.{numbersSeq, rises}
 use Rattle.scopes.proofs.Adds.{and-inv}
+use Rattle.scopes.specs.Resolve.{counted}
+use Rattle.scopes.proofs.Headed.{headed-lookup, headed-entry, headed-exit}
 use Rattle.scopes.proofs.Resolving.{none-kept}
 use Rattle.sight.specs.Sight.{Place, In, rulePlaces, Naming, Occurrence, Same, outerConst}
 use Rattle.ast.specs.Rules.{Rule, saysAll, rulesAll}
@@ -223,11 +225,11 @@ module _ (img : List ℕ) where
       (λ x. kind-orElse img (earliest (nameOf img) ds x) (m x) (en .novar x) (outs x)) in
       held-after (n ∷ es) ns [] rs (e .table) (e′ .table) (e″ .table) (omega arith) q₀ di f g
 
-  -- what resolving leaves for the rules rs
+  -- what resolving leaves for the rules rs: their walks, told by the table with its counts in front
   pub record Resolved (rs : List Rule) (e : Exit) : Type 0 where
     pub bounds : Bounds img (e .table)
     pub sane : Kept img (e .table)
-    pub walks : (r : Rule) → In r rs → WalkOf r (e .table)
+    pub walks : (r : Rule) → In r rs → WalkOf r (counted img (e .table))
 
   pub resolves : (n k : ℕ) (c : Class) (sh : List ℕ) (ts : Trees) (ws : List ℕ) (e : Exit)
       → resolveTree img (node n k c sh ts) (record { words = ws; scopes = 0; symbols = 0 }) ≡ done e → tableLength (nodes img) ≤ length ws → Bounds img (e .table)
@@ -260,7 +262,16 @@ module _ (img : List ℕ) where
       ∙ ap (λ u. orElse u (D x)) (find-mark img n 0 0 t₁ n<N 0 x ∙ child-empty img allOnes t₀ so (omega arith) x) in
       let held : Held ns (rulesAll img D ts) (h .0 .table) (e .table) =
       holds v b (λ m i. sm m (inr (in-right m es ns i))) (distinct-right es ns (di .1)) (en .sane) (omega arith) reads (en .novar) in
-      record { bounds = b; sane = held .sane; walks = held .walked (e .table) (record { lookups = λ s x l. refl; entries = λ m l i. refl; exits = λ m l i. refl }) }
+      record {
+        bounds = b;
+        sane = held .sane;
+        walks = held .walked (counted img (e .table))
+        (record {
+          lookups = λ s x l. sym (headed-lookup img (e .table) s x);
+          entries = λ m l i. sym (headed-entry img (e .table) m);
+          exits = λ m l i. sym (headed-exit img (e .table) m);
+        });
+      }
 
   -- the third demand for a rule that was walked
   module _ (T : Table) (r : Rule) (w : WalkOf r T) where

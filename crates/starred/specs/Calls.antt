@@ -13,21 +13,21 @@ use Rattle.ast.specs.Tests.{_▸_, need, run, is, times, same, testSizes, testN
 use Rattle.table.specs.Table.{symbolOf, markWords, mark, newScope, newSymbol, rowIs, findFrom, climb, find, lookup, isKind, isValue}
 use Rattle.table.specs.State.{childScope, ownSymbol, introduce, marked, unmarked}
 use Rattle.ordered.specs.Walk.{walkIdent, headRole, walkArg, walk, walkSeq, walkFirst}
-use Rattle.scopes.specs.Walk.{recorded, recordedAll, enterName, andThen, enterNames, markAll, enterAll, visit, visitAll, resolveTree}
-use Rattle.scopes.specs.Resolve.{testTable, zeroed, walked, headed, outcomeOf, resolve}
-use Rattle.sound.specs.Sound.{hasName, isSymbol, parentBelow, rowSound, testSound}
+use Rattle.scopes.specs.Walk.{enterName, andThen, resolveTree, enterAll, visit, visitAll, recorded, recordedAll, enterNames, markAll}
+use Rattle.scopes.specs.Resolve.{testTable, zeroed, walked, headed, wayOf, way, answerBy, tableBy, tableCall, resolve}
 use Rattle.scopes.specs.Lookup.{testLookup, symbolAnswer, foundBy, lookupCall}
-use Rattle.rows.specs.Rows.{lefts, rights, filled, written, when}
+use Rattle.rows.specs.Rows.{lefts, rights, filled, written, cleared, when}
+use Rattle.scopes.specs.Calls.{testRows, rowsBy, rowsCall}
+use Rattle.scopes.specs.Twice.{among, repeats, declaredTwice, someRepeats}
+use Rattle.bindings.specs.Errors.{sameNode, introduces, introducedRow, definedRow, definedRows, argRow, argRows, listRows, isCtor, appRows, patternRows, plainRows, argsOf, repeated, repeatedIn, repeatedTo, strictFrom, strictRows, isStrict, errorRows, testErrors, errors, rowsOf, rowsSeq, rowsFirst, rowsDefined, declRows, declsRows}
+use Rattle.sound.specs.Sound.{hasName, isSymbol, parentBelow, rowSound, testSound}
 use Rattle.names.specs.Number.{numberFrom, numberOf}
-use Rattle.scopes.specs.Rows.{testRows}
-use Rattle.scopes.specs.Twice.{among, repeats, someRepeats, declaredTwice}
-use Rattle.bindings.specs.Errors.{sameNode, introduces, introducedRow, definedRow, definedRows, argRow, argRows, listRows, isCtor, appRows, patternRows, plainRows, argsOf, repeated, repeatedIn, repeatedTo, strictFrom, strictRows, isStrict, errorRows, testErrors, errorsOf, errors, rowsOf, rowsSeq, rowsFirst, rowsDefined, declRows, declsRows}
 use Rattle.error.specs.Kinds.{asked as asksFor}
 use Rattle.sight.specs.Sight.{add, opened, headSort, rulePlaces, outerConst, place, placeSeq, placeThen, placeFirst}
 use Rattle.occurrences.specs.Spots.{ruleSpots, spots, spotsSeq, spotsBack, spotsFirst}
-use Rattle.ast.specs.Declarations.{ruleNode, declared, declaredAll, modelLists, modelListsAll, moduleLists, earliest}
 use Rattle.ast.specs.Rules.{rulesOf, moduleRules, rules, rulesAll}
-use Rattle.occurrences.specs.Occurrences.{listed, rowsFor, ruleRows, allRows, occurrenceRows, timesBound, loneIn, lone, rowsByRule, onceAnswer, occurrencesOf, occurrences, onceOf, once}
+use Rattle.occurrences.specs.Occurrences.{listed, rowsFor, ruleRows, allRows, occurrenceRows, timesBound, loneIn, lone, rowsByRule, loneAnswer, occurrences, once}
+use Rattle.ast.specs.Declarations.{ruleNode, declared, declaredAll, modelLists, modelListsAll, moduleLists, earliest}
 use Rattle.starred.specs.Encode.{bytesOf, kindsOf, startsOf, wordsOf, endsOf, joined, encode}
 use Rattle.lines.specs.Report.{lentTable, lentRows}
 use Rattle.ast.specs.Answer.{Answer, refused, result, other}
@@ -72,14 +72,14 @@ AsWanted [] = Unit {0}
 AsWanted (c ∷ cs) = (c .answer ≡ c .wanted) × AsWanted cs
 
 computed : AsWanted calls
-unfolding word nodes kindAt startAt opAt field nameOf operands names bytes last nameEnd nameStart nameBytes kindOf ones numbers opsFrom afterBlocks blockKids blockCounts after fieldKids fieldShape afterFields fieldsKids fieldsShape fieldsAt rowEnd kids shape kidsTo swap swaps ordered growAll grow classAt treeTo treeAt _▸_ need run is times same testSizes testNames inRow isChild childWord testBlocks testField testFields endBefore testNode testParents first isVar testVar testTree verdict symbolOf markWords mark newScope newSymbol rowIs findFrom climb find lookup isKind isValue childScope ownSymbol introduce marked unmarked walkIdent headRole walkArg walk walkSeq walkFirst recorded recordedAll enterName andThen enterNames markAll enterAll visit visitAll resolveTree testTable zeroed walked headed outcomeOf resolve hasName isSymbol parentBelow rowSound testSound numberFrom numberOf testLookup symbolAnswer foundBy lookupCall lefts rights filled written testRows among repeats someRepeats declaredTwice when sameNode asksFor introduces introducedRow definedRow definedRows argRow argRows listRows isCtor appRows patternRows plainRows argsOf repeated repeatedIn repeatedTo strictFrom strictRows isStrict errorRows testErrors errorsOf errors rowsOf rowsSeq rowsFirst rowsDefined declRows declsRows add opened headSort rulePlaces ruleSpots rulesOf moduleRules outerConst place placeSeq placeThen placeFirst spots spotsSeq spotsBack spotsFirst ruleNode declared declaredAll modelLists modelListsAll moduleLists earliest rules rulesAll listed rowsFor ruleRows allRows occurrenceRows timesBound loneIn lone rowsByRule onceAnswer occurrencesOf occurrences onceOf once bytesOf kindsOf startsOf wordsOf endsOf joined encode
+unfolding word nodes kindAt startAt opAt field nameOf operands names bytes last nameEnd nameStart nameBytes kindOf ones numbers opsFrom afterBlocks blockKids blockCounts after fieldKids fieldShape afterFields fieldsKids fieldsShape fieldsAt rowEnd kids shape kidsTo swap swaps ordered growAll grow classAt treeTo treeAt _▸_ need run is times same testSizes testNames inRow isChild childWord testBlocks testField testFields endBefore testNode testParents first isVar testVar testTree verdict symbolOf markWords mark newScope newSymbol rowIs findFrom climb find lookup isKind isValue childScope ownSymbol introduce marked unmarked walkIdent headRole walkArg walk walkSeq walkFirst enterName andThen resolveTree enterAll visit visitAll testTable zeroed walked headed wayOf way answerBy tableBy tableCall resolve hasName isSymbol parentBelow rowSound testSound numberFrom numberOf testLookup symbolAnswer foundBy lookupCall lefts rights filled written cleared testRows rowsBy rowsCall among repeats declaredTwice when sameNode asksFor introduces introducedRow definedRow definedRows argRow argRows listRows isCtor appRows patternRows plainRows argsOf repeated repeatedIn repeatedTo strictFrom strictRows isStrict errorRows testErrors errors rowsOf rowsSeq rowsFirst rowsDefined declRows declsRows add opened headSort rulePlaces ruleSpots rulesOf moduleRules outerConst place placeSeq placeThen placeFirst spots spotsSeq spotsBack spotsFirst rules rulesAll listed rowsFor ruleRows allRows occurrenceRows timesBound loneIn lone rowsByRule loneAnswer occurrences once bytesOf kindsOf startsOf wordsOf endsOf joined encode recorded recordedAll enterNames markAll someRepeats ruleNode declared declaredAll modelLists modelListsAll moduleLists earliest
 computed = (refl, (refl, (refl, (refl, (refl, (refl, (refl, (refl, (refl, (refl, (refl, (refl, tt))))))))))))
 
 -- row 4 stands at the second argument
 strict : take 21 ((errors (encode repeatedArgs) lentTable lentRows 2) .rows) ≡ 1 ∷ 4 ∷ 0 ∷ 0 ∷ 0 ∷ 0 ∷ 0 ∷ 0 ∷ 0 ∷ 0 ∷ 0 ∷ 5 ∷ 0 ∷ 0 ∷ 0 ∷ 0 ∷ 0 ∷ 0 ∷ 0 ∷ 0 ∷ 0 ∷ []
-unfolding word nodes kindAt startAt opAt field nameOf operands names bytes last nameEnd nameStart nameBytes kindOf ones numbers opsFrom afterBlocks blockKids blockCounts after fieldKids fieldShape afterFields fieldsKids fieldsShape fieldsAt rowEnd kids shape kidsTo swap swaps ordered growAll grow classAt treeTo treeAt _▸_ need run is times same testSizes testNames inRow isChild childWord testBlocks testField testFields endBefore testNode testParents first isVar testVar testTree verdict symbolOf markWords mark newScope newSymbol rowIs findFrom climb find lookup isKind isValue childScope ownSymbol introduce marked unmarked walkIdent headRole walkArg walk walkSeq walkFirst recorded recordedAll enterName andThen enterNames markAll enterAll visit visitAll resolveTree testTable zeroed walked headed outcomeOf resolve hasName isSymbol parentBelow rowSound testSound numberFrom numberOf testLookup symbolAnswer foundBy lookupCall lefts rights filled written testRows among repeats someRepeats declaredTwice when sameNode asksFor introduces introducedRow definedRow definedRows argRow argRows listRows isCtor appRows patternRows plainRows argsOf repeated repeatedIn repeatedTo strictFrom strictRows isStrict errorRows testErrors errorsOf errors rowsOf rowsSeq rowsFirst rowsDefined declRows declsRows add opened headSort rulePlaces ruleSpots rulesOf moduleRules outerConst place placeSeq placeThen placeFirst spots spotsSeq spotsBack spotsFirst ruleNode declared declaredAll modelLists modelListsAll moduleLists earliest rules rulesAll listed rowsFor ruleRows allRows occurrenceRows timesBound loneIn lone rowsByRule onceAnswer occurrencesOf occurrences onceOf once bytesOf kindsOf startsOf wordsOf endsOf joined encode
+unfolding word nodes kindAt startAt opAt field nameOf operands names bytes last nameEnd nameStart nameBytes kindOf ones numbers opsFrom afterBlocks blockKids blockCounts after fieldKids fieldShape afterFields fieldsKids fieldsShape fieldsAt rowEnd kids shape kidsTo swap swaps ordered growAll grow classAt treeTo treeAt _▸_ need run is times same testSizes testNames inRow isChild childWord testBlocks testField testFields endBefore testNode testParents first isVar testVar testTree verdict symbolOf markWords mark newScope newSymbol rowIs findFrom climb find lookup isKind isValue childScope ownSymbol introduce marked unmarked walkIdent headRole walkArg walk walkSeq walkFirst enterName andThen resolveTree enterAll visit visitAll testTable zeroed walked headed wayOf way answerBy tableBy tableCall resolve hasName isSymbol parentBelow rowSound testSound numberFrom numberOf testLookup symbolAnswer foundBy lookupCall lefts rights filled written cleared testRows rowsBy rowsCall among repeats declaredTwice when sameNode asksFor introduces introducedRow definedRow definedRows argRow argRows listRows isCtor appRows patternRows plainRows argsOf repeated repeatedIn repeatedTo strictFrom strictRows isStrict errorRows testErrors errors rowsOf rowsSeq rowsFirst rowsDefined declRows declsRows add opened headSort rulePlaces ruleSpots rulesOf moduleRules outerConst place placeSeq placeThen placeFirst spots spotsSeq spotsBack spotsFirst rules rulesAll listed rowsFor ruleRows allRows occurrenceRows timesBound loneIn lone rowsByRule loneAnswer occurrences once bytesOf kindsOf startsOf wordsOf endsOf joined encode recorded recordedAll enterNames markAll someRepeats ruleNode declared declaredAll modelLists modelListsAll moduleLists earliest
 strict = refl
 
 twices : declaredTwice (encode enumTwice) ∷ declaredTwice (encode modelList) ∷ declaredTwice (encode repeatedArgs) ∷ [] ≡ true ∷ false ∷ false ∷ []
-unfolding word nodes kindAt startAt opAt field nameOf operands names bytes last nameEnd nameStart nameBytes kindOf ones numbers opsFrom afterBlocks blockKids blockCounts after fieldKids fieldShape afterFields fieldsKids fieldsShape fieldsAt rowEnd kids shape kidsTo swap swaps ordered growAll grow classAt treeTo treeAt _▸_ need run is times same testSizes testNames inRow isChild childWord testBlocks testField testFields endBefore testNode testParents first isVar testVar testTree verdict symbolOf markWords mark newScope newSymbol rowIs findFrom climb find lookup isKind isValue childScope ownSymbol introduce marked unmarked walkIdent headRole walkArg walk walkSeq walkFirst recorded recordedAll enterName andThen enterNames markAll enterAll visit visitAll resolveTree testTable zeroed walked headed outcomeOf resolve hasName isSymbol parentBelow rowSound testSound numberFrom numberOf testLookup symbolAnswer foundBy lookupCall lefts rights filled written testRows among repeats someRepeats declaredTwice when sameNode asksFor introduces introducedRow definedRow definedRows argRow argRows listRows isCtor appRows patternRows plainRows argsOf repeated repeatedIn repeatedTo strictFrom strictRows isStrict errorRows testErrors errorsOf errors rowsOf rowsSeq rowsFirst rowsDefined declRows declsRows add opened headSort rulePlaces ruleSpots rulesOf moduleRules outerConst place placeSeq placeThen placeFirst spots spotsSeq spotsBack spotsFirst ruleNode declared declaredAll modelLists modelListsAll moduleLists earliest rules rulesAll listed rowsFor ruleRows allRows occurrenceRows timesBound loneIn lone rowsByRule onceAnswer occurrencesOf occurrences onceOf once bytesOf kindsOf startsOf wordsOf endsOf joined encode
+unfolding word nodes kindAt startAt opAt field nameOf operands names bytes last nameEnd nameStart nameBytes kindOf ones numbers opsFrom afterBlocks blockKids blockCounts after fieldKids fieldShape afterFields fieldsKids fieldsShape fieldsAt rowEnd kids shape kidsTo swap swaps ordered growAll grow classAt treeTo treeAt _▸_ need run is times same testSizes testNames inRow isChild childWord testBlocks testField testFields endBefore testNode testParents first isVar testVar testTree verdict symbolOf markWords mark newScope newSymbol rowIs findFrom climb find lookup isKind isValue childScope ownSymbol introduce marked unmarked walkIdent headRole walkArg walk walkSeq walkFirst enterName andThen resolveTree enterAll visit visitAll testTable zeroed walked headed wayOf way answerBy tableBy tableCall resolve hasName isSymbol parentBelow rowSound testSound numberFrom numberOf testLookup symbolAnswer foundBy lookupCall lefts rights filled written cleared testRows rowsBy rowsCall among repeats declaredTwice when sameNode asksFor introduces introducedRow definedRow definedRows argRow argRows listRows isCtor appRows patternRows plainRows argsOf repeated repeatedIn repeatedTo strictFrom strictRows isStrict errorRows testErrors errors rowsOf rowsSeq rowsFirst rowsDefined declRows declsRows add opened headSort rulePlaces ruleSpots rulesOf moduleRules outerConst place placeSeq placeThen placeFirst spots spotsSeq spotsBack spotsFirst rules rulesAll listed rowsFor ruleRows allRows occurrenceRows timesBound loneIn lone rowsByRule loneAnswer occurrences once bytesOf kindsOf startsOf wordsOf endsOf joined encode recorded recordedAll enterNames markAll someRepeats ruleNode declared declaredAll modelLists modelListsAll moduleLists earliest
 twices = refl

@@ -11,18 +11,18 @@ use Rattle.ast.specs.Tests.{_▸_, need, run, is, times, same, testSizes, testN
 use Rattle.table.specs.Table.{markWords, mark, newScope, newSymbol, rowIs, findFrom, climb, find, lookup, isKind, isValue}
 use Rattle.table.specs.State.{childScope, ownSymbol, introduce, marked, unmarked}
 use Rattle.ordered.specs.Walk.{walkIdent, headRole, walkArg, walk, walkSeq, walkFirst}
-use Rattle.scopes.specs.Walk.{recorded, recordedAll, enterName, andThen, enterNames, markAll, enterAll, visit, visitAll, resolveTree}
-use Rattle.scopes.specs.Resolve.{testTable, zeroed, walked, headed, outcomeOf, resolve}
-use Rattle.rows.specs.Rows.{lefts, rights, filled, written, when}
-use Rattle.scopes.specs.Rows.{testRows}
+use Rattle.scopes.specs.Walk.{enterName, andThen, resolveTree, enterAll, visit, visitAll, recorded, recordedAll, enterNames, markAll}
+use Rattle.scopes.specs.Resolve.{testTable, zeroed, walked, headed, wayOf, way, answerBy, tableBy, tableCall, resolve}
+use Rattle.rows.specs.Rows.{lefts, rights, filled, written, cleared, when}
+use Rattle.scopes.specs.Calls.{testRows, rowsBy, rowsCall}
 use Rattle.scopes.specs.Twice.{among}
-use Rattle.bindings.specs.Errors.{sameNode, introduces, introducedRow, definedRow, definedRows, argRow, argRows, listRows, isCtor, appRows, patternRows, plainRows, argsOf, repeated, repeatedIn, repeatedTo, strictFrom, strictRows, isStrict, errorRows, testErrors, errorsOf, errors, rowsOf, rowsSeq, rowsFirst, rowsDefined, declRows, declsRows}
+use Rattle.bindings.specs.Errors.{sameNode, introduces, introducedRow, definedRow, definedRows, argRow, argRows, listRows, isCtor, appRows, patternRows, plainRows, argsOf, repeated, repeatedIn, repeatedTo, strictFrom, strictRows, isStrict, errorRows, testErrors, errors, rowsOf, rowsSeq, rowsFirst, rowsDefined, declRows, declsRows}
 use Rattle.error.specs.Kinds.{asked}
 use Rattle.sight.specs.Sight.{add, opened, headSort, rulePlaces, outerConst, place, placeSeq, placeThen, placeFirst}
 use Rattle.occurrences.specs.Spots.{ruleSpots, spots, spotsSeq, spotsBack, spotsFirst}
-use Rattle.ast.specs.Declarations.{ruleNode, declared, declaredAll, earliest}
 use Rattle.ast.specs.Rules.{rulesOf, moduleRules, rules, rulesAll}
-use Rattle.occurrences.specs.Occurrences.{listed, rowsFor, ruleRows, allRows, occurrenceRows, timesBound, loneIn, lone, rowsByRule, onceAnswer, occurrencesOf, occurrences, onceOf, once}
+use Rattle.occurrences.specs.Occurrences.{listed, rowsFor, ruleRows, allRows, occurrenceRows, timesBound, loneIn, lone, rowsByRule, loneAnswer, occurrences, once}
+use Rattle.ast.specs.Declarations.{ruleNode, declared, declaredAll, earliest}
 use Rattle.starred.specs.Encode.{File, bytesOf, kindsOf, startsOf, wordsOf, endsOf, joined, encode}
 use Rattle.lines.specs.Report.{Line, resolved, error, var, endOnce, endOk, refusal, declaredTwice, zipped, rowLines, endLines, bodyLines, linesOf, report}
 
@@ -302,5 +302,5 @@ AsExpected [] = Unit {0}
 AsExpected (c ∷ cs) = (report (c .image) ≡ c .lines) × AsExpected cs
 
 pub starred : AsExpected cases
-unfolding word nodes kindAt startAt opAt field nameOf operands names bytes last nameEnd nameStart nameBytes kindOf ones numbers opsFrom afterBlocks blockKids blockCounts after fieldKids fieldShape afterFields fieldsKids fieldsShape fieldsAt rowEnd kids shape kidsTo swap swaps ordered growAll grow classAt treeTo treeAt _▸_ need run is times same testSizes testNames inRow isChild childWord testBlocks testField testFields endBefore testNode testParents first isVar testVar testTree verdict markWords mark newScope newSymbol rowIs findFrom climb find lookup isKind isValue childScope ownSymbol introduce marked unmarked walkIdent headRole walkArg walk walkSeq walkFirst recorded recordedAll enterName andThen enterNames markAll enterAll visit visitAll resolveTree testTable zeroed walked headed outcomeOf resolve lefts rights filled written testRows among when sameNode asked introduces introducedRow definedRow definedRows argRow argRows listRows isCtor appRows patternRows plainRows argsOf repeated repeatedIn repeatedTo strictFrom strictRows isStrict errorRows testErrors errorsOf errors rowsOf rowsSeq rowsFirst rowsDefined declRows declsRows add opened headSort rulePlaces ruleSpots rulesOf moduleRules outerConst place placeSeq placeThen placeFirst spots spotsSeq spotsBack spotsFirst ruleNode declared declaredAll earliest rules rulesAll listed rowsFor ruleRows allRows occurrenceRows timesBound loneIn lone rowsByRule onceAnswer occurrencesOf occurrences onceOf once bytesOf kindsOf startsOf wordsOf endsOf joined encode zipped rowLines endLines bodyLines linesOf report
+unfolding word nodes kindAt startAt opAt field nameOf operands names bytes last nameEnd nameStart nameBytes kindOf ones numbers opsFrom afterBlocks blockKids blockCounts after fieldKids fieldShape afterFields fieldsKids fieldsShape fieldsAt rowEnd kids shape kidsTo swap swaps ordered growAll grow classAt treeTo treeAt _▸_ need run is times same testSizes testNames inRow isChild childWord testBlocks testField testFields endBefore testNode testParents first isVar testVar testTree verdict markWords mark newScope newSymbol rowIs findFrom climb find lookup isKind isValue childScope ownSymbol introduce marked unmarked walkIdent headRole walkArg walk walkSeq walkFirst enterName andThen resolveTree enterAll visit visitAll testTable zeroed walked headed wayOf way answerBy tableBy tableCall resolve lefts rights filled written cleared testRows rowsBy rowsCall among when sameNode asked introduces introducedRow definedRow definedRows argRow argRows listRows isCtor appRows patternRows plainRows argsOf repeated repeatedIn repeatedTo strictFrom strictRows isStrict errorRows testErrors errors rowsOf rowsSeq rowsFirst rowsDefined declRows declsRows add opened headSort rulePlaces ruleSpots rulesOf moduleRules outerConst place placeSeq placeThen placeFirst spots spotsSeq spotsBack spotsFirst rules rulesAll listed rowsFor ruleRows allRows occurrenceRows timesBound loneIn lone rowsByRule loneAnswer occurrences once bytesOf kindsOf startsOf wordsOf endsOf joined encode zipped rowLines endLines bodyLines linesOf report recorded recordedAll enterNames markAll ruleNode declared declaredAll earliest
 starred = (refl, (refl, (refl, (refl, (refl, (refl, (refl, (refl, (refl, (refl, (refl, (refl, (refl, (refl, (refl, (refl, tt))))))))))))))))

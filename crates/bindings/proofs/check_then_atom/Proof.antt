@@ -1,6 +1,7 @@
 use mathlib.Core.Path.{sym, _∙_}
 use native.Mathlib.Omega.{arith}
 use Rattle.rows.proofs.Parts.{appended-as}
+use Rattle.ast.specs.Kinds.{kindOf}
 use Rattle.bindings.proofs.Epic.{room-as}
 use Rattle.bindings.proofs.Bodies.{atom-equal, atom-defined, atom-pred, atom-last}
 use borrow.Author.Needs.{needs}
@@ -13,8 +14,9 @@ field-requires c κs = search needs
 field-requires-2 : tie.Need-field-requires-2
 field-requires-2 c κs = search needs
 
-check-epic-pair-requires : tie.Need-check-epic-pair-requires
-check-epic-pair-requires c κs = let o = atom-equal _ _ (c .before .before .before .before .before .before .before .pre .is) (sym (c .before .match .keys1) ∙ c .before .before .before .field .ensures) (c .before .before .field2 .ensures) in record { is = o .is; room = room-as (o .same) (c .before .before .before .before .before .before .before .pre .room) }
+check-epic-two-terms-requires : tie.Need-check-epic-two-terms-requires
+unfolding kindOf
+check-epic-two-terms-requires c κs = let o = atom-equal _ _ (c .before .before .before .before .before .before .before .pre .is) (sym (c .before .match .keys1) ∙ c .before .before .before .field .ensures) (c .before .before .field2 .ensures) in record { is = o .is; room = room-as (o .same) (c .before .before .before .before .before .before .before .pre .room) }
 
 check-then-defined-requires : tie.Need-check-then-defined-requires
 check-then-defined-requires c κs = let o = atom-defined _ _ (c .before .before .before .before .before .before .before .pre .is) (sym (c .before .match .keys2) ∙ c .before .before .before .field .ensures) (c .before .before .field2 .ensures) in record { is = o .0; room = room-as (o .1) (c .before .before .before .before .before .before .before .pre .room) }
@@ -29,7 +31,7 @@ same-length : tie.Need-same-length
 same-length c = search needs
 
 returns : tie.Need-returns
-returns c = appended-as (sym ((atom-equal _ _ (c .before .before .before .before .before .before .before .before .before .before .pre .is) (sym (c .before .before .before .before .match .keys1) ∙ c .before .before .before .before .before .before .field .ensures) (c .before .before .before .before .before .field2 .ensures)) .same)) (c .before .before .check-epic-pair .ensures)
+returns c = appended-as (sym ((atom-equal _ _ (c .before .before .before .before .before .before .before .before .before .before .pre .is) (sym (c .before .before .before .before .match .keys1) ∙ c .before .before .before .before .before .before .field .ensures) (c .before .before .before .before .before .field2 .ensures)) .same)) (c .before .before .check-epic-two-terms .ensures)
 
 same-length-2 : tie.Need-same-length-2
 same-length-2 c = search needs
@@ -49,7 +51,7 @@ check-then-atom-spec =
     (tie.spec
     field-requires
     field-requires-2
-    check-epic-pair-requires
+    check-epic-two-terms-requires
     check-then-defined-requires
     field-requires-3
     check-epic-terms-requires

@@ -5,9 +5,8 @@ use Rattle.ast.specs.Image.{last}
 use Rattle.ast.proofs.Accepted.{sized}
 use Rattle.rows.proofs.Appends.{appended-next, wrote}
 use Rattle.rows.proofs.Parts.{appended-as}
-use Rattle.bindings.proofs.Calls.{root-ready, plain-of, mode-fits}
-use Rattle.bindings.specs.Errors.{errorRows}
-use Rattle.bindings.proofs.Few.{rows-few}
+use Rattle.bindings.proofs.Calls.{root-ready, plain-of, mode-fits, errors-are}
+use Rattle.bindings.proofs.Bound.{rows-few}
 use borrow.Author.Needs.{needs}
 use Rattle.bindings.proofs.write_rows.Statement.{statement}
 use Rattle.bindings.proofs.write_rows.Tie as tie
@@ -36,8 +35,8 @@ same-length : tie.Need-same-length
 same-length c = search needs
 
 returns : tie.Need-returns
-unfolding last errorRows
-returns c = wrote (rows-few _ (c .before .before .before .before .before .before .before .before .before .before .before .before .before .before .before .before .before .before .before .before .pre .accepted) _ _) (c .before .before .before .before .before .before .before .before .before .before .before .before .before .before .before .before .node-count .ensures) (c .before .before .before .before .before .before .before .before .before .before .before .before .before .before .begin .ensures) (appended-next (appended-as (plain-of _ _ (ap (λ k. k - 1) (c .before .before .before .before .before .before .before .before .before .before .before .before .before .before .before .before .node-count .ensures))) (c .before .before .before .before .before .before .before .before .before .before .walk-module .ensures)) (c .before .before .before .before .before .before .check-mode .ensures)) (c .before .before .finish .ensures)
+unfolding last
+returns c = wrote (rows-few _ (c .before .before .before .before .before .before .before .before .before .before .before .before .before .before .before .before .before .before .before .before .pre .accepted) _ _) (c .before .before .before .before .before .before .before .before .before .before .before .before .before .before .before .before .node-count .ensures) (c .before .before .before .before .before .before .before .before .before .before .before .before .before .before .begin .ensures) (appended-as (errors-are _ _ _) (appended-next (appended-as (plain-of _ _ (ap (λ k. k - 1) (c .before .before .before .before .before .before .before .before .before .before .before .before .before .before .before .before .node-count .ensures))) (c .before .before .before .before .before .before .before .before .before .before .walk-module .ensures)) (c .before .before .before .before .before .before .check-mode .ensures))) (c .before .before .finish .ensures)
 
 pub write-rows-spec : {M : Type 1} → statement M
 write-rows-spec =

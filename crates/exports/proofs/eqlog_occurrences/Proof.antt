@@ -1,5 +1,5 @@
 use mathlib.Core.Path.{ap, subst}
-use Rattle.scopes.specs.Rows.{Outcome}
+use Rattle.scopes.specs.Calls.{RowsOutcome}
 use Rattle.exports.specs.Packed.{Fits}
 use Rattle.exports.proofs.Fitting.{occurrences-fit}
 use Rattle.exports.proofs.Packing.{leaves-rows}
@@ -10,8 +10,8 @@ use Rattle.exports.proofs.eqlog_occurrences.Tie as tie
 occurrences-requires : tie.Need-occurrences-requires
 occurrences-requires c κs = search needs
 
-pack-listed-requires : tie.Need-pack-listed-requires
-pack-listed-requires c κs = subst Fits (ap (λ (o : Outcome). o .answer) (c .before .before .before .before .occurrences .ensures)) (occurrences-fit _ _ _)
+pack-rowed-requires : tie.Need-pack-rowed-requires
+pack-rowed-requires c κs = subst Fits (ap (λ (o : RowsOutcome). o .answer) (c .before .before .before .before .occurrences .ensures)) (occurrences-fit _ _ _)
 
 same-length : tie.Need-same-length
 same-length c = search needs
@@ -20,9 +20,9 @@ same-length-2 : tie.Need-same-length-2
 same-length-2 c = search needs
 
 returns : tie.Need-returns
-returns c = leaves-rows (c .before .before .before .before .before .occurrences .ensures) (occurrences-fit _ _ _) (c .pack-listed .ensures)
+returns c = leaves-rows (c .before .before .before .before .before .occurrences .ensures) (occurrences-fit _ _ _) (c .pack-rowed .ensures)
 
 pub eqlog-occurrences-spec : {M : Type 1} → statement M
 eqlog-occurrences-spec =
     tie.close
-    (tie.spec occurrences-requires pack-listed-requires same-length same-length-2 returns)
+    (tie.spec occurrences-requires pack-rowed-requires same-length same-length-2 returns)

@@ -1,5 +1,5 @@
 use mathlib.Core.Path.{ap, subst}
-use Rattle.scopes.specs.Resolve as resolving
+use Rattle.scopes.specs.Resolve.{Outcome}
 use Rattle.exports.specs.Packed.{Fits}
 use Rattle.exports.proofs.Fitting.{once-fits}
 use Rattle.exports.proofs.Packing.{leaves}
@@ -11,7 +11,7 @@ check-occurrences-requires : tie.Need-check-occurrences-requires
 check-occurrences-requires c κs = search needs
 
 pack-once-requires : tie.Need-pack-once-requires
-pack-once-requires c κs = subst Fits (ap (λ (o : resolving.Outcome). o .answer) (c .before .before .check-occurrences .ensures)) (once-fits _ _)
+pack-once-requires c κs = subst Fits (ap (λ (o : Outcome). o .answer) (c .before .before .check-occurrences .ensures)) (once-fits _ _)
 
 same-length : tie.Need-same-length
 same-length c = search needs

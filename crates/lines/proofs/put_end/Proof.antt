@@ -1,7 +1,7 @@
 use mathlib.Core.Path.{ap, _∙_}
 use native.Mathlib.Omega.{arith}
 use Rattle.scopes.specs.Resolve.{Outcome}
-use Rattle.occurrences.specs.Answers.{checkedAnswer}
+use Rattle.occurrences.specs.Answers.{onceAnswer}
 use Rattle.lines.specs.Report.{endLines}
 use Rattle.lines.proofs.Calls.{lines-none, lines-one}
 use borrow.Author.Needs.{needs}
@@ -34,25 +34,25 @@ put-lone-requires c κs = search needs
 
 returns : tie.Need-returns
 unfolding endLines
-returns c = lines-none 31 _ (ap (λ (o : Outcome). endLines (o .answer)) (c .before .before .before .check-occurrences .ensures) ∙ ap (λ r. endLines (checkedAnswer r)) (c .enum-told .given .1))
+returns c = lines-none 31 _ (ap (λ (o : Outcome). endLines (o .answer)) (c .before .before .before .check-occurrences .ensures) ∙ ap (λ r. endLines (onceAnswer r)) (c .enum-told .given .1))
 
 returns-2 : tie.Need-returns-2
 unfolding endLines
-returns-2 c = lines-none 31 _ (ap (λ (o : Outcome). endLines (o .answer)) (c .before .before .before .check-occurrences .ensures) ∙ ap (λ r. endLines (checkedAnswer r)) (c .enum-told2 .given .1))
+returns-2 c = lines-none 31 _ (ap (λ (o : Outcome). endLines (o .answer)) (c .before .before .before .check-occurrences .ensures) ∙ ap (λ r. endLines (onceAnswer r)) (c .enum-told2 .given .1))
 
 same-length : tie.Need-same-length
 same-length c = search needs
 
 returns-3 : tie.Need-returns-3
 unfolding endLines
-returns-3 c = lines-one 31 (ap (λ (o : Outcome). endLines (o .answer)) (c .before .before .before .before .before .before .before .check-occurrences .ensures) ∙ ap (λ r. endLines (checkedAnswer r)) (c .before .before .before .before .enum-told3 .given .1)) (omega arith) (c .before .before .put-ok .ensures)
+returns-3 c = lines-one 31 (ap (λ (o : Outcome). endLines (o .answer)) (c .before .before .before .before .before .before .before .check-occurrences .ensures) ∙ ap (λ r. endLines (onceAnswer r)) (c .before .before .before .before .enum-told3 .given .1)) (omega arith) (c .before .before .put-ok .ensures)
 
 same-length-2 : tie.Need-same-length-2
 same-length-2 c = search needs
 
 returns-4 : tie.Need-returns-4
 unfolding endLines
-returns-4 c = lines-one 31 (ap (λ (o : Outcome). endLines (o .answer)) (c .before .before .before .before .before .before .before .before .check-occurrences .ensures) ∙ ap (λ r. endLines (checkedAnswer r)) (c .before .before .before .before .before .node .given .1)) (omega arith) (c .before .before .put-lone .ensures)
+returns-4 c = lines-one 31 (ap (λ (o : Outcome). endLines (o .answer)) (c .before .before .before .before .before .before .before .before .check-occurrences .ensures) ∙ ap (λ r. endLines (onceAnswer r)) (c .before .before .before .before .before .node .given .1)) (omega arith) (c .before .before .put-lone .ensures)
 
 pub put-end-spec : {M : Type 1} → statement M
 put-end-spec =

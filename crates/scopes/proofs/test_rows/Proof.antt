@@ -1,8 +1,5 @@
-use mathlib.Core.Path.{sym, ap, subst, _∙_}
-use Prim.Native.Nat.{ℕ, _≤_, _<_}
+use mathlib.Core.Path.{sym, _∙_}
 use native.Mathlib.Omega.{arith}
-use lib.ListN.{length}
-use Rattle.rows.specs.Rows.{rowsLength}
 use Rattle.scopes.proofs.Calls.{rows-refused, rows-short, rows-fit}
 use borrow.Author.Needs.{needs}
 use Rattle.scopes.proofs.test_rows.Statement.{statement}

@@ -22,16 +22,17 @@ use Rattle.ast.proofs.Shapes.{row as fields-of, tree-of, case-child, headKinds}
 use Rattle.ast.proofs.Accepted.{formed}
 use Rattle.ast.proofs.Unfold.{numbers-ones}
 use Rattle.ast.proofs.Vars.{every-kind}
+use Rattle.ast.proofs.ByKind.{kindFor, kinds-for, low-kind}
 use Rattle.ast.proofs.Kids.{childKind, kid-admitted, every-pair, parent}
 use Rattle.table.specs.Table.{Table}
 use Rattle.rows.specs.Rows.{Row}
 use Rattle.ast.proofs.Bools.{not-or, false-true}
 use Rattle.bindings.specs.Errors.{definedRow, rowsOf, rowsSeq, declRows, declsRows, plainRows}
 use Rattle.error.specs.Kinds.{asked}
 use Rattle.bindings.specs.Promises.{inside, ofPattern}
-use Rattle.bindings.specs.Places.{Stands, Determines, InThen, atom, down}
+use Rattle.sentences.specs.Places.{Stands, Determines, InThen, atom, down}
 use Rattle.bindings.proofs.RowLaws.{rowsAt, declKinds, decl-child, plain-rows, term-rows, member-rows, receiver-rows, head-other, case-rows, defined-none, defined-some}
-use Rattle.bindings.proofs.Standing.{thenKind, then-node, kindFor, kinds-for, low-kind, below-is, kids-at, field-zero, is-at}
+use Rattle.sentences.proofs.Standing.{thenKind, then-node, below-is, kids-at, field-zero, is-at}
 
 -- the rows l are among the rows k
 abbrev pub Sub : List Row → List Row → Type 0
@@ -282,7 +283,7 @@ asked-keeps k p q r = go (eqb k 29) (eqb k 18) (eqb k 19) (eqb k 26) (ne-eqb k 1
     go false false false false x y z = refl
 
 -- where a number of some operands stands
-pub ops-mem : (img : List ℕ) (c p : ℕ) {x : ℕ} → List·Memᴰ x (opsFrom img c p) → (j : ℕ) × (j < c) × (x ≡ opAt img (p + j))
+ops-mem : (img : List ℕ) (c p : ℕ) {x : ℕ} → List·Memᴰ x (opsFrom img c p) → (j : ℕ) × (j < c) × (x ≡ opAt img (p + j))
 unfolding opsFrom
 ops-mem img zero p m = absurd (List·Memᴰ·not-nil m)
 ops-mem img (suc c) p {x} m = go (ops-mem img c (p + 1)) (List·Memᴰ·cases-cons m)

@@ -16,16 +16,16 @@ use Rattle.ast.specs.Tree.{treeAt}
 use Rattle.ast.specs.Items.{items}
 use Rattle.table.specs.Table.{Table}
 use Rattle.rows.specs.Rows.{Row, row, when}
 use Rattle.bindings.specs.Errors.{argRow, argRows, plainRows}
 use Rattle.error.specs.Kinds.{asked}
-use Rattle.bindings.specs.Places.{Node, Introduced, NotNew, NotFresh}
+use Rattle.sentences.specs.Places.{Node, Introduced, NotNew, NotFresh}
 use Rattle.bindings.proofs.Leaves.{when-true, introduced-is}
 use Rattle.bindings.proofs.RowLaws.{plain-rows, term-rows, case-rows, defined-some, defined-ident, arg-ident, args-inside, ctor-ident}
 use Rattle.bindings.proofs.Epic.{epic-ident}
 use Rattle.bindings.proofs.Bodies.{atom-defined, applied, applied-yes}
-use Rattle.bindings.proofs.Fine.{Justified}
-use Rattle.bindings.proofs.Standing.{plain-all}
-use Rattle.bindings.proofs.Reached.{then-up, ups, stmtKind}
+use Rattle.sentences.proofs.Fine.{Justified}
+use Rattle.sentences.proofs.Standing.{plain-all}
+use Rattle.sentences.proofs.Reached.{then-up, ups, stmtKind}
 
 -- an argument's row 3 is among those of its list
 args-among : (img : List ℕ) (t : Table) (n c j i : ℕ) → i < c → (r : Row) → List·Memᴰ r (argRow img t (treeAt img (field img n (j + i)))) → List·Memᴰ r (argRows img t (items img n c j))

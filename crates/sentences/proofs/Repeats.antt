@@ -1,35 +1,23 @@
--- Each node gets at most one error row, so there are at most N; and document 01's sentence on row 4.
+-- Arguments that repeat a name, and document 01's sentence on row 4.
 use mathlib.Core.Path.{_≡_, refl, sym, ap, subst, _∙_}
 use mathlib.Core.Logic.{_⊎_, inl, inr, ⊎-elim, _↔_}
 use mathlib.Core.Bool.{Bool, true, false, _||_}
-use mathlib.Core.List.{List, [], _∷_, _++_, append-nil, List·Memᴰ, List·Memᴰ·head, List·Memᴰ·tail, List·Memᴰ·cases-cons, List·Memᴰ·not-nil, List·Memᴰ·eq-of-singleton, List·Memᴰ·append-cases, Memᴰ·append-left, Memᴰ·append-right}
+use mathlib.Core.List.{List, [], _∷_, _++_, List·Memᴰ, List·Memᴰ·head, List·Memᴰ·tail, List·Memᴰ·cases-cons, List·Memᴰ·not-nil, List·Memᴰ·eq-of-singleton, List·Memᴰ·append-cases, Memᴰ·append-left, Memᴰ·append-right}
 use Prim.Native.Nat.{ℕ, zero, suc, _+_, _<_, _≤_}
-use native.Mathlib.Nat.{add-zero}
-use native.Mathlib.Numerals.{add-one}
-use native.Mathlib.Decide.{ℕ-discrete, decLt}
+use native.Mathlib.Decide.{ℕ-discrete}
 use native.Mathlib.Omega.{arith}
 use lib.Dec.{T, eqb, eqb→eq}
-use lib.ListN.{length, length-append}
 use borrow.Author.Tests.{eqb-true, eq-eqb}
-use Rattle.ast.specs.Image.{nodes, kindAt, startAt, opAt, field, last}
-use Rattle.ast.specs.Kinds.{kindOf}
-use Rattle.ast.specs.Is.{Is}
-use Rattle.ast.specs.Tests.{is, times, verdict}
-use Rattle.ast.specs.Tree.{treeAt}
-use Rattle.ast.proofs.Row.{Child, FormedFields}
-use Rattle.ast.proofs.Shapes.{row as fields-of}
-use Rattle.ast.proofs.Count.{nodesOf, sumOf, sumTo, is-same, is-other, times-sum, times-append, sumTo-add, sumTo-ones, whole, once, nothing-else}
+use Rattle.ast.specs.Image.{nodes, kindAt, field}
+use Rattle.ast.specs.Tests.{verdict}
 use Rattle.scopes.specs.Twice.{among}
-use Rattle.table.specs.Table.{Table}
-use Rattle.rows.specs.Rows.{Row, row, rights, when}
+use Rattle.rows.specs.Rows.{Row, row, when}
 use Rattle.ast.proofs.Bools.{false-true}
-use Rattle.bindings.specs.Errors.{argsOf, repeated, repeatedIn, repeatedTo, strictFrom, strictRows, isStrict, plainRows, errorRows}
-use Rattle.bindings.specs.Places.{Unnamed, Repeated}
+use Rattle.bindings.specs.Errors.{argsOf, repeated, repeatedIn, repeatedTo, strictFrom, strictRows}
+use Rattle.sentences.specs.Places.{Unnamed, Repeated}
 use Rattle.bindings.proofs.Leaves.{when-true}
-use Rattle.bindings.proofs.Reached.{ops-mem}
-use Rattle.bindings.proofs.Fine.{rights-append}
-use Rattle.bindings.proofs.Standing.{plain-all}
-use Rattle.bindings.proofs.Sentences.{plain-at-term}
+use Rattle.ast.proofs.Kids.{all-mem}
+use Rattle.bindings.proofs.Bound.{args-all}
 
 -- membership as a test
 module _ (n : ℕ) where
@@ -195,7 +183,7 @@ module _ (img : List ℕ) where
       go (no e) ih = Memᴰ·append-left (repeatedIn img k) (ih (omega arith) h)
 
   -- rows 4 by rising node number
-  in-strict : {r : Row} (ns : List ℕ) (c s : ℕ) → List·Memᴰ r (strictFrom img ns c s) → (r .left ≡ 4) × (s ≤ r .right) × (r .right < s + c) × List·Memᴰ (r .right) ns
+  pub in-strict : {r : Row} (ns : List ℕ) (c s : ℕ) → List·Memᴰ r (strictFrom img ns c s) → (r .left ≡ 4) × (s ≤ r .right) × (r .right < s + c) × List·Memᴰ (r .right) ns
   unfolding strictFrom
   in-strict ns zero s h = absurd (List·Memᴰ·not-nil h)
   in-strict {r} ns (suc c) s h = go (in-strict ns c (s + 1)) (List·Memᴰ·append-cases (when (among s ns) (row 4 s)) h)
@@ -224,17 +212,6 @@ module _ (img : List ℕ) where
       go (no e) ih = Memᴰ·append-right (when (among s ns) (row 4 s)) (ih (omega arith))
 
 module _ (img : List ℕ) (accepted : verdict img ≡ 0) where
-  -- the arguments of a list are ArgDecls below it
-  arg-of : {n m : ℕ} → m < nodes img → kindAt img m ≡ 11 → List·Memᴰ n (argsOf img m) → (n < m) × (kindAt img n ≡ 10)
-  unfolding argsOf kindOf FormedFields field
-  arg-of {n} {m} l e h =
-      let is : Is img (kindOf 11) m = record { accepted = accepted; below = l; kind = ap kindOf e } in
-      let w = ops-mem img (field img m 0) (startAt img m + 3) h in
-      let q : startAt img m + 3 + w .0 ≡ startAt img m + 2 + (1 + w .0) = omega arith in
-      let c : Child img m 10 (field img m (1 + w .0)) = (fields-of img is) .0 (w .0) (w .1) in
-      let z : n ≡ field img m (1 + w .0) = w .2 ∙ ap (opAt img) q in
-      (subst (λ (x : ℕ). x < m) (sym z) (c .below), ap (kindAt img) z ∙ c .kind)
-
   -- row 4 stands at exactly the named arguments whose name is that of the nearest earlier named one of their list
   pub row-four : (n : ℕ) → List·Memᴰ (row 4 n) (strictRows img) ↔ Repeated img n
   unfolding strictRows
@@ -269,207 +246,5 @@ module _ (img : List ℕ) (accepted : verdict img ≡ 0) where
           } in
           let m : List·Memᴰ n (argsOf img (h .list)) =
           subst (List·Memᴰ n) (sym (h .args)) (Memᴰ·append-right (h .before) (List·Memᴰ·tail (Memᴰ·append-right (h .between) (List·Memᴰ·head refl)))) in
-          let a = arg-of (h .isList .below) (h .isList .kind) m in
-          of-strict img (repeatedTo img (nodes img)) (nodes img) 0 (omega arith) (let b = a .0 in let c = h .isList .below in omega arith)
+          of-strict img (repeatedTo img (nodes img)) (nodes img) 0 (omega arith) (let b = all-mem (args-all img accepted (h .list) (h .isList .below) (h .isList .kind)) m .0 in omega arith)
           (of-lists img (nodes img) (h .isList .below) (of-list img (h .list) (h .isList .kind) w))
-
--- the count -----------------------------------------------------------------------------------------------------------
--- rows whose nodes all weigh 1
-weigh-one : (w : ℕ → ℕ) (l : List Row) → ((r : Row) → List·Memᴰ r l → w (r .right) ≡ 1) → sumOf w (rights l) ≡ length l
-unfolding sumOf rights
-weigh-one w [] h = refl
-weigh-one w (r ∷ l) h = let a = h r (List·Memᴰ·head refl) in let b = weigh-one w l (λ x m. h x (List·Memᴰ·tail m)) in omega arith
-
-sum-below : (f g : ℕ → ℕ) → ((v : ℕ) → f v ≤ g v) → (m : ℕ) → sumTo f m ≤ sumTo g m
-unfolding sumTo
-sum-below f g h zero = omega arith
-sum-below f g h (suc m) = let a = sum-below f g h m in let b = h m in omega arith
-
-module _ (img : List ℕ) (accepted : verdict img ≡ 0) where
-  -- 1 at the nodes of kind k
-  abbrev ofKind : ℕ → ℕ → ℕ
-  ofKind k c = is k (kindAt img c)
-
-  kind-one : (k c : ℕ) → kindAt img c ≡ k → ofKind k c ≡ 1
-  kind-one k c e = ap (is k) e ∙ is-same k
-
-  apart : (c : ℕ) → ofKind 12 c + ofKind 10 c ≤ 1
-  apart c = go (ℕ-discrete 12 (kindAt img c)) (ℕ-discrete 10 (kindAt img c))
-    where
-      one-at-most : (k : ℕ) → is k (kindAt img c) ≤ 1
-      one-at-most k = pick (ℕ-discrete k (kindAt img c))
-        where
-          pick : Dec (k ≡ kindAt img c) → is k (kindAt img c) ≤ 1
-          pick (yes e) = let a = ap (is k) (sym e) ∙ is-same k in omega arith
-          pick (no e) = let a = is-other k (kindAt img c) e in omega arith
-
-      go : Dec (12 ≡ kindAt img c) → Dec (10 ≡ kindAt img c) → ofKind 12 c + ofKind 10 c ≤ 1
-      go (yes e) (yes q) = absurd (omega arith)
-      go (yes e) (no q) = let a = is-other 10 (kindAt img c) q in let b = one-at-most 12 in omega arith
-      go (no e) q = let a = is-other 12 (kindAt img c) e in let b = one-at-most 10 in omega arith
-
-  -- plain rows: at most as many as there are Terms
-  plain-few : (t : Table) → length (plainRows img t) ≤ sumTo (ofKind 12) (nodes img)
-  unfolding nodesOf
-  plain-few t =
-      let a = weigh-one (ofKind 12) (plainRows img t) (λ r m. kind-one 12 (r .right) (plain-at-term img t accepted r m)) in
-      let b = (plain-all img t accepted) .few (ofKind 12) in
-      let c = ap (sumOf (ofKind 12)) (append-nil (nodesOf (treeAt img (last img)))) in
-      let d = whole img accepted (ofKind 12) in
-      omega arith
-
-  -- rows 4: at most as many as there are ArgDecls
-  strict-at-arg : (n : ℕ) → List·Memᴰ n (repeatedTo img (nodes img)) → kindAt img n ≡ 10
-  strict-at-arg n m =
-      let b = in-lists img (nodes img) m in
-      let c = in-list img (b .0) (b .2) in
-      let w = c .1 in
-      let s = w .split ∙ ap (λ (l : List ℕ). w .before ++ (w .nearest ∷ l)) (w .near .split) in
-      arg-of img accepted (b .1) (c .0)
-      (subst (List·Memᴰ n) (sym s) (Memᴰ·append-right (w .before) (List·Memᴰ·tail (Memᴰ·append-right (w .near .between) (List·Memᴰ·head refl))))) .1
-
-  strict-few-from : (ns : List ℕ) → ((n : ℕ) → List·Memᴰ n ns → kindAt img n ≡ 10) → (c s : ℕ) → length (strictFrom img ns c s) + sumTo (ofKind 10) s ≤ sumTo (ofKind 10) (s + c)
-  unfolding strictFrom
-  strict-few-from ns h zero s = let a = ap (sumTo (ofKind 10)) (add-zero s) in omega arith
-  strict-few-from ns h (suc c) s =
-      let a = strict-few-from ns h c (s + 1) in
-      let b = length-append (when (among s ns) (row 4 s)) (strictFrom img ns c (s + 1)) in
-      let d = ap (sumTo (ofKind 10)) (let z : s + 1 + c ≡ s + suc c = omega arith in z) in
-      let e = first (among s ns) refl in
-      let f = ap (sumTo (ofKind 10)) (add-one s) in
-      omega arith
-    where
-      first : (b : Bool) → among s ns ≡ b → length (when b (row 4 s)) + sumTo (ofKind 10) s ≤ sumTo (ofKind 10) (suc s)
-      first true e = unfold when in unfold sumTo in let k = kind-one 10 s (h s (among-mem s ns e)) in omega arith
-      first false e = unfold when in unfold sumTo in omega arith
-
-  strict-few : length (strictRows img) ≤ sumTo (ofKind 10) (nodes img)
-  unfolding strictRows sumTo
-  strict-few =
-      let a = strict-few-from (repeatedTo img (nodes img)) strict-at-arg (nodes img) 0 in
-      let b = ap (sumTo (ofKind 10)) (let z : 0 + nodes img ≡ nodes img = omega arith in z) in
-      omega arith
-
-  -- at most N error rows, so none is ever dropped
-  pub rows-few : (t : Table) (mode : ℕ) → length (errorRows img t mode) ≤ nodes img
-  unfolding errorRows
-  rows-few t mode =
-      let a = plain-few t in
-      let b = strict-few in
-      let c = sumTo-add (ofKind 12) (ofKind 10) (nodes img) in
-      let d = sum-below (λ v. ofKind 12 v + ofKind 10 v) (λ v. 1) apart (nodes img) in
-      let e = sumTo-ones (nodes img) in
-      let f = go (isStrict img mode) in
-      omega arith
-    where
-      go : (b : Bool) → length (plainRows img t ++ elim b as (λ _. List Row) [ true ↦ strictRows img | false ↦ [] ]) ≤ length (plainRows img t) + length (strictRows img)
-      go true = let a = length-append (plainRows img t) (strictRows img) in omega arith
-      go false = let a = length-append (plainRows img t) [] in omega arith
-
-  pub both-few : (t : Table) → length (plainRows img t) + length (strictRows img) ≤ nodes img
-  both-few t =
-      let a = plain-few t in
-      let b = strict-few in
-      let c = sumTo-add (ofKind 12) (ofKind 10) (nodes img) in
-      let d = sum-below (λ v. ofKind 12 v + ofKind 10 v) (λ v. 1) apart (nodes img) in
-      let e = sumTo-ones (nodes img) in
-      omega arith
-
-  -- no node has two plain rows
-  pub plain-once : (t : Table) (v : ℕ) → times v (rights (plainRows img t)) ≤ 1
-  unfolding nodesOf
-  plain-once t v =
-      let a = times-sum v (rights (plainRows img t)) in
-      let b = (plain-all img t accepted) .few (is v) in
-      let c = ap (sumOf (is v)) (append-nil (nodesOf (treeAt img (last img)))) in
-      let d = times-sum v (nodesOf (treeAt img (last img))) in
-      go (decLt v (nodes img)) a b c d
-    where
-      go : Dec (v < nodes img) → times v (rights (plainRows img t)) ≡ sumOf (is v) (rights (plainRows img t)) → sumOf (is v) (rights (plainRows img t)) ≤ sumOf (is v) (nodesOf (treeAt img (last img)) ++ [])
-          → sumOf (is v) (nodesOf (treeAt img (last img)) ++ []) ≡ sumOf (is v) (nodesOf (treeAt img (last img))) → times v (nodesOf (treeAt img (last img))) ≡ sumOf (is v) (nodesOf (treeAt img (last img)))
-          → times v (rights (plainRows img t)) ≤ 1
-      go (yes l) a b c d = let e = once img accepted v l in omega arith
-      go (no l) a b c d = let e = nothing-else img accepted v (omega arith) in omega arith
-
--- a node that is counted has a row
-row-counted : (v : ℕ) (l : List Row) → 0 < times v (rights l) → (r : Row) × List·Memᴰ r l × (r .right ≡ v)
-unfolding rights times
-row-counted v [] h = absurd (omega arith)
-row-counted v (r ∷ l) h = go (ℕ-discrete v (r .right)) (row-counted v l)
-  where
-    go : Dec (v ≡ r .right) → (0 < times v (rights l) → (x : Row) × List·Memᴰ x l × (x .right ≡ v)) → (x : Row) × List·Memᴰ x (r ∷ l) × (x .right ≡ v)
-    go (yes e) ih = (r, List·Memᴰ·head refl, sym e)
-    go (no e) ih = let z = is-other v (r .right) e in let q = ih (omega arith) in (q .0, List·Memᴰ·tail (q .1), q .2)
-
-when-times : (v s : ℕ) (b : Bool) → times v (rights (when b (row 4 s))) ≤ is v s
-unfolding when rights times
-when-times v s true = omega arith
-when-times v s false = omega arith
-
-module _ (img : List ℕ) (v : ℕ) (ns : List ℕ) where
-  rows-split : (l k : List Row) → times v (rights (l ++ k)) ≡ times v (rights l) + times v (rights k)
-  rows-split l k = ap (times v) (rights-append l k) ∙ times-append v (rights l) (rights k)
-
-  strict-below : (c s : ℕ) → v < s → times v (rights (strictFrom img ns c s)) ≡ 0
-  unfolding strictFrom rights times
-  strict-below zero s l = refl
-  strict-below (suc c) s l =
-      let a = strict-below c (s + 1) (omega arith) in
-      let b = rows-split (when (among s ns) (row 4 s)) (strictFrom img ns c (s + 1)) in
-      let d = when-times v s (among s ns) in
-      let e = is-other v s (omega arith) in
-      omega arith
-
-  strict-once : (c s : ℕ) → times v (rights (strictFrom img ns c s)) ≤ 1
-  unfolding strictFrom rights times
-  strict-once zero s = omega arith
-  strict-once (suc c) s = go (ℕ-discrete v s) (strict-once c (s + 1)) (rows-split (when (among s ns) (row 4 s)) (strictFrom img ns c (s + 1))) (when-times v s (among s ns))
-    where
-      go : Dec (v ≡ s) → times v (rights (strictFrom img ns c (s + 1))) ≤ 1
-          → times v (rights (when (among s ns) (row 4 s) ++ strictFrom img ns c (s + 1))) ≡ times v (rights (when (among s ns) (row 4 s))) + times v (rights (strictFrom img ns c (s + 1)))
-          → times v (rights (when (among s ns) (row 4 s))) ≤ is v s
-          → times v (rights (when (among s ns) (row 4 s) ++ strictFrom img ns c (s + 1))) ≤ 1
-      go (yes e) ih b d = let z = strict-below c (s + 1) (omega arith) in let y = ap (is v) (sym e) ∙ is-same v in omega arith
-      go (no e) ih b d = let y = is-other v s e in omega arith
-
-module _ (img : List ℕ) (accepted : verdict img ≡ 0) (t : Table) where
-  -- error rows stand at distinct nodes
-  pub rows-once : (mode v : ℕ) → times v (rights (errorRows img t mode)) ≤ 1
-  unfolding errorRows
-  rows-once mode v = go (isStrict img mode)
-    where
-      strict : ℕ
-      strict = times v (rights (strictRows img))
-
-      once-strict : strict ≤ 1
-      once-strict = unfold strictRows in strict-once img v (repeatedTo img (nodes img)) (nodes img) 0
-
-      -- a plain row stands at a Term, a row 4 at an ArgDecl
-      disjoint : 0 < times v (rights (plainRows img t)) → 0 < strict → ⊥
-      disjoint p q =
-          let a = row-counted v (plainRows img t) p in
-          let b = row-counted v (strictRows img) q in
-          let x = sym (ap (kindAt img) (a .2)) ∙ plain-at-term img t accepted (a .0) (a .1) in
-          let y = at-arg (b .0) (b .1) (b .2) in
-          omega arith
-        where
-          at-arg : (r : Row) → List·Memᴰ r (strictRows img) → r .right ≡ v → kindAt img v ≡ 10
-          at-arg r m e = unfold strictRows in
-              subst (λ (x : ℕ). kindAt img x ≡ 10) e (strict-at-arg img accepted (r .right) (in-strict img (repeatedTo img (nodes img)) (nodes img) 0 m .3))
-
-      go : (b : Bool) → times v (rights (plainRows img t ++ elim b as (λ _. List Row) [ true ↦ strictRows img | false ↦ [] ])) ≤ 1
-      go true =
-          let a = rows-split img v [] (plainRows img t) (strictRows img) in
-          let b = plain-once img accepted t v in
-          let c = once-strict in
-          pick (decLt 0 (times v (rights (plainRows img t)))) (decLt 0 strict) a b c
-        where
-          pick : Dec (0 < times v (rights (plainRows img t))) → Dec (0 < strict) → times v (rights (plainRows img t ++ strictRows img)) ≡ times v (rights (plainRows img t)) + strict
-              → times v (rights (plainRows img t)) ≤ 1 → strict ≤ 1 → times v (rights (plainRows img t ++ strictRows img)) ≤ 1
-          pick (yes p) (yes q) a b c = absurd (disjoint p q)
-          pick (yes p) (no q) a b c = omega arith
-          pick (no p) q a b c = omega arith
-      go false =
-          let a = rows-split img v [] (plainRows img t) [] in
-          let b = plain-once img accepted t v in
-          unfold rights times in omega arith

@@ -13,27 +13,28 @@ use borrow.Author.Tests.{ne-eqb, eqb-true, eqb-false}
 use Rattle.ast.specs.Image.{nodes, kindAt, startAt, opAt, field, last}
 use Rattle.ast.specs.Kinds.{Class, outer, inner, root, decl, rule, model, plain, term, ident, head, headMember, member, case, ifVar, definedThen, arg, Field, name, optName, child, list, cases, noChild, Kind, kinds, kindOf}
 use Rattle.ast.specs.Is.{Is, kindBy}
-use Rattle.ast.specs.Rows.{Kid, one, many, numbers, kids, kidsTo, after, fieldsKids, fieldKids, fieldsAt}
+use Rattle.ast.specs.Rows.{Kid, one, numbers, kids, kidsTo, after, fieldsKids, fieldKids, fieldsAt}
 use Rattle.ast.specs.Tests.{is, times, verdict}
-use Rattle.ast.specs.Tree.{Tree, node, block, Trees, none, _◂_, ordered, growAll, grow, classAt, treeAt}
+use Rattle.ast.specs.Tree.{node, block, Trees, none, _◂_, ordered, grow, classAt, treeAt}
 use Rattle.ast.specs.Items.{items, below}
 use Rattle.ast.proofs.Row.{append-none, Child, FormedFields, next, nodeOf, allKids, append}
 use Rattle.ast.proofs.Shapes.{row as fields-of, tree-of, child-is, case-child, case-kids, case-one, case-last, term-last, head-last, termKinds, headKinds}
 use Rattle.ast.proofs.Accepted.{formed, last-below}
-use Rattle.ast.proofs.Unfold.{All, nil, cons, All-split, treeAt-is}
-use Rattle.ast.proofs.Vars.{every-kind, Each, and-both}
+use Rattle.ast.proofs.Unfold.{All, nil, cons, treeAt-is}
+use Rattle.ast.proofs.Vars.{Each, and-both}
 use Rattle.ast.proofs.Count.{is-same, times-append, parents}
+use Rattle.ast.proofs.ByKind.{kindFor, kinds-for, low-kind, each-grow}
 use Rattle.ast.proofs.Kids.{childKind, kid-admitted, every-pair}
 use Rattle.table.specs.Table.{Table, isVar, isKind, atEntry, atExit}
 use Rattle.rows.specs.Rows.{Row}
 use Rattle.ast.proofs.Bools.{not-or, is-true, false-true, not-equal, and-true, true-is}
 use Rattle.bindings.specs.Errors.{introduces, introducedRow, isCtor, argRow, argRows, definedRow, rowsOf, rowsSeq, declRows, plainRows}
 use Rattle.error.specs.Kinds.{asked}
 use Rattle.bindings.specs.Promises.{inside, listed, declared, ofPattern, ofArgs}
-use Rattle.bindings.specs.Places.{Node, Stands, InThen, atom, down}
+use Rattle.sentences.specs.Places.{Node, Stands, InThen, atom, down}
 use Rattle.bindings.proofs.RowLaws.{rowsAt, declKinds, kids-of, plain-rows, term-rows, ident-rows, member-rows, receiver-rows, head-ident, head-other, case-rows, defined-none, defined-some, case-inside, arg-none, arg-ident, defined-ident, defined-wild, ctor-ident, ctor-none, decl-child, decl-none, rule-rows, model-rows, module-rows}
 use Rattle.bindings.proofs.Bodies.{atomKinds, case-pattern, no-pattern, applied, applied-yes, applied-no, Applied, case-whole, Defined, then-some}
-use Rattle.bindings.proofs.Fine.{Fine, FineAt, fine-as, fine-none, fine-no, fine-cons, fine-swap, fine-first, fine-rest, fine-block, at-node, at-row, items-fine, args-fine, decls-fine}
+use Rattle.sentences.proofs.Fine.{Fine, FineAt, fine-as, fine-none, fine-no, fine-cons, fine-swap, fine-first, fine-rest, fine-block, at-node, at-row, items-fine, args-fine, decls-fine}
 
 -- kinds -------------------------------------------------------------------------------------------------------------
 -- IdentTerm gives its row to the Term above it, and DefinedThenAtom's depends on the atom
@@ -72,24 +73,6 @@ then-closed : (k c : ℕ) → k ≤ 40 → c ≤ 40 → T (thenClosed k (kindOf 
 unfolding kinds
 then-closed k c l m = every-pair thenClosed tt k c l m
 
--- the one kind of each class but plain and those of declarations
-abbrev pub kindFor : Class → ℕ → Bool
-kindFor (outer o) k = true
-kindFor (inner plain) k = true
-kindFor (inner term) k = eqb k 12
-kindFor (inner ident) k = eqb k 13
-kindFor (inner head) k = eqb k 15
-kindFor (inner headMember) k = eqb k 16
-kindFor (inner member) k = eqb k 17
-kindFor (inner case) k = eqb k 35
-kindFor (inner ifVar) k = eqb k 33
-kindFor (inner definedThen) k = eqb k 34
-kindFor (inner arg) k = eqb k 10
-
-pub kinds-for : (k : ℕ) → k ≤ 40 → T (kindFor ((kindOf k) .class) k)
-unfolding kinds
-kinds-for k l = every-kind (λ x xd. kindFor (xd .class) x) tt k l
-
 -- where rows 1 are asked for below a node that is no ThenAtom, they were asked for there, and it is not Dom, Cod or PredExpr
 asked-on : (k : ℕ) (a : Bool) → (k ≡ 29 → ⊥) → asked k a ≡ true → (a ≡ true) × ((k ≡ 18 → ⊥) × ((k ≡ 19 → ⊥) × (k ≡ 26 → ⊥)))
 unfolding asked
@@ -105,9 +88,6 @@ asked-on k a h e = go (eqb k 29) (eqb k 18) (eqb k 19) (eqb k 26) refl refl refl
     go false false false false p q r s z = (z, (eqb-false k 18 q, (eqb-false k 19 r, eqb-false k 26 s)))
 
 module _ (img : List ℕ) (accepted : verdict img ≡ 0) where
-  pub low-kind : (n : ℕ) → n < nodes img → kindAt img n ≤ 40
-  low-kind n l = (formed img accepted) .each n l .kind
-
   -- what stands in a then-atom is a node, of such a kind
   pub then-node : {n : ℕ} → InThen img n → (n < nodes img) × T (thenKind (kindAt img n))
   then-node (atom h) = (h .below, subst (λ (k : ℕ). T (thenKind k)) (sym (h .kind)) tt)
@@ -117,7 +97,7 @@ module _ (img : List ℕ) (accepted : verdict img ≡ 0) where
       let b : c < nodes img = (let x = q .0 in let y = a .0 in omega arith) in (
         b,
         not-or (childKind ((kindOf (kindAt img p)) .fields) (kindAt img c)) (thenKind (kindAt img c)) (a .1)
-            (not-or (thenKind (kindAt img p)) _ (q .1) (then-closed (kindAt img p) (kindAt img c) (low-kind p (q .0)) (low-kind c b))),
+            (not-or (thenKind (kindAt img p)) _ (q .1) (then-closed (kindAt img p) (kindAt img c) (low-kind img accepted p (q .0)) (low-kind img accepted c b))),
       )
 
 -- no node stands twice in one row
@@ -137,27 +117,9 @@ module _ (img : List ℕ) where
   once-in-row e p c l k = let a = row-times c (nodes img) p l in let b = parents img e c k in omega arith
 
 -- children by numbers and by trees ----------------------------------------------------------------------------------
--- each of some trees, and each tree of a block among them
-data Kids (Q : Tree → Type 0) : Trees → Type 0 where
-  nothing : Kids Q none
-  single : {u : Tree} {us : Trees} → Q u → Kids Q us → Kids Q (u ◂ us)
-  several : {ts us : Trees} → Each Q ts → Kids Q us → Kids Q (block ts ◂ us)
-
 every : {P : ℕ → Type 0} (cs : List ℕ) → ((c : ℕ) → List·Memᴰ c cs → P c) → All P cs
 every [] f = nil
 every (c ∷ cs) f = cons (f c (List·Memᴰ·head refl)) (every cs (λ x m. f x (List·Memᴰ·tail m)))
-
-module _ (img : List ℕ) (Q : Tree → Type 0) where
-  each-grown : {cs : List ℕ} → All (λ c. Q (treeAt img c)) cs → Each Q (growAll (treeAt img) cs)
-  unfolding growAll Each
-  each-grown nil = tt
-  each-grown (cons h r) = (h, each-grown r)
-
-  kids-grown : (ks : List Kid) → All (λ c. Q (treeAt img c)) (numbers ks) → Kids Q (grow (treeAt img) ks)
-  unfolding grow numbers
-  kids-grown [] h = nothing
-  kids-grown (one c ∷ ks) (cons h r) = single h (kids-grown ks r)
-  kids-grown (many cs ∷ ks) h = let s = All-split cs h in several (each-grown (s .0)) (kids-grown ks (s .1))
 
 module _ (img : List ℕ) where
   -- the trees below a node are those of its children
@@ -206,11 +168,9 @@ module _ (img : List ℕ) (t : Table) where
   each-fine a n none h = fine-none img t none
   each-fine a n (u ◂ us) h = fine-cons img t (h .0) (each-fine a n us (h .1))
 
-  seq-fine : (a : Bool) (n : ℕ) {ts : Trees} → Kids (λ u. Fine img t (u ◂ none) (rowsOf img t a n u)) ts → Fine img t ts (rowsSeq img t a n ts)
+  block-fine : (a : Bool) (n : ℕ) (ts : Trees) → Each (λ u. Fine img t (u ◂ none) (rowsOf img t a n u)) ts → Fine img t (block ts ◂ none) (rowsOf img t a n (block ts))
   unfolding rowsOf
-  seq-fine a n nothing = fine-none img t none
-  seq-fine a n (single h r) = fine-cons img t h (seq-fine a n r)
-  seq-fine a n (several {ts} h r) = fine-cons img t (fine-block img t (each-fine a n ts h)) (seq-fine a n r)
+  block-fine a n ts h = fine-block img t (each-fine a n ts h)
 
   -- a node whose children are gone through one after another
   through : {kd : Kind} {n : ℕ} (a : Bool) → Is img kd n → ((ts : Trees) → ordered (kd .class) ts ≡ ts)
@@ -218,7 +178,7 @@ module _ (img : List ℕ) (t : Table) where
   through {kd} {n} a is straight f =
       at-node img t is
       (subst (λ (us : Trees). Fine img t us (rowsSeq img t a n us)) (sym (below-is img is straight))
-      (seq-fine a n (kids-grown img (λ u. Fine img t (u ◂ none) (rowsOf img t a n u)) (kids img n) (every (numbers (kids img n)) f))))
+      (each-fine a n (grow (treeAt img) (kids img n)) (each-grow (λ u. Fine img t (u ◂ none) (rowsOf img t a n u)) (block-fine a n) (treeAt img) (kids img n) (every (numbers (kids img n)) f))))
 
   -- up from the child of a case of an enum, and from a first child
   case-up : (cl : Class) (ks : List ℕ) {n d : ℕ} {l : List Row} → Is img (kindBy cl (cases ks ∷ [])) n → ((ts : Trees) → ordered cl ts ≡ ts)

@@ -1,0 +1,6 @@
+pub mod Fine
+pub mod Standing
+pub mod Reached
+pub mod Sentences
+pub mod Repeats
+pub mod Once
