@@ -17,7 +17,8 @@ use Rattle.table.specs.Layout.{entryPlace, exitPlace, scopePlace, nodePlace}
 use Rattle.table.specs.State.{Exit, ownSymbol, marked}
 use Rattle.table.specs.Table.{Table, find, markWords, mark, newSymbol}
 use Rattle.table.proofs.Frames.{find-mark}
-use Rattle.scopes.specs.Walk.{Listed, done, twice, recorded, recordedAll, enterName, andThen, enterNames, markAll, enter, enterAll}
+use Rattle.scopes.specs.Walk.{Listed, done, twice, recorded, recordedAll, enterName, andThen, enterNames, markAll, enterAll}
+use Rattle.scopes.specs.Promises.{enter}
 use Rattle.scopes.proofs.Adds.{recordedAll-small, named}
 
 -- two stores before two others, at other places

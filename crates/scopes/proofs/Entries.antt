@@ -26,8 +26,8 @@ use Rattle.table.specs.Values.{exitOf}
 use Rattle.table.specs.declared.Walked.{Walked}
 use Rattle.ast.specs.declared.NodeId.{NodeId}
 use Rattle.ordered.proofs.Kept.{past, mark-past, mark-length, symbol-past}
-use Rattle.scopes.specs.Walk.{Listed, done, twice, recorded, enterName, andThen, enterNames, markAll, enter, enterAll, visit}
-use Rattle.scopes.specs.Promises.{listedOf, ent, ents, vis, restEnter, Seen, Entering, Enters, Signature, Stamped}
+use Rattle.scopes.specs.Walk.{Listed, done, twice, recorded, enterName, andThen, enterNames, markAll, enterAll, visit}
+use Rattle.scopes.specs.Promises.{listedOf, enter, ent, ents, vis, restEnter, Seen, Entering, Enters, Signature, Stamped}
 use Rattle.scopes.specs.declared.Declared.{Declared}
 use Rattle.scopes.specs.declared.Declared.the-variants.{Done, Twice}
 use Rattle.scopes.proofs.Adds.{named, Went, done-same, twice-done, name-in, enter-in}

@@ -19,7 +19,7 @@ use Rattle.table.specs.Values.{exitOf}
 use Rattle.ordered.specs.Walk.{occurs}
 use Rattle.ordered.specs.Promises.{inside, Room}
 use Rattle.ordered.specs.Kept.{Kept}
-use Rattle.scopes.specs.Walk.{Listed, done, twice, andThen, enterAll, visitAll}
+use Rattle.scopes.specs.Walk.{Listed, done, twice, recorded, andThen, enterNames, markAll, enterAll, visitAll}
 use Rattle.scopes.specs.declared.Declared.{Declared}
 use Rattle.scopes.specs.declared.Declared.the-variants.{Done, Twice}
 
@@ -54,6 +54,10 @@ unfoldable mutual
   viss (t ◂ ts) = vis t + viss ts
 
 module _ (img : List ℕ) where
+  -- what entering one declaration of a list gives
+  unfoldable pub enter : Tree → Exit → Listed
+  enter u e = enterNames img (declared u) (markAll img (recorded u) e)
+
   -- what entering and visiting those of the count items from place j of n's row on give that are left after i of them
   unfoldable pub restEnter : (n j count i : ℕ) → Exit → Listed
   unfolding items

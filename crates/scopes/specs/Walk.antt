@@ -2,7 +2,7 @@
 use mathlib.Core.List.{List, [], _∷_, _++_}
 use mathlib.Core.Option.{Option, none as nothing, some}
 use Prim.Native.Nat.{ℕ}
-use Rattle.ast.specs.Declarations.{declared, declaredAll}
+use Rattle.ast.specs.Declarations.{declaredAll}
 use Rattle.ast.specs.Image.{nameOf}
 use Rattle.ast.specs.Kinds.{outer, inner, root, decl, signature, rule, enum, model}
 use Rattle.ast.specs.Tree.{Tree, node, block, Trees, none, _◂_}
@@ -57,13 +57,9 @@ module _ (img : List ℕ) where
   markAll [] e = e
   markAll (n ∷ ns) e = markAll ns (marked img n (e .scope) e)
 
-  -- a declaration list in the scope that the walk stands in: its nodes record the scope, and all its names are entered; and
-  -- what one declaration has of that
+  -- a declaration list in the scope that the walk stands in: its nodes record the scope, and all its names are entered
   unfoldable pub enterAll : Trees → Exit → Listed
   enterAll us e = enterNames (declaredAll us) (markAll (recordedAll us) e)
-
-  unfoldable pub enter : Tree → Exit → Listed
-  enter u e = enterNames (declared u) (markAll (recorded u) e)
 
   -- the declarations themselves; what a signature or a rule adds is dropped
   unfoldable mutual
