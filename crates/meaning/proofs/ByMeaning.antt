@@ -11,7 +11,7 @@ use Rattle.ast.specs.Rules.{Rule, moduleRules}
 use Rattle.ast.specs.Answer.{result}
 use Rattle.scopes.specs.Resolve.{testTable, walked, headed, counted, wayOf, way, answerBy, tableBy, Outcome, tableCall, resolve}
 use Rattle.scopes.specs.Walk.{Listed, done}
-use Rattle.table.specs.State.{Exit}
+use Rattle.table.specs.State.{Walked}
 use Rattle.scopes.specs.Twice.{declaredTwice}
 use Rattle.scopes.proofs.Calls.{rows-table, rowed-held}
 use Rattle.scopes.proofs.Resolving.{table-accepted, own-counts}
@@ -33,7 +33,7 @@ use Rattle.meaning.proofs.Marks.{by-meaning}
 use Rattle.meaning.proofs.Faults.{faults-by-meaning}
 
 -- what Resolve leaves where the walk ends
-resolve-done : (img tab : List ℕ) → testTable img tab ≡ 0 → {e : Exit} → walked img tab ≡ done e
+resolve-done : (img tab : List ℕ) → testTable img tab ≡ 0 → {e : Walked} → walked img tab ≡ done e
     → resolve img tab ≡ record { answer = result (e .table .scopes) (e .table .symbols); table = headed img (e .table) }
 unfolding resolve tableCall way wayOf answerBy tableBy
 resolve-done img tab p {e} h =
