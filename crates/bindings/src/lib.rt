@@ -59,15 +59,22 @@ fn is_introduced(image: &[u8], table: &[u32], w: Walked, term: NodeId, id: NodeI
 }
 
 // A row more, where the test says so.
-fn put_if(image: &[u8], rows: &mut [u32], count: u32, test: bool, number: u32, node: NodeId) -> u32
-    requires { ⌜ count + length (when test (row number (node .0))) < 2 ^ 32 ⌝ }
-    ensures { λ r. ⌜ Appended («image-spec».nodes (now (image .entry))) (when test (row number (node .0))) count (now (rows .entry)) r (now (rows .exit)) ⌝ }
+fn put_if(
+    image: &[u8],
+    rows: &mut [u32],
+    written: u32,
+    test: bool,
+    number: u32,
+    node: NodeId,
+) -> u32
+    requires { ⌜ written + length (when test (row number (node .0))) < 2 ^ 32 ⌝ }
+    ensures { λ r. ⌜ Appended («image-spec».nodes (now (image .entry))) (when test (row number (node .0))) written (now (rows .entry)) r (now (rows .exit)) ⌝ }
 {
     if test {
         let n = ast::node_count(image);
-        return rows::put_row(rows, n, count, number, node.0);
+        return rows::put_row(rows, n, written, number, node.0);
     }
-    count
+    written
 }
 
 // Row 1, at an ident term that introduces its name.
@@ -76,16 +83,16 @@ fn check_epic_ident(
     table: &[u32],
     w: Walked,
     rows: &mut [u32],
-    count: u32,
+    written: u32,
     term: NodeId,
     id: NodeId,
 ) -> u32
-    requires { ⌜ Room (now image) (tableOf w (now table)) (introducedRow (now image) (tableOf w (now table)) true (term .0) (id .0)) count ⌝ }
-    ensures { λ r. ⌜ Appended («image-spec».nodes (now (image .entry))) (introducedRow (now (image .entry)) (tableOf w (now (table .entry))) true (term .0) (id .0)) count (now (rows .entry)) r (now (rows .exit)) ⌝ }
+    requires { ⌜ Room (now image) (tableOf w (now table)) (introducedRow (now image) (tableOf w (now table)) true (term .0) (id .0)) written ⌝ }
+    ensures { λ r. ⌜ Appended («image-spec».nodes (now (image .entry))) (introducedRow (now (image .entry)) (tableOf w (now (table .entry))) true (term .0) (id .0)) written (now (rows .entry)) r (now (rows .exit)) ⌝ }
 {
     let test = is_introduced(image, table, w, term, id);
     let number = error::row_number(ErrorKind::VariableIntroducedInThenStmt);
-    put_if(image, rows, count, test, number, term)
+    put_if(image, rows, written, test, number, term)
 }
 
 // A term of a then-atom, down to the subterms that determine the value being constructed. A variable there is an
@@ -95,24 +102,24 @@ fn check_epic_term(
     table: &[u32],
     w: Walked,
     rows: &mut [u32],
-    count: u32,
+    written: u32,
     term: NodeId,
 ) -> u32
-    requires { ⌜ Ready (now image) (tableOf w (now table)) (kindOf 12) (term .0) (inside (now image) (tableOf w (now table)) true (term .0)) count ⌝ }
-    ensures { λ r. ⌜ Appended («image-spec».nodes (now (image .entry))) (inside (now (image .entry)) (tableOf w (now (table .entry))) true (term .0)) count (now (rows .entry)) r (now (rows .exit)) ⌝ }
+    requires { ⌜ Ready (now image) (tableOf w (now table)) (kindOf 12) (term .0) (inside (now image) (tableOf w (now table)) true (term .0)) written ⌝ }
+    ensures { λ r. ⌜ Appended («image-spec».nodes (now (image .entry))) (inside (now (image .entry)) (tableOf w (now (table .entry))) true (term .0)) written (now (rows .entry)) r (now (rows .exit)) ⌝ }
 {
     let case = ast::field(image, term, 0);
     let child = NodeId(ast::field(image, term, 1));
     match case {
-        0 => check_epic_ident(image, table, w, rows, count, term, child),
-        2 => check_epic_app(image, table, w, rows, count, child),
+        0 => check_epic_ident(image, table, w, rows, written, term, child),
+        2 => check_epic_app(image, table, w, rows, written, child),
         3 | 6 => {
             let inner = NodeId(ast::field(image, child, 0));
-            check_epic_term(image, table, w, rows, count, inner)
+            check_epic_term(image, table, w, rows, written, inner)
         }
-        7 => check_epic_two_terms(image, table, w, rows, count, child),
+        7 => check_epic_two_terms(image, table, w, rows, written, child),
         // Wildcard; and nothing is asked for below Dom and Cod
-        _ => count,
+        _ => written,
     }
 }
 
@@ -122,15 +129,15 @@ fn check_epic_two_terms(
     table: &[u32],
     w: Walked,
     rows: &mut [u32],
-    count: u32,
+    written: u32,
     id: NodeId,
 ) -> u32
-    requires { ⌜ Ready (now image) (tableOf w (now table)) twoTerms (id .0) (inside (now image) (tableOf w (now table)) true (id .0)) count ⌝ }
-    ensures { λ r. ⌜ Appended («image-spec».nodes (now (image .entry))) (inside (now (image .entry)) (tableOf w (now (table .entry))) true (id .0)) count (now (rows .entry)) r (now (rows .exit)) ⌝ }
+    requires { ⌜ Ready (now image) (tableOf w (now table)) twoTerms (id .0) (inside (now image) (tableOf w (now table)) true (id .0)) written ⌝ }
+    ensures { λ r. ⌜ Appended («image-spec».nodes (now (image .entry))) (inside (now (image .entry)) (tableOf w (now (table .entry))) true (id .0)) written (now (rows .entry)) r (now (rows .exit)) ⌝ }
 {
     let first = NodeId(ast::field(image, id, 0));
     let second = NodeId(ast::field(image, id, 1));
-    let after = check_epic_term(image, table, w, rows, count, first);
+    let after = check_epic_term(image, table, w, rows, written, first);
     check_epic_term(image, table, w, rows, after, second)
 }
 
@@ -139,15 +146,15 @@ fn check_epic_app(
     table: &[u32],
     w: Walked,
     rows: &mut [u32],
-    count: u32,
+    written: u32,
     app: NodeId,
 ) -> u32
-    requires { ⌜ Ready (now image) (tableOf w (now table)) (kindOf 14) (app .0) (inside (now image) (tableOf w (now table)) true (app .0)) count ⌝ }
-    ensures { λ r. ⌜ Appended («image-spec».nodes (now (image .entry))) (inside (now (image .entry)) (tableOf w (now (table .entry))) true (app .0)) count (now (rows .entry)) r (now (rows .exit)) ⌝ }
+    requires { ⌜ Ready (now image) (tableOf w (now table)) (kindOf 14) (app .0) (inside (now image) (tableOf w (now table)) true (app .0)) written ⌝ }
+    ensures { λ r. ⌜ Appended («image-spec».nodes (now (image .entry))) (inside (now (image .entry)) (tableOf w (now (table .entry))) true (app .0)) written (now (rows .entry)) r (now (rows .exit)) ⌝ }
 {
     let head = NodeId(ast::field(image, app, 0));
     let args = NodeId(ast::field(image, app, 1));
-    let after = check_epic_app_head(image, table, w, rows, count, head);
+    let after = check_epic_app_head(image, table, w, rows, written, head);
     check_epic_terms(image, table, w, rows, after, args)
 }
 
@@ -157,21 +164,21 @@ fn check_epic_app_head(
     table: &[u32],
     w: Walked,
     rows: &mut [u32],
-    count: u32,
+    written: u32,
     head: NodeId,
 ) -> u32
-    requires { ⌜ Ready (now image) (tableOf w (now table)) (kindOf 15) (head .0) (rowsOf (now image) (tableOf w (now table)) true (head .0) (treeAt (now image) (head .0))) count ⌝ }
-    ensures { λ r. ⌜ Appended («image-spec».nodes (now (image .entry))) (rowsOf (now (image .entry)) (tableOf w (now (table .entry))) true (head .0) (treeAt (now (image .entry)) (head .0))) count (now (rows .entry)) r (now (rows .exit)) ⌝ }
+    requires { ⌜ Ready (now image) (tableOf w (now table)) (kindOf 15) (head .0) (rowsOf (now image) (tableOf w (now table)) true (head .0) (treeAt (now image) (head .0))) written ⌝ }
+    ensures { λ r. ⌜ Appended («image-spec».nodes (now (image .entry))) (rowsOf (now (image .entry)) (tableOf w (now (table .entry))) true (head .0) (treeAt (now (image .entry)) (head .0))) written (now (rows .entry)) r (now (rows .exit)) ⌝ }
 {
     let case = ast::field(image, head, 0);
     let child = NodeId(ast::field(image, head, 1));
     match case {
-        0 => count,
+        0 => written,
         1 => {
             let receiver = NodeId(ast::field(image, child, 0));
-            check_epic_term(image, table, w, rows, count, receiver)
+            check_epic_term(image, table, w, rows, written, receiver)
         }
-        _ => check_epic_term(image, table, w, rows, count, child),
+        _ => check_epic_term(image, table, w, rows, written, child),
     }
 }
 
@@ -180,16 +187,16 @@ fn check_epic_terms(
     table: &[u32],
     w: Walked,
     rows: &mut [u32],
-    count: u32,
+    written: u32,
     list: NodeId,
 ) -> u32
-    requires { ⌜ Ready (now image) (tableOf w (now table)) (kindOf 22) (list .0) (inside (now image) (tableOf w (now table)) true (list .0)) count ⌝ }
-    ensures { λ r. ⌜ Appended («image-spec».nodes (now (image .entry))) (inside (now (image .entry)) (tableOf w (now (table .entry))) true (list .0)) count (now (rows .entry)) r (now (rows .exit)) ⌝ }
+    requires { ⌜ Ready (now image) (tableOf w (now table)) (kindOf 22) (list .0) (inside (now image) (tableOf w (now table)) true (list .0)) written ⌝ }
+    ensures { λ r. ⌜ Appended («image-spec».nodes (now (image .entry))) (inside (now (image .entry)) (tableOf w (now (table .entry))) true (list .0)) written (now (rows .entry)) r (now (rows .exit)) ⌝ }
 {
-    let len = ast::wide(ast::field(image, list, 0));
+    let count = ast::wide(ast::field(image, list, 0));
     let mut i = 0;
-    let mut c = count;
-    while i < len {
+    let mut c = written;
+    while i < count {
         let item = NodeId(ast::field(image, list, 1 + i));
         c = check_epic_term(image, table, w, rows, c, item);
         i += 1;
@@ -203,22 +210,22 @@ fn check_then_defined_var(
     table: &[u32],
     w: Walked,
     rows: &mut [u32],
-    count: u32,
+    written: u32,
     atom: NodeId,
     var: NodeId,
 ) -> u32
-    requires { ⌜ PlainVariable (now image) (tableOf w (now table)) (var .0) (definedRow (now image) (tableOf w (now table)) (atom .0) (treeAt (now image) (var .0))) count ⌝ }
-    ensures { λ r. ⌜ Appended («image-spec».nodes (now (image .entry))) (definedRow (now (image .entry)) (tableOf w (now (table .entry))) (atom .0) (treeAt (now (image .entry)) (var .0))) count (now (rows .entry)) r (now (rows .exit)) ⌝ }
+    requires { ⌜ PlainVariable (now image) (tableOf w (now table)) (var .0) (definedRow (now image) (tableOf w (now table)) (atom .0) (treeAt (now image) (var .0))) written ⌝ }
+    ensures { λ r. ⌜ Appended («image-spec».nodes (now (image .entry))) (definedRow (now (image .entry)) (tableOf w (now (table .entry))) (atom .0) (treeAt (now (image .entry)) (var .0))) written (now (rows .entry)) r (now (rows .exit)) ⌝ }
 {
     if ast::field(image, var, 0) != 0 {
-        return count;
+        return written;
     }
     let id = NodeId(ast::field(image, var, 1));
     let symbols = w.symbols;
     let found = table::at_entry(image, table, symbols, atom, id);
     let test = table::is_var(image, found);
     let number = error::row_number(ErrorKind::ThenDefinedVarNotNew);
-    put_if(image, rows, count, test, number, var)
+    put_if(image, rows, written, test, number, var)
 }
 
 fn check_then_defined(
@@ -226,19 +233,19 @@ fn check_then_defined(
     table: &[u32],
     w: Walked,
     rows: &mut [u32],
-    count: u32,
+    written: u32,
     atom: NodeId,
     id: NodeId,
 ) -> u32
-    requires { ⌜ Ready (now image) (tableOf w (now table)) (kindOf 34) (id .0) (rowsOf (now image) (tableOf w (now table)) true (atom .0) (treeAt (now image) (id .0))) count ⌝ }
-    ensures { λ r. ⌜ Appended («image-spec».nodes (now (image .entry))) (rowsOf (now (image .entry)) (tableOf w (now (table .entry))) true (atom .0) (treeAt (now (image .entry)) (id .0))) count (now (rows .entry)) r (now (rows .exit)) ⌝ }
+    requires { ⌜ Ready (now image) (tableOf w (now table)) (kindOf 34) (id .0) (rowsOf (now image) (tableOf w (now table)) true (atom .0) (treeAt (now image) (id .0))) written ⌝ }
+    ensures { λ r. ⌜ Appended («image-spec».nodes (now (image .entry))) (rowsOf (now (image .entry)) (tableOf w (now (table .entry))) true (atom .0) (treeAt (now (image .entry)) (id .0))) written (now (rows .entry)) r (now (rows .exit)) ⌝ }
 {
     let var = ast::field(image, id, 0);
     let term = NodeId(ast::field(image, id, 1));
     if var == 0 {
-        return check_epic_term(image, table, w, rows, count, term);
+        return check_epic_term(image, table, w, rows, written, term);
     }
-    let after = check_then_defined_var(image, table, w, rows, count, atom, NodeId(var - 1));
+    let after = check_then_defined_var(image, table, w, rows, written, atom, NodeId(var - 1));
     check_epic_term(image, table, w, rows, after, term)
 }
 
@@ -247,21 +254,21 @@ fn check_then_atom(
     table: &[u32],
     w: Walked,
     rows: &mut [u32],
-    count: u32,
+    written: u32,
     atom: NodeId,
 ) -> u32
-    requires { ⌜ Ready (now image) (tableOf w (now table)) (kindOf 29) (atom .0) (inside (now image) (tableOf w (now table)) true (atom .0)) count ⌝ }
-    ensures { λ r. ⌜ Appended («image-spec».nodes (now (image .entry))) (inside (now (image .entry)) (tableOf w (now (table .entry))) true (atom .0)) count (now (rows .entry)) r (now (rows .exit)) ⌝ }
+    requires { ⌜ Ready (now image) (tableOf w (now table)) (kindOf 29) (atom .0) (inside (now image) (tableOf w (now table)) true (atom .0)) written ⌝ }
+    ensures { λ r. ⌜ Appended («image-spec».nodes (now (image .entry))) (inside (now (image .entry)) (tableOf w (now (table .entry))) true (atom .0)) written (now (rows .entry)) r (now (rows .exit)) ⌝ }
 {
     let case = ast::field(image, atom, 0);
     let child = NodeId(ast::field(image, atom, 1));
     match case {
-        0 => check_epic_two_terms(image, table, w, rows, count, child),
-        1 => check_then_defined(image, table, w, rows, count, atom, child),
+        0 => check_epic_two_terms(image, table, w, rows, written, child),
+        1 => check_then_defined(image, table, w, rows, written, atom, child),
         _ => {
             // a member predicate's receiver is not asked
             let args = NodeId(ast::field(image, child, 1));
-            check_epic_terms(image, table, w, rows, count, args)
+            check_epic_terms(image, table, w, rows, written, args)
         }
     }
 }
@@ -287,21 +294,21 @@ fn check_pattern_arg(
     table: &[u32],
     w: Walked,
     rows: &mut [u32],
-    count: u32,
+    written: u32,
     arg: NodeId,
 ) -> u32
-    requires { ⌜ Ready (now image) (tableOf w (now table)) (kindOf 12) (arg .0) (argRow (now image) (tableOf w (now table)) (treeAt (now image) (arg .0))) count ⌝ }
-    ensures { λ r. ⌜ Appended («image-spec».nodes (now (image .entry))) (argRow (now (image .entry)) (tableOf w (now (table .entry))) (treeAt (now (image .entry)) (arg .0))) count (now (rows .entry)) r (now (rows .exit)) ⌝ }
+    requires { ⌜ Ready (now image) (tableOf w (now table)) (kindOf 12) (arg .0) (argRow (now image) (tableOf w (now table)) (treeAt (now image) (arg .0))) written ⌝ }
+    ensures { λ r. ⌜ Appended («image-spec».nodes (now (image .entry))) (argRow (now (image .entry)) (tableOf w (now (table .entry))) (treeAt (now (image .entry)) (arg .0))) written (now (rows .entry)) r (now (rows .exit)) ⌝ }
 {
     if ast::field(image, arg, 0) != 0 {
-        return count;
+        return written;
     }
     let id = NodeId(ast::field(image, arg, 1));
     let symbols = w.symbols;
     let found = table::at_entry(image, table, symbols, arg, id);
     let test = table::is_var(image, found);
     let number = error::row_number(ErrorKind::MatchPatternArgVarIsNotFresh);
-    put_if(image, rows, count, test, number, arg)
+    put_if(image, rows, written, test, number, arg)
 }
 
 fn check_pattern_args(
@@ -309,16 +316,16 @@ fn check_pattern_args(
     table: &[u32],
     w: Walked,
     rows: &mut [u32],
-    count: u32,
+    written: u32,
     list: NodeId,
 ) -> u32
-    requires { ⌜ Ready (now image) (tableOf w (now table)) (kindOf 22) (list .0) (ofArgs (now image) (tableOf w (now table)) (list .0)) count ⌝ }
-    ensures { λ r. ⌜ Appended («image-spec».nodes (now (image .entry))) (ofArgs (now (image .entry)) (tableOf w (now (table .entry))) (list .0)) count (now (rows .entry)) r (now (rows .exit)) ⌝ }
+    requires { ⌜ Ready (now image) (tableOf w (now table)) (kindOf 22) (list .0) (ofArgs (now image) (tableOf w (now table)) (list .0)) written ⌝ }
+    ensures { λ r. ⌜ Appended («image-spec».nodes (now (image .entry))) (ofArgs (now (image .entry)) (tableOf w (now (table .entry))) (list .0)) written (now (rows .entry)) r (now (rows .exit)) ⌝ }
 {
-    let len = ast::wide(ast::field(image, list, 0));
+    let count = ast::wide(ast::field(image, list, 0));
     let mut i = 0;
-    let mut c = count;
-    while i < len {
+    let mut c = written;
+    while i < count {
         let arg = NodeId(ast::field(image, list, 1 + i));
         c = check_pattern_arg(image, table, w, rows, c, arg);
         i += 1;
@@ -333,42 +340,42 @@ fn check_match_case_pattern(
     table: &[u32],
     w: Walked,
     rows: &mut [u32],
-    count: u32,
+    written: u32,
     case: NodeId,
 ) -> u32
-    requires { ⌜ Ready (now image) (tableOf w (now table)) (kindOf 35) (case .0) (ofPattern (now image) (tableOf w (now table)) (case .0)) count ⌝ }
-    ensures { λ r. ⌜ Appended («image-spec».nodes (now (image .entry))) (ofPattern (now (image .entry)) (tableOf w (now (table .entry))) (case .0)) count (now (rows .entry)) r (now (rows .exit)) ⌝ }
+    requires { ⌜ Ready (now image) (tableOf w (now table)) (kindOf 35) (case .0) (ofPattern (now image) (tableOf w (now table)) (case .0)) written ⌝ }
+    ensures { λ r. ⌜ Appended («image-spec».nodes (now (image .entry))) (ofPattern (now (image .entry)) (tableOf w (now (table .entry))) (case .0)) written (now (rows .entry)) r (now (rows .exit)) ⌝ }
 {
     let pattern = NodeId(ast::field(image, case, 0));
     if ast::field(image, pattern, 0) != 2 {
-        return count;
+        return written;
     }
     let app = NodeId(ast::field(image, pattern, 1));
     let head = NodeId(ast::field(image, app, 0));
     if is_ctor_head(image, table, w, head) {
         let args = NodeId(ast::field(image, app, 1));
-        return check_pattern_args(image, table, w, rows, count, args);
+        return check_pattern_args(image, table, w, rows, written, args);
     }
-    count
+    written
 }
 
-// The `len` statements from the place `first` of the node's row on.
+// The `count` statements from the place `first` of the node's row on.
 fn walk_stmt_block(
     image: &[u8],
     table: &[u32],
     w: Walked,
     rows: &mut [u32],
-    count: u32,
+    written: u32,
     node: NodeId,
     first: usize,
-    len: usize,
+    count: usize,
 ) -> u32
-    requires { ⌜ ReadyRun (now image) (tableOf w (now table)) 36 (node .0) first len (listed (now image) (tableOf w (now table)) false (node .0) len first) count ⌝ }
-    ensures { λ r. ⌜ Appended («image-spec».nodes (now (image .entry))) (listed (now (image .entry)) (tableOf w (now (table .entry))) false (node .0) len first) count (now (rows .entry)) r (now (rows .exit)) ⌝ }
+    requires { ⌜ ReadyRun (now image) (tableOf w (now table)) 36 (node .0) first count (listed (now image) (tableOf w (now table)) false (node .0) count first) written ⌝ }
+    ensures { λ r. ⌜ Appended («image-spec».nodes (now (image .entry))) (listed (now (image .entry)) (tableOf w (now (table .entry))) false (node .0) count first) written (now (rows .entry)) r (now (rows .exit)) ⌝ }
 {
     let mut i = 0;
-    let mut c = count;
-    while i < len {
+    let mut c = written;
+    while i < count {
         let stmt = NodeId(ast::field(image, node, first + i));
         c = walk_stmt(image, table, w, rows, c, stmt);
         i += 1;
@@ -381,22 +388,22 @@ fn walk_stmt(
     table: &[u32],
     w: Walked,
     rows: &mut [u32],
-    count: u32,
+    written: u32,
     stmt: NodeId,
 ) -> u32
-    requires { ⌜ Ready (now image) (tableOf w (now table)) (kindOf 36) (stmt .0) (inside (now image) (tableOf w (now table)) false (stmt .0)) count ⌝ }
-    ensures { λ r. ⌜ Appended («image-spec».nodes (now (image .entry))) (inside (now (image .entry)) (tableOf w (now (table .entry))) false (stmt .0)) count (now (rows .entry)) r (now (rows .exit)) ⌝ }
+    requires { ⌜ Ready (now image) (tableOf w (now table)) (kindOf 36) (stmt .0) (inside (now image) (tableOf w (now table)) false (stmt .0)) written ⌝ }
+    ensures { λ r. ⌜ Appended («image-spec».nodes (now (image .entry))) (inside (now (image .entry)) (tableOf w (now (table .entry))) false (stmt .0)) written (now (rows .entry)) r (now (rows .exit)) ⌝ }
 {
     let case = ast::field(image, stmt, 0);
     let child = NodeId(ast::field(image, stmt, 1));
     match case {
-        0 => count,
+        0 => written,
         1 => {
             let atom = NodeId(ast::field(image, child, 0));
-            check_then_atom(image, table, w, rows, count, atom)
+            check_then_atom(image, table, w, rows, written, atom)
         }
-        2 => walk_branch(image, table, w, rows, count, child),
-        _ => walk_match(image, table, w, rows, count, child),
+        2 => walk_branch(image, table, w, rows, written, child),
+        _ => walk_match(image, table, w, rows, written, child),
     }
 }
 
@@ -405,20 +412,20 @@ fn walk_branch(
     table: &[u32],
     w: Walked,
     rows: &mut [u32],
-    count: u32,
+    written: u32,
     branch: NodeId,
 ) -> u32
-    requires { ⌜ Ready (now image) (tableOf w (now table)) (kindOf 39) (branch .0) (inside (now image) (tableOf w (now table)) false (branch .0)) count ⌝ }
-    ensures { λ r. ⌜ Appended («image-spec».nodes (now (image .entry))) (inside (now (image .entry)) (tableOf w (now (table .entry))) false (branch .0)) count (now (rows .entry)) r (now (rows .exit)) ⌝ }
+    requires { ⌜ Ready (now image) (tableOf w (now table)) (kindOf 39) (branch .0) (inside (now image) (tableOf w (now table)) false (branch .0)) written ⌝ }
+    ensures { λ r. ⌜ Appended («image-spec».nodes (now (image .entry))) (inside (now (image .entry)) (tableOf w (now (table .entry))) false (branch .0)) written (now (rows .entry)) r (now (rows .exit)) ⌝ }
 {
     let blocks = ast::wide(ast::field(image, branch, 0));
     let mut i = 0;
     let mut j = 1usize;
-    let mut c = count;
+    let mut c = written;
     while i < blocks {
-        let len = ast::wide(ast::field(image, branch, j));
-        c = walk_stmt_block(image, table, w, rows, c, branch, j + 1, len);
-        j = j + 1 + len;
+        let count = ast::wide(ast::field(image, branch, j));
+        c = walk_stmt_block(image, table, w, rows, c, branch, j + 1, count);
+        j = j + 1 + count;
         i += 1;
     }
     c
@@ -429,15 +436,15 @@ fn walk_match(
     table: &[u32],
     w: Walked,
     rows: &mut [u32],
-    count: u32,
+    written: u32,
     id: NodeId,
 ) -> u32
-    requires { ⌜ Ready (now image) (tableOf w (now table)) (kindOf 40) (id .0) (inside (now image) (tableOf w (now table)) false (id .0)) count ⌝ }
-    ensures { λ r. ⌜ Appended («image-spec».nodes (now (image .entry))) (inside (now (image .entry)) (tableOf w (now (table .entry))) false (id .0)) count (now (rows .entry)) r (now (rows .exit)) ⌝ }
+    requires { ⌜ Ready (now image) (tableOf w (now table)) (kindOf 40) (id .0) (inside (now image) (tableOf w (now table)) false (id .0)) written ⌝ }
+    ensures { λ r. ⌜ Appended («image-spec».nodes (now (image .entry))) (inside (now (image .entry)) (tableOf w (now (table .entry))) false (id .0)) written (now (rows .entry)) r (now (rows .exit)) ⌝ }
 {
     let cases = ast::wide(ast::field(image, id, 1));
     let mut i = 0;
-    let mut c = count;
+    let mut c = written;
     while i < cases {
         let case = NodeId(ast::field(image, id, 2 + i));
         c = walk_match_case(image, table, w, rows, c, case);
@@ -451,34 +458,34 @@ fn walk_match_case(
     table: &[u32],
     w: Walked,
     rows: &mut [u32],
-    count: u32,
+    written: u32,
     case: NodeId,
 ) -> u32
-    requires { ⌜ Ready (now image) (tableOf w (now table)) (kindOf 35) (case .0) (ofCase (now image) (tableOf w (now table)) (case .0)) count ⌝ }
-    ensures { λ r. ⌜ Appended («image-spec».nodes (now (image .entry))) (ofCase (now (image .entry)) (tableOf w (now (table .entry))) (case .0)) count (now (rows .entry)) r (now (rows .exit)) ⌝ }
+    requires { ⌜ Ready (now image) (tableOf w (now table)) (kindOf 35) (case .0) (ofCase (now image) (tableOf w (now table)) (case .0)) written ⌝ }
+    ensures { λ r. ⌜ Appended («image-spec».nodes (now (image .entry))) (ofCase (now (image .entry)) (tableOf w (now (table .entry))) (case .0)) written (now (rows .entry)) r (now (rows .exit)) ⌝ }
 {
-    let len = ast::wide(ast::field(image, case, 1));
-    let after = check_match_case_pattern(image, table, w, rows, count, case);
-    walk_stmt_block(image, table, w, rows, after, case, 2, len)
+    let count = ast::wide(ast::field(image, case, 1));
+    let after = check_match_case_pattern(image, table, w, rows, written, case);
+    walk_stmt_block(image, table, w, rows, after, case, 2, count)
 }
 
-// The `len` declarations from the place `first` of the node's row on.
+// The `count` declarations from the place `first` of the node's row on.
 fn walk_decls(
     image: &[u8],
     table: &[u32],
     w: Walked,
     rows: &mut [u32],
-    count: u32,
+    written: u32,
     node: NodeId,
     first: usize,
-    len: usize,
+    count: usize,
 ) -> u32
-    requires { ⌜ ReadyRun (now image) (tableOf w (now table)) 1 (node .0) first len (declared (now image) (tableOf w (now table)) (node .0) len first) count ⌝ }
-    ensures { λ r. ⌜ Appended («image-spec».nodes (now (image .entry))) (declared (now (image .entry)) (tableOf w (now (table .entry))) (node .0) len first) count (now (rows .entry)) r (now (rows .exit)) ⌝ }
+    requires { ⌜ ReadyRun (now image) (tableOf w (now table)) 1 (node .0) first count (declared (now image) (tableOf w (now table)) (node .0) count first) written ⌝ }
+    ensures { λ r. ⌜ Appended («image-spec».nodes (now (image .entry))) (declared (now (image .entry)) (tableOf w (now (table .entry))) (node .0) count first) written (now (rows .entry)) r (now (rows .exit)) ⌝ }
 {
     let mut i = 0;
-    let mut c = count;
-    while i < len {
+    let mut c = written;
+    while i < count {
         let decl = NodeId(ast::field(image, node, first + i));
         c = walk_decl(image, table, w, rows, c, decl);
         i += 1;
@@ -491,24 +498,24 @@ fn walk_decl(
     table: &[u32],
     w: Walked,
     rows: &mut [u32],
-    count: u32,
+    written: u32,
     decl: NodeId,
 ) -> u32
-    requires { ⌜ Ready (now image) (tableOf w (now table)) (kindOf 1) (decl .0) (declRows (now image) (tableOf w (now table)) (treeAt (now image) (decl .0))) count ⌝ }
-    ensures { λ r. ⌜ Appended («image-spec».nodes (now (image .entry))) (declRows (now (image .entry)) (tableOf w (now (table .entry))) (treeAt (now (image .entry)) (decl .0))) count (now (rows .entry)) r (now (rows .exit)) ⌝ }
+    requires { ⌜ Ready (now image) (tableOf w (now table)) (kindOf 1) (decl .0) (declRows (now image) (tableOf w (now table)) (treeAt (now image) (decl .0))) written ⌝ }
+    ensures { λ r. ⌜ Appended («image-spec».nodes (now (image .entry))) (declRows (now (image .entry)) (tableOf w (now (table .entry))) (treeAt (now (image .entry)) (decl .0))) written (now (rows .entry)) r (now (rows .exit)) ⌝ }
 {
     let case = ast::field(image, decl, 0);
     let child = NodeId(ast::field(image, decl, 1));
     match case {
         4 => {
-            let len = ast::wide(ast::field(image, child, 1));
-            walk_stmt_block(image, table, w, rows, count, child, 2, len)
+            let count = ast::wide(ast::field(image, child, 1));
+            walk_stmt_block(image, table, w, rows, written, child, 2, count)
         }
         6 => {
-            let len = ast::wide(ast::field(image, child, 1));
-            walk_decls(image, table, w, rows, count, child, 2, len)
+            let count = ast::wide(ast::field(image, child, 1));
+            walk_decls(image, table, w, rows, written, child, 2, count)
         }
-        _ => count,
+        _ => written,
     }
 }
 
@@ -517,14 +524,14 @@ fn walk_module(
     table: &[u32],
     w: Walked,
     rows: &mut [u32],
-    count: u32,
+    written: u32,
     id: NodeId,
 ) -> u32
-    requires { ⌜ Ready (now image) (tableOf w (now table)) (kindOf 0) (id .0) (declRows (now image) (tableOf w (now table)) (treeAt (now image) (id .0))) count ⌝ }
-    ensures { λ r. ⌜ Appended («image-spec».nodes (now (image .entry))) (declRows (now (image .entry)) (tableOf w (now (table .entry))) (treeAt (now (image .entry)) (id .0))) count (now (rows .entry)) r (now (rows .exit)) ⌝ }
+    requires { ⌜ Ready (now image) (tableOf w (now table)) (kindOf 0) (id .0) (declRows (now image) (tableOf w (now table)) (treeAt (now image) (id .0))) written ⌝ }
+    ensures { λ r. ⌜ Appended («image-spec».nodes (now (image .entry))) (declRows (now (image .entry)) (tableOf w (now (table .entry))) (treeAt (now (image .entry)) (id .0))) written (now (rows .entry)) r (now (rows .exit)) ⌝ }
 {
-    let len = ast::wide(ast::field(image, id, 0));
-    walk_decls(image, table, w, rows, count, id, 1, len)
+    let count = ast::wide(ast::field(image, id, 0));
+    walk_decls(image, table, w, rows, written, id, 1, count)
 }
 
 // Strict mode: an argument is marked where its name is that of the nearest earlier named one, `near`, which is that name
@@ -553,10 +560,10 @@ fn mark_list(image: &[u8], marks: &mut [u8; 2048], list: NodeId)
     if ast::kind_at(image, list) != 11 {
         return;
     }
-    let len = ast::wide(ast::field(image, list, 0));
+    let count = ast::wide(ast::field(image, list, 0));
     let mut i = 0;
     let mut near = 0u32;
-    while i < len {
+    while i < count {
         let arg = NodeId(ast::field(image, list, 1 + i));
         near = mark_argument(image, marks, arg, near);
         i += 1;
@@ -576,13 +583,13 @@ fn mark_lists(image: &[u8], marks: &mut [u8; 2048])
 }
 
 // Row 4 at each marked node, by rising node number.
-fn put_marked(image: &[u8], marks: &[u8; 2048], rows: &mut [u32], count: u32) -> u32
-    requires { ⌜ Marks (now image) (now marks) count ⌝ }
-    ensures { λ r. ⌜ Appended («image-spec».nodes (now (image .entry))) (strictRows (now (image .entry))) count (now (rows .entry)) r (now (rows .exit)) ⌝ }
+fn put_marked(image: &[u8], marks: &[u8; 2048], rows: &mut [u32], written: u32) -> u32
+    requires { ⌜ Marks (now image) (now marks) written ⌝ }
+    ensures { λ r. ⌜ Appended («image-spec».nodes (now (image .entry))) (strictRows (now (image .entry))) written (now (rows .entry)) r (now (rows .exit)) ⌝ }
 {
     let n = ast::node_count(image);
     let mut m = 0u32;
-    let mut c = count;
+    let mut c = written;
     while m < n {
         let i = ast::wide(m);
         let test = marks[i] == 1;
@@ -593,24 +600,24 @@ fn put_marked(image: &[u8], marks: &[u8; 2048], rows: &mut [u32], count: u32) ->
     c
 }
 
-fn check_strict(image: &[u8], rows: &mut [u32], count: u32) -> u32
-    requires { ⌜ («tests-spec».verdict (now image) ≡ 0) × (count + length (strictRows (now image)) < 2 ^ 32) ⌝ }
-    ensures { λ r. ⌜ Appended («image-spec».nodes (now (image .entry))) (strictRows (now (image .entry))) count (now (rows .entry)) r (now (rows .exit)) ⌝ }
+fn check_strict(image: &[u8], rows: &mut [u32], written: u32) -> u32
+    requires { ⌜ («tests-spec».verdict (now image) ≡ 0) × (written + length (strictRows (now image)) < 2 ^ 32) ⌝ }
+    ensures { λ r. ⌜ Appended («image-spec».nodes (now (image .entry))) (strictRows (now (image .entry))) written (now (rows .entry)) r (now (rows .exit)) ⌝ }
 {
     let mut marks = [0u8; 2048];
     mark_lists(image, &mut marks);
-    put_marked(image, &marks, rows, count)
+    put_marked(image, &marks, rows, written)
 }
 
 // The rows that strict mode adds.
-fn check_mode(image: &[u8], rows: &mut [u32], count: u32, mode: u32) -> u32
-    requires { ⌜ («tests-spec».verdict (now image) ≡ 0) × (count + length (strictRows (now image)) < 2 ^ 32) ⌝ }
-    ensures { λ r. ⌜ Appended («image-spec».nodes (now (image .entry))) (ofMode (now (image .entry)) mode) count (now (rows .entry)) r (now (rows .exit)) ⌝ }
+fn check_mode(image: &[u8], rows: &mut [u32], written: u32, mode: u32) -> u32
+    requires { ⌜ («tests-spec».verdict (now image) ≡ 0) × (written + length (strictRows (now image)) < 2 ^ 32) ⌝ }
+    ensures { λ r. ⌜ Appended («image-spec».nodes (now (image .entry))) (ofMode (now (image .entry)) mode) written (now (rows .entry)) r (now (rows .exit)) ⌝ }
 {
     if mode == 2 {
-        return check_strict(image, rows, count);
+        return check_strict(image, rows, written);
     }
-    count
+    written
 }
 
 // The error rows, with their count in front.
@@ -621,8 +628,8 @@ fn write_rows(image: &[u8], table: &[u32], w: Walked, rows: &mut [u32], mode: u3
     let n = ast::node_count(image);
     rows::begin(rows, n);
     let plain = walk_module(image, table, w, rows, 0, NodeId(n - 1));
-    let count = check_mode(image, rows, plain, mode);
-    rows::finish(rows, count)
+    let written = check_mode(image, rows, plain, mode);
+    rows::finish(rows, written)
 }
 
 // The refusals of Errors: 1 to 15.

@@ -16,7 +16,7 @@ use Rattle.rows.specs.Rows.{Row}
 use Rattle.table.specs.Rising.{nodeAt}
 use Rattle.sound.specs.Sound.{symbolsIn, scopesIn, parentBelow, rowSound, testSound}
 use Rattle.table.specs.State.{Walked}
-use Rattle.table.specs.Table.{symbolOf, lookup}
+use Rattle.table.specs.Table.{Table, symbolOf, lookup}
 use Rattle.scopes.specs.Lookup.{testLookup, symbolAnswer, foundBy, lookupCall}
 use Rattle.scopes.specs.Resolve.{testTable, walked, counted, Way, refuses, stops, fills, way, answerBy, tableCall, resolve}
 use Rattle.scopes.specs.Calls.{testRows, rowsCall}

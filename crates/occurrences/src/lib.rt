@@ -26,23 +26,23 @@ fn collect_ident(
     table: &[u32],
     symbols: u32,
     rows: &mut [u32],
-    count: u32,
+    written: u32,
     node: NodeId,
     ident: NodeId,
 ) -> u32
-    requires { ⌜ Room (now image) (sought (now table) symbols) (identRows (now image) (sought (now table) symbols) (node .0) (ident .0)) count ⌝ }
-    ensures { λ r. ⌜ Appended («image-spec».nodes (now (image .entry))) (identRows (now (image .entry)) (sought (now (table .entry)) symbols) (node .0) (ident .0)) count (now (rows .entry)) r (now (rows .exit)) ⌝ }
+    requires { ⌜ Room (now image) (sought (now table) symbols) (identRows (now image) (sought (now table) symbols) (node .0) (ident .0)) written ⌝ }
+    ensures { λ r. ⌜ Appended («image-spec».nodes (now (image .entry))) (identRows (now (image .entry)) (sought (now (table .entry)) symbols) (node .0) (ident .0)) written (now (rows .entry)) r (now (rows .exit)) ⌝ }
 {
     let found = table::at_exit(image, table, symbols, node, ident);
     if !table::is_var(image, found) {
-        return count;
+        return written;
     }
     match found {
         Found::At(binding) => {
             let n = ast::node_count(image);
-            rows::put_row(rows, n, count, node.0, binding.0)
+            rows::put_row(rows, n, written, node.0, binding.0)
         }
-        Found::Nothing => count,
+        Found::Nothing => written,
     }
 }
 
@@ -51,28 +51,28 @@ fn collect_term(
     table: &[u32],
     symbols: u32,
     rows: &mut [u32],
-    count: u32,
+    written: u32,
     term: NodeId,
 ) -> u32
-    requires { ⌜ Ready (now image) (sought (now table) symbols) (kindOf 12) (term .0) count ⌝ }
-    ensures { λ r. ⌜ Appended («image-spec».nodes (now (image .entry))) (rowsIn (now (image .entry)) (sought (now (table .entry)) symbols) (term .0)) count (now (rows .entry)) r (now (rows .exit)) ⌝ }
+    requires { ⌜ Ready (now image) (sought (now table) symbols) (kindOf 12) (term .0) written ⌝ }
+    ensures { λ r. ⌜ Appended («image-spec».nodes (now (image .entry))) (rowsIn (now (image .entry)) (sought (now (table .entry)) symbols) (term .0)) written (now (rows .entry)) r (now (rows .exit)) ⌝ }
 {
     let case = ast::field(image, term, 0);
     let id = NodeId(ast::field(image, term, 1));
     match case {
-        0 => collect_ident(image, table, symbols, rows, count, term, id),
+        0 => collect_ident(image, table, symbols, rows, written, term, id),
         2 => {
             let head = NodeId(ast::field(image, id, 0));
             let args = NodeId(ast::field(image, id, 1));
-            let after = collect_app_head(image, table, symbols, rows, count, head);
+            let after = collect_app_head(image, table, symbols, rows, written, head);
             collect_term_list(image, table, symbols, rows, after, args)
         }
         3 | 4 | 5 | 6 => {
             let inner = NodeId(ast::field(image, id, 0));
-            collect_term(image, table, symbols, rows, count, inner)
+            collect_term(image, table, symbols, rows, written, inner)
         }
-        7 => collect_two_terms(image, table, symbols, rows, count, id),
-        _ => count,
+        7 => collect_two_terms(image, table, symbols, rows, written, id),
+        _ => written,
     }
 }
 
@@ -82,15 +82,15 @@ fn collect_two_terms(
     table: &[u32],
     symbols: u32,
     rows: &mut [u32],
-    count: u32,
+    written: u32,
     id: NodeId,
 ) -> u32
-    requires { ⌜ Ready (now image) (sought (now table) symbols) twoTerms (id .0) count ⌝ }
-    ensures { λ r. ⌜ Appended («image-spec».nodes (now (image .entry))) (rowsIn (now (image .entry)) (sought (now (table .entry)) symbols) (id .0)) count (now (rows .entry)) r (now (rows .exit)) ⌝ }
+    requires { ⌜ Ready (now image) (sought (now table) symbols) twoTerms (id .0) written ⌝ }
+    ensures { λ r. ⌜ Appended («image-spec».nodes (now (image .entry))) (rowsIn (now (image .entry)) (sought (now (table .entry)) symbols) (id .0)) written (now (rows .entry)) r (now (rows .exit)) ⌝ }
 {
     let first = NodeId(ast::field(image, id, 0));
     let second = NodeId(ast::field(image, id, 1));
-    let after = collect_term(image, table, symbols, rows, count, first);
+    let after = collect_term(image, table, symbols, rows, written, first);
     collect_term(image, table, symbols, rows, after, second)
 }
 
@@ -99,21 +99,21 @@ fn collect_app_head(
     table: &[u32],
     symbols: u32,
     rows: &mut [u32],
-    count: u32,
+    written: u32,
     head: NodeId,
 ) -> u32
-    requires { ⌜ Ready (now image) (sought (now table) symbols) (kindOf 15) (head .0) count ⌝ }
-    ensures { λ r. ⌜ Appended («image-spec».nodes (now (image .entry))) (rowsIn (now (image .entry)) (sought (now (table .entry)) symbols) (head .0)) count (now (rows .entry)) r (now (rows .exit)) ⌝ }
+    requires { ⌜ Ready (now image) (sought (now table) symbols) (kindOf 15) (head .0) written ⌝ }
+    ensures { λ r. ⌜ Appended («image-spec».nodes (now (image .entry))) (rowsIn (now (image .entry)) (sought (now (table .entry)) symbols) (head .0)) written (now (rows .entry)) r (now (rows .exit)) ⌝ }
 {
     let case = ast::field(image, head, 0);
     let id = NodeId(ast::field(image, head, 1));
     match case {
-        0 => collect_ident(image, table, symbols, rows, count, head, id),
+        0 => collect_ident(image, table, symbols, rows, written, head, id),
         1 => {
             let receiver = NodeId(ast::field(image, id, 0));
-            collect_term(image, table, symbols, rows, count, receiver)
+            collect_term(image, table, symbols, rows, written, receiver)
         }
-        _ => collect_term(image, table, symbols, rows, count, id),
+        _ => collect_term(image, table, symbols, rows, written, id),
     }
 }
 
@@ -122,16 +122,16 @@ fn collect_term_list(
     table: &[u32],
     symbols: u32,
     rows: &mut [u32],
-    count: u32,
+    written: u32,
     list: NodeId,
 ) -> u32
-    requires { ⌜ Ready (now image) (sought (now table) symbols) (kindOf 22) (list .0) count ⌝ }
-    ensures { λ r. ⌜ Appended («image-spec».nodes (now (image .entry))) (rowsIn (now (image .entry)) (sought (now (table .entry)) symbols) (list .0)) count (now (rows .entry)) r (now (rows .exit)) ⌝ }
+    requires { ⌜ Ready (now image) (sought (now table) symbols) (kindOf 22) (list .0) written ⌝ }
+    ensures { λ r. ⌜ Appended («image-spec».nodes (now (image .entry))) (rowsIn (now (image .entry)) (sought (now (table .entry)) symbols) (list .0)) written (now (rows .entry)) r (now (rows .exit)) ⌝ }
 {
-    let size = ast::wide(ast::field(image, list, 0));
+    let count = ast::wide(ast::field(image, list, 0));
     let mut i = 0;
-    let mut after = count;
-    while i < size {
+    let mut after = written;
+    while i < count {
         let term = NodeId(ast::field(image, list, 1 + i));
         after = collect_term(image, table, symbols, rows, after, term);
         i += 1;
@@ -144,19 +144,19 @@ fn collect_type_expr(
     table: &[u32],
     symbols: u32,
     rows: &mut [u32],
-    count: u32,
+    written: u32,
     typ: NodeId,
 ) -> u32
-    requires { ⌜ Ready (now image) (sought (now table) symbols) (kindOf 23) (typ .0) count ⌝ }
-    ensures { λ r. ⌜ Appended («image-spec».nodes (now (image .entry))) (rowsIn (now (image .entry)) (sought (now (table .entry)) symbols) (typ .0)) count (now (rows .entry)) r (now (rows .exit)) ⌝ }
+    requires { ⌜ Ready (now image) (sought (now table) symbols) (kindOf 23) (typ .0) written ⌝ }
+    ensures { λ r. ⌜ Appended («image-spec».nodes (now (image .entry))) (rowsIn (now (image .entry)) (sought (now (table .entry)) symbols) (typ .0)) written (now (rows .entry)) r (now (rows .exit)) ⌝ }
 {
     let case = ast::field(image, typ, 0);
     if case == 1 {
         let id = NodeId(ast::field(image, typ, 1));
         let receiver = NodeId(ast::field(image, id, 0));
-        return collect_term(image, table, symbols, rows, count, receiver);
+        return collect_term(image, table, symbols, rows, written, receiver);
     }
-    count
+    written
 }
 
 fn collect_pred_expr(
@@ -164,19 +164,19 @@ fn collect_pred_expr(
     table: &[u32],
     symbols: u32,
     rows: &mut [u32],
-    count: u32,
+    written: u32,
     pred: NodeId,
 ) -> u32
-    requires { ⌜ Ready (now image) (sought (now table) symbols) (kindOf 26) (pred .0) count ⌝ }
-    ensures { λ r. ⌜ Appended («image-spec».nodes (now (image .entry))) (rowsIn (now (image .entry)) (sought (now (table .entry)) symbols) (pred .0)) count (now (rows .entry)) r (now (rows .exit)) ⌝ }
+    requires { ⌜ Ready (now image) (sought (now table) symbols) (kindOf 26) (pred .0) written ⌝ }
+    ensures { λ r. ⌜ Appended («image-spec».nodes (now (image .entry))) (rowsIn (now (image .entry)) (sought (now (table .entry)) symbols) (pred .0)) written (now (rows .entry)) r (now (rows .exit)) ⌝ }
 {
     let case = ast::field(image, pred, 0);
     if case == 1 {
         let id = NodeId(ast::field(image, pred, 1));
         let receiver = NodeId(ast::field(image, id, 0));
-        return collect_term(image, table, symbols, rows, count, receiver);
+        return collect_term(image, table, symbols, rows, written, receiver);
     }
-    count
+    written
 }
 
 fn collect_pred(
@@ -184,15 +184,15 @@ fn collect_pred(
     table: &[u32],
     symbols: u32,
     rows: &mut [u32],
-    count: u32,
+    written: u32,
     id: NodeId,
 ) -> u32
-    requires { ⌜ Ready (now image) (sought (now table) symbols) (kindOf 31) (id .0) count ⌝ }
-    ensures { λ r. ⌜ Appended («image-spec».nodes (now (image .entry))) (rowsIn (now (image .entry)) (sought (now (table .entry)) symbols) (id .0)) count (now (rows .entry)) r (now (rows .exit)) ⌝ }
+    requires { ⌜ Ready (now image) (sought (now table) symbols) (kindOf 31) (id .0) written ⌝ }
+    ensures { λ r. ⌜ Appended («image-spec».nodes (now (image .entry))) (rowsIn (now (image .entry)) (sought (now (table .entry)) symbols) (id .0)) written (now (rows .entry)) r (now (rows .exit)) ⌝ }
 {
     let pred = NodeId(ast::field(image, id, 0));
     let args = NodeId(ast::field(image, id, 1));
-    let after = collect_pred_expr(image, table, symbols, rows, count, pred);
+    let after = collect_pred_expr(image, table, symbols, rows, written, pred);
     collect_term_list(image, table, symbols, rows, after, args)
 }
 
@@ -202,19 +202,19 @@ fn collect_defined(
     table: &[u32],
     symbols: u32,
     rows: &mut [u32],
-    count: u32,
+    written: u32,
     id: NodeId,
 ) -> u32
-    requires { ⌜ Ready (now image) (sought (now table) symbols) (kindOf 34) (id .0) count ⌝ }
-    ensures { λ r. ⌜ Appended («image-spec».nodes (now (image .entry))) (rowsIn (now (image .entry)) (sought (now (table .entry)) symbols) (id .0)) count (now (rows .entry)) r (now (rows .exit)) ⌝ }
+    requires { ⌜ Ready (now image) (sought (now table) symbols) (kindOf 34) (id .0) written ⌝ }
+    ensures { λ r. ⌜ Appended («image-spec».nodes (now (image .entry))) (rowsIn (now (image .entry)) (sought (now (table .entry)) symbols) (id .0)) written (now (rows .entry)) r (now (rows .exit)) ⌝ }
 {
     let var = ast::field(image, id, 0);
     let term = NodeId(ast::field(image, id, 1));
     if var == 0 {
-        return collect_term(image, table, symbols, rows, count, term);
+        return collect_term(image, table, symbols, rows, written, term);
     }
     let variable = NodeId(var - 1);
-    let after_var = collect_term(image, table, symbols, rows, count, variable);
+    let after_var = collect_term(image, table, symbols, rows, written, variable);
     collect_term(image, table, symbols, rows, after_var, term)
 }
 
@@ -223,25 +223,25 @@ fn collect_if_atom(
     table: &[u32],
     symbols: u32,
     rows: &mut [u32],
-    count: u32,
+    written: u32,
     atom: NodeId,
 ) -> u32
-    requires { ⌜ Ready (now image) (sought (now table) symbols) (kindOf 28) (atom .0) count ⌝ }
-    ensures { λ r. ⌜ Appended («image-spec».nodes (now (image .entry))) (rowsIn (now (image .entry)) (sought (now (table .entry)) symbols) (atom .0)) count (now (rows .entry)) r (now (rows .exit)) ⌝ }
+    requires { ⌜ Ready (now image) (sought (now table) symbols) (kindOf 28) (atom .0) written ⌝ }
+    ensures { λ r. ⌜ Appended («image-spec».nodes (now (image .entry))) (rowsIn (now (image .entry)) (sought (now (table .entry)) symbols) (atom .0)) written (now (rows .entry)) r (now (rows .exit)) ⌝ }
 {
     let case = ast::field(image, atom, 0);
     let id = NodeId(ast::field(image, atom, 1));
     match case {
-        0 => collect_two_terms(image, table, symbols, rows, count, id),
+        0 => collect_two_terms(image, table, symbols, rows, written, id),
         1 => {
             let term = NodeId(ast::field(image, id, 0));
-            collect_term(image, table, symbols, rows, count, term)
+            collect_term(image, table, symbols, rows, written, term)
         }
-        2 => collect_pred(image, table, symbols, rows, count, id),
+        2 => collect_pred(image, table, symbols, rows, written, id),
         _ => {
             let term = NodeId(ast::field(image, id, 0));
             let typ = NodeId(ast::field(image, id, 1));
-            let after = collect_type_expr(image, table, symbols, rows, count, typ);
+            let after = collect_type_expr(image, table, symbols, rows, written, typ);
             collect_term(image, table, symbols, rows, after, term)
         }
     }
@@ -252,38 +252,38 @@ fn collect_then_atom(
     table: &[u32],
     symbols: u32,
     rows: &mut [u32],
-    count: u32,
+    written: u32,
     atom: NodeId,
 ) -> u32
-    requires { ⌜ Ready (now image) (sought (now table) symbols) (kindOf 29) (atom .0) count ⌝ }
-    ensures { λ r. ⌜ Appended («image-spec».nodes (now (image .entry))) (rowsIn (now (image .entry)) (sought (now (table .entry)) symbols) (atom .0)) count (now (rows .entry)) r (now (rows .exit)) ⌝ }
+    requires { ⌜ Ready (now image) (sought (now table) symbols) (kindOf 29) (atom .0) written ⌝ }
+    ensures { λ r. ⌜ Appended («image-spec».nodes (now (image .entry))) (rowsIn (now (image .entry)) (sought (now (table .entry)) symbols) (atom .0)) written (now (rows .entry)) r (now (rows .exit)) ⌝ }
 {
     let case = ast::field(image, atom, 0);
     let id = NodeId(ast::field(image, atom, 1));
     match case {
-        0 => collect_two_terms(image, table, symbols, rows, count, id),
-        1 => collect_defined(image, table, symbols, rows, count, id),
-        _ => collect_pred(image, table, symbols, rows, count, id),
+        0 => collect_two_terms(image, table, symbols, rows, written, id),
+        1 => collect_defined(image, table, symbols, rows, written, id),
+        _ => collect_pred(image, table, symbols, rows, written, id),
     }
 }
 
-// The `size` statements from the place `first` of the node's row on.
+// The `count` statements from the place `first` of the node's row on.
 fn collect_stmts(
     image: &[u8],
     table: &[u32],
     symbols: u32,
     rows: &mut [u32],
-    count: u32,
+    written: u32,
     node: NodeId,
     first: usize,
-    size: usize,
+    count: usize,
 ) -> u32
-    requires { ⌜ ReadyRun (now image) (sought (now table) symbols) 36 (node .0) first size count ⌝ }
-    ensures { λ r. ⌜ Appended («image-spec».nodes (now (image .entry))) (rowsAt (now (image .entry)) (sought (now (table .entry)) symbols) (node .0) size first) count (now (rows .entry)) r (now (rows .exit)) ⌝ }
+    requires { ⌜ ReadyRun (now image) (sought (now table) symbols) 36 (node .0) first count written ⌝ }
+    ensures { λ r. ⌜ Appended («image-spec».nodes (now (image .entry))) (rowsAt (now (image .entry)) (sought (now (table .entry)) symbols) (node .0) count first) written (now (rows .entry)) r (now (rows .exit)) ⌝ }
 {
     let mut i = 0;
-    let mut after = count;
-    while i < size {
+    let mut after = written;
+    while i < count {
         let stmt = NodeId(ast::field(image, node, first + i));
         after = collect_stmt(image, table, symbols, rows, after, stmt);
         i += 1;
@@ -296,25 +296,25 @@ fn collect_stmt(
     table: &[u32],
     symbols: u32,
     rows: &mut [u32],
-    count: u32,
+    written: u32,
     stmt: NodeId,
 ) -> u32
-    requires { ⌜ Ready (now image) (sought (now table) symbols) (kindOf 36) (stmt .0) count ⌝ }
-    ensures { λ r. ⌜ Appended («image-spec».nodes (now (image .entry))) (rowsIn (now (image .entry)) (sought (now (table .entry)) symbols) (stmt .0)) count (now (rows .entry)) r (now (rows .exit)) ⌝ }
+    requires { ⌜ Ready (now image) (sought (now table) symbols) (kindOf 36) (stmt .0) written ⌝ }
+    ensures { λ r. ⌜ Appended («image-spec».nodes (now (image .entry))) (rowsIn (now (image .entry)) (sought (now (table .entry)) symbols) (stmt .0)) written (now (rows .entry)) r (now (rows .exit)) ⌝ }
 {
     let case = ast::field(image, stmt, 0);
     let id = NodeId(ast::field(image, stmt, 1));
     match case {
         0 => {
             let atom = NodeId(ast::field(image, id, 0));
-            collect_if_atom(image, table, symbols, rows, count, atom)
+            collect_if_atom(image, table, symbols, rows, written, atom)
         }
         1 => {
             let atom = NodeId(ast::field(image, id, 0));
-            collect_then_atom(image, table, symbols, rows, count, atom)
+            collect_then_atom(image, table, symbols, rows, written, atom)
         }
-        2 => collect_branch(image, table, symbols, rows, count, id),
-        _ => collect_match(image, table, symbols, rows, count, id),
+        2 => collect_branch(image, table, symbols, rows, written, id),
+        _ => collect_match(image, table, symbols, rows, written, id),
     }
 }
 
@@ -324,20 +324,20 @@ fn collect_branch(
     table: &[u32],
     symbols: u32,
     rows: &mut [u32],
-    count: u32,
+    written: u32,
     id: NodeId,
 ) -> u32
-    requires { ⌜ Ready (now image) (sought (now table) symbols) (kindOf 39) (id .0) count ⌝ }
-    ensures { λ r. ⌜ Appended («image-spec».nodes (now (image .entry))) (rowsIn (now (image .entry)) (sought (now (table .entry)) symbols) (id .0)) count (now (rows .entry)) r (now (rows .exit)) ⌝ }
+    requires { ⌜ Ready (now image) (sought (now table) symbols) (kindOf 39) (id .0) written ⌝ }
+    ensures { λ r. ⌜ Appended («image-spec».nodes (now (image .entry))) (rowsIn (now (image .entry)) (sought (now (table .entry)) symbols) (id .0)) written (now (rows .entry)) r (now (rows .exit)) ⌝ }
 {
     let blocks = ast::wide(ast::field(image, id, 0));
     let mut i = 0;
     let mut j = 1usize;
-    let mut after = count;
+    let mut after = written;
     while i < blocks {
-        let size = ast::wide(ast::field(image, id, j));
-        after = collect_stmts(image, table, symbols, rows, after, id, j + 1, size);
-        j = j + 1 + size;
+        let count = ast::wide(ast::field(image, id, j));
+        after = collect_stmts(image, table, symbols, rows, after, id, j + 1, count);
+        j = j + 1 + count;
         i += 1;
     }
     after
@@ -349,17 +349,17 @@ fn collect_match(
     table: &[u32],
     symbols: u32,
     rows: &mut [u32],
-    count: u32,
+    written: u32,
     id: NodeId,
 ) -> u32
-    requires { ⌜ Ready (now image) (sought (now table) symbols) (kindOf 40) (id .0) count ⌝ }
-    ensures { λ r. ⌜ Appended («image-spec».nodes (now (image .entry))) (rowsIn (now (image .entry)) (sought (now (table .entry)) symbols) (id .0)) count (now (rows .entry)) r (now (rows .exit)) ⌝ }
+    requires { ⌜ Ready (now image) (sought (now table) symbols) (kindOf 40) (id .0) written ⌝ }
+    ensures { λ r. ⌜ Appended («image-spec».nodes (now (image .entry))) (rowsIn (now (image .entry)) (sought (now (table .entry)) symbols) (id .0)) written (now (rows .entry)) r (now (rows .exit)) ⌝ }
 {
     let term = NodeId(ast::field(image, id, 0));
-    let size = ast::wide(ast::field(image, id, 1));
-    let mut after = collect_term(image, table, symbols, rows, count, term);
+    let count = ast::wide(ast::field(image, id, 1));
+    let mut after = collect_term(image, table, symbols, rows, written, term);
     let mut i = 0;
-    while i < size {
+    while i < count {
         let case = NodeId(ast::field(image, id, 2 + i));
         after = collect_case(image, table, symbols, rows, after, case);
         i += 1;
@@ -373,16 +373,16 @@ fn collect_case(
     table: &[u32],
     symbols: u32,
     rows: &mut [u32],
-    count: u32,
+    written: u32,
     id: NodeId,
 ) -> u32
-    requires { ⌜ Ready (now image) (sought (now table) symbols) (kindOf 35) (id .0) count ⌝ }
-    ensures { λ r. ⌜ Appended («image-spec».nodes (now (image .entry))) (rowsIn (now (image .entry)) (sought (now (table .entry)) symbols) (id .0)) count (now (rows .entry)) r (now (rows .exit)) ⌝ }
+    requires { ⌜ Ready (now image) (sought (now table) symbols) (kindOf 35) (id .0) written ⌝ }
+    ensures { λ r. ⌜ Appended («image-spec».nodes (now (image .entry))) (rowsIn (now (image .entry)) (sought (now (table .entry)) symbols) (id .0)) written (now (rows .entry)) r (now (rows .exit)) ⌝ }
 {
     let pattern = NodeId(ast::field(image, id, 0));
-    let size = ast::wide(ast::field(image, id, 1));
-    let after = collect_term(image, table, symbols, rows, count, pattern);
-    collect_stmts(image, table, symbols, rows, after, id, 2, size)
+    let count = ast::wide(ast::field(image, id, 1));
+    let after = collect_term(image, table, symbols, rows, written, pattern);
+    collect_stmts(image, table, symbols, rows, after, id, 2, count)
 }
 
 fn collect_rule(
@@ -390,14 +390,14 @@ fn collect_rule(
     table: &[u32],
     symbols: u32,
     rows: &mut [u32],
-    count: u32,
+    written: u32,
     rule: NodeId,
 ) -> u32
-    requires { ⌜ Listing (now image) (sought (now table) symbols) (kindOf 6) (rule .0) count ⌝ }
-    ensures { λ r. ⌜ Appended («image-spec».nodes (now (image .entry))) (joined (listsIn (now (image .entry)) (sought (now (table .entry)) symbols) (rule .0))) count (now (rows .entry)) r (now (rows .exit)) ⌝ }
+    requires { ⌜ Listing (now image) (sought (now table) symbols) (kindOf 6) (rule .0) written ⌝ }
+    ensures { λ r. ⌜ Appended («image-spec».nodes (now (image .entry))) (joined (listsIn (now (image .entry)) (sought (now (table .entry)) symbols) (rule .0))) written (now (rows .entry)) r (now (rows .exit)) ⌝ }
 {
-    let size = ast::wide(ast::field(image, rule, 1));
-    collect_stmts(image, table, symbols, rows, count, rule, 2, size)
+    let count = ast::wide(ast::field(image, rule, 1));
+    collect_stmts(image, table, symbols, rows, written, rule, 2, count)
 }
 
 fn collect_decl(
@@ -405,41 +405,41 @@ fn collect_decl(
     table: &[u32],
     symbols: u32,
     rows: &mut [u32],
-    count: u32,
+    written: u32,
     decl: NodeId,
 ) -> u32
-    requires { ⌜ Listing (now image) (sought (now table) symbols) (kindOf 1) (decl .0) count ⌝ }
-    ensures { λ r. ⌜ Appended («image-spec».nodes (now (image .entry))) (joined (listsIn (now (image .entry)) (sought (now (table .entry)) symbols) (decl .0))) count (now (rows .entry)) r (now (rows .exit)) ⌝ }
+    requires { ⌜ Listing (now image) (sought (now table) symbols) (kindOf 1) (decl .0) written ⌝ }
+    ensures { λ r. ⌜ Appended («image-spec».nodes (now (image .entry))) (joined (listsIn (now (image .entry)) (sought (now (table .entry)) symbols) (decl .0))) written (now (rows .entry)) r (now (rows .exit)) ⌝ }
 {
     let case = ast::field(image, decl, 0);
     let id = NodeId(ast::field(image, decl, 1));
     match case {
-        4 => collect_rule(image, table, symbols, rows, count, id),
+        4 => collect_rule(image, table, symbols, rows, written, id),
         6 => {
-            let size = ast::wide(ast::field(image, id, 1));
-            collect_decls(image, table, symbols, rows, count, id, 2, size)
+            let count = ast::wide(ast::field(image, id, 1));
+            collect_decls(image, table, symbols, rows, written, id, 2, count)
         }
-        _ => count,
+        _ => written,
     }
 }
 
-// The `size` declarations from the place `first` of the node's row on.
+// The `count` declarations from the place `first` of the node's row on.
 fn collect_decls(
     image: &[u8],
     table: &[u32],
     symbols: u32,
     rows: &mut [u32],
-    count: u32,
+    written: u32,
     node: NodeId,
     first: usize,
-    size: usize,
+    count: usize,
 ) -> u32
-    requires { ⌜ ListingRun (now image) (sought (now table) symbols) (node .0) first size count ⌝ }
-    ensures { λ r. ⌜ Appended («image-spec».nodes (now (image .entry))) (joined (listsAt (now (image .entry)) (sought (now (table .entry)) symbols) (node .0) size first)) count (now (rows .entry)) r (now (rows .exit)) ⌝ }
+    requires { ⌜ ListingRun (now image) (sought (now table) symbols) (node .0) first count written ⌝ }
+    ensures { λ r. ⌜ Appended («image-spec».nodes (now (image .entry))) (joined (listsAt (now (image .entry)) (sought (now (table .entry)) symbols) (node .0) count first)) written (now (rows .entry)) r (now (rows .exit)) ⌝ }
 {
     let mut i = 0;
-    let mut after = count;
-    while i < size {
+    let mut after = written;
+    while i < count {
         let decl = NodeId(ast::field(image, node, first + i));
         after = collect_decl(image, table, symbols, rows, after, decl);
         i += 1;
@@ -469,11 +469,11 @@ fn count_binding(counts: &mut [u32], binding: usize, up: bool)
 }
 
 // The binding of each row counted, or all of them back to 0.
-fn count_bindings(rows: &[u32], n: u32, count: u32, counts: &mut [u32], up: bool)
-    ensures { λ _. ⌜ now (counts .exit) ≡ recounted up (rights (readRows n (now (rows .entry)) count 0)) (now (counts .entry)) ⌝ }
+fn count_bindings(rows: &[u32], n: u32, written: u32, counts: &mut [u32], up: bool)
+    ensures { λ _. ⌜ now (counts .exit) ≡ recounted up (rights (readRows n (now (rows .entry)) written 0)) (now (counts .entry)) ⌝ }
 {
     let mut i = 0u32;
-    while i < count {
+    while i < written {
         let binding = rows::right_at(rows, n, i);
         count_binding(counts, ast::wide(binding), up);
         i += 1;
@@ -481,11 +481,11 @@ fn count_bindings(rows: &[u32], n: u32, count: u32, counts: &mut [u32], up: bool
 }
 
 // The first row whose binding is counted under two times.
-fn first_lone(rows: &[u32], n: u32, count: u32, counts: &[u32]) -> Checked
-    ensures { λ r. ⌜ loneOf r ≡ under (now (counts .entry)) (readRows n (now (rows .entry)) count 0) ⌝ }
+fn first_lone(rows: &[u32], n: u32, written: u32, counts: &[u32]) -> Checked
+    ensures { λ r. ⌜ loneOf r ≡ under (now (counts .entry)) (readRows n (now (rows .entry)) written 0) ⌝ }
 {
     let mut i = 0u32;
-    while i < count {
+    while i < written {
         let binding = rows::right_at(rows, n, i);
         if table::get(counts, ast::wide(binding)) < 2 {
             let node = rows::left_at(rows, i);
@@ -509,10 +509,10 @@ fn check_rule(
     ensures { λ r. ⌜ Searched (listsIn (now (image .entry)) (sought (now (table .entry)) symbols) (rule .0)) (now (counts .entry)) r (now (counts .exit)) ⌝ }
 {
     let n = ast::node_count(image);
-    let count = collect_rule(image, table, symbols, rows, 0, rule);
-    count_bindings(rows, n, count, counts, true);
-    let found = first_lone(rows, n, count, counts);
-    count_bindings(rows, n, count, counts, false);
+    let written = collect_rule(image, table, symbols, rows, 0, rule);
+    count_bindings(rows, n, written, counts, true);
+    let found = first_lone(rows, n, written, counts);
+    count_bindings(rows, n, written, counts, false);
     found
 }
 
@@ -532,8 +532,8 @@ fn check_decl(
     match case {
         4 => check_rule(image, table, symbols, rows, counts, id),
         6 => {
-            let size = ast::wide(ast::field(image, id, 1));
-            check_decls(image, table, symbols, rows, counts, id, 2, size)
+            let count = ast::wide(ast::field(image, id, 1));
+            check_decls(image, table, symbols, rows, counts, id, 2, count)
         }
         _ => Checked::Ok,
     }
@@ -547,13 +547,13 @@ fn check_decls(
     counts: &mut [u32],
     node: NodeId,
     first: usize,
-    size: usize,
+    count: usize,
 ) -> Checked
-    requires { ⌜ (ListingRun (now image) (sought (now table) symbols) (node .0) first size 0) × (Scratch (now image) (sought (now table) symbols) (now rows) (now counts)) ⌝ }
-    ensures { λ r. ⌜ Searched (listsAt (now (image .entry)) (sought (now (table .entry)) symbols) (node .0) size first) (now (counts .entry)) r (now (counts .exit)) ⌝ }
+    requires { ⌜ (ListingRun (now image) (sought (now table) symbols) (node .0) first count 0) × (Scratch (now image) (sought (now table) symbols) (now rows) (now counts)) ⌝ }
+    ensures { λ r. ⌜ Searched (listsAt (now (image .entry)) (sought (now (table .entry)) symbols) (node .0) count first) (now (counts .entry)) r (now (counts .exit)) ⌝ }
 {
     let mut i = 0;
-    while i < size {
+    while i < count {
         let decl = NodeId(ast::field(image, node, first + i));
         match check_decl(image, table, symbols, rows, counts, decl) {
             Checked::Ok => {}
@@ -572,8 +572,8 @@ fn collect_module(image: &[u8], table: &[u32], symbols: u32, rows: &mut [u32]) -
     ensures { λ r. ⌜ Appended («image-spec».nodes (now (image .entry))) (occurrenceRows (now (image .entry)) (sought (now (table .entry)) symbols)) 0 (now (rows .entry)) r (now (rows .exit)) ⌝ }
 {
     let root = NodeId(ast::node_count(image) - 1);
-    let size = ast::wide(ast::field(image, root, 0));
-    collect_decls(image, table, symbols, rows, 0, root, 1, size)
+    let count = ast::wide(ast::field(image, root, 0));
+    collect_decls(image, table, symbols, rows, 0, root, 1, count)
 }
 
 // Works in local arrays: one for the rows of a rule, one for the counts of its bindings.
@@ -582,10 +582,19 @@ fn check_module(image: &[u8], table: &[u32], symbols: u32) -> Checked
     ensures { λ r. ⌜ loneOf r ≡ lone (rowsByRule (now (image .entry)) (sought (now (table .entry)) symbols) (moduleRules (now (image .entry)))) ⌝ }
 {
     let root = NodeId(ast::node_count(image) - 1);
-    let size = ast::wide(ast::field(image, root, 0));
+    let count = ast::wide(ast::field(image, root, 0));
     let mut rows = [0u32; 4097];
     let mut counts = [0u32; 2048];
-    check_decls(image, table, symbols, &mut rows, &mut counts, root, 1, size)
+    check_decls(
+        image,
+        table,
+        symbols,
+        &mut rows,
+        &mut counts,
+        root,
+        1,
+        count,
+    )
 }
 
 // The rows of all rules in the lent words: a count, then two arrays of N words, unused places 0.
@@ -594,8 +603,8 @@ fn write_rows(image: &[u8], table: &[u32], symbols: u32, rows: &mut [u32]) -> u3
     ensures { λ r. ⌜ Wrote («image-spec».nodes (now (image .entry))) (occurrenceRows (now (image .entry)) (sought (now (table .entry)) symbols)) (now (rows .entry)) r (now (rows .exit)) ⌝ }
 {
     rows::begin(rows, ast::node_count(image));
-    let count = collect_module(image, table, symbols, rows);
-    rows::finish(rows, count)
+    let written = collect_module(image, table, symbols, rows);
+    rows::finish(rows, written)
 }
 
 // Occurrences: resolves, then lists every variable occurrence with its binding.

@@ -12,7 +12,7 @@ row-number-requires : tie.Need-row-number-requires
 row-number-requires c κs = search needs
 
 put-if-requires : tie.Need-put-if-requires
-put-if-requires c κs = fits-as (c .before .before .before .before .before .before .args .count) (introduced-is _ _ _ _ (c .before .before .is-introduced .ensures) ∙ when-number _ _ (sym (c .before .row-number .ensures))) (c .before .before .before .before .before .before .pre .fits)
+put-if-requires c κs = fits-as (c .before .before .before .before .before .before .args .written) (introduced-is _ _ _ _ (c .before .before .is-introduced .ensures) ∙ when-number _ _ (sym (c .before .row-number .ensures))) (c .before .before .before .before .before .before .pre .fits)
 
 same-length : tie.Need-same-length
 same-length c = search needs

@@ -10,7 +10,7 @@ node-count-requires : tie.Need-node-count-requires
 node-count-requires c κs = search needs
 
 put-row-requires : tie.Need-put-row-requires
-put-row-requires c κs = let h = fits-as (c .before .before .before .before .before .args .count) (when-true _ (c .before .before .if1 .taken)) (c .before .before .before .before .before .pre) in omega arith
+put-row-requires c κs = let h = fits-as (c .before .before .before .before .before .args .written) (when-true _ (c .before .before .if1 .taken)) (c .before .before .before .before .before .pre) in omega arith
 
 same-length : tie.Need-same-length
 same-length c = search needs
