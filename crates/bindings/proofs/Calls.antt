@@ -11,10 +11,10 @@ use Rattle.ast.specs.Kinds.{kindOf}
 use Rattle.ast.specs.Tests.{need, verdict}
 use Rattle.ast.specs.Tree.{treeAt}
 use Rattle.ast.proofs.Accepted.{both, skip, stop, sized, formed, last-below}
-use Rattle.table.specs.Rows.{Sorted}
+use Rattle.table.specs.Rising.{Sorted}
 use Rattle.table.specs.Table.{Table}
 use Rattle.table.specs.Values.{tableOf}
-use Rattle.table.specs.declared.Walked.{Walked}
+use Rattle.table.specs.declared.Walked.{Walked as InCode}
 use Rattle.rows.specs.Rows.{Row, Appended}
 use Rattle.scopes.specs.Resolve.{testTable}
 use Rattle.scopes.specs.Calls.{testRows}
@@ -84,7 +84,7 @@ module _ (img tab rows : List ℕ) (mode : ℕ) where
   errors-table e = rows-table img tab rows (errors-rows e)
 
   -- what the checks ask
-  pub errors-filled : testErrors img tab rows mode ≡ 0 → {d : Declared} {ws : List ℕ} → Resolves img tab d ws → {w : Walked} → d ≡ Done w → Filled img (tableOf w ws) rows
+  pub errors-filled : testErrors img tab rows mode ≡ 0 → {d : Declared} {ws : List ℕ} → Resolves img tab d ws → {w : InCode} → d ≡ Done w → Filled img (tableOf w ws) rows
   errors-filled p r q =
       let f = resolved-filled img tab (errors-table p) r q in
       record { accepted = f .accepted; rising = f .rising; long = rows-long img tab rows (errors-rows p) }

@@ -16,7 +16,7 @@ use Rattle.ast.specs.Items.{items}
 use Rattle.ast.proofs.Row.{Child, FormedFields, next}
 use Rattle.ast.proofs.Shapes.{row as fields-of, child-is, case-child, case-kids, items-more, term-last, termKinds, headKinds}
 use Rattle.table.specs.Table.{Table}
-use Rattle.table.specs.Rows.{Sorted}
+use Rattle.table.specs.Rising.{Sorted}
 use Rattle.rows.specs.Rows.{Row, Appended}
 use Rattle.rows.proofs.Parts.{Left, left-room}
 use Rattle.bindings.specs.Errors.{introducedRow, rowsOf, rowsSeq}

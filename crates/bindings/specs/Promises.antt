@@ -11,7 +11,7 @@ use Rattle.ast.specs.Is.{Is, Run}
 use Rattle.ast.specs.Tree.{treeAt}
 use Rattle.ast.specs.Items.{items, below}
 use Rattle.table.specs.Table.{Table}
-use Rattle.table.specs.Rows.{Sorted}
+use Rattle.table.specs.Rising.{Sorted}
 use Rattle.rows.specs.Rows.{Row, rowsLength}
 use Rattle.bindings.specs.Errors.{rowsSeq, patternRows, argRows, declsRows, repeated, repeatedTo, strictRows, isStrict}
 

@@ -11,7 +11,7 @@ ghost use Rattle.ast.specs.Tests as «tests-spec»;
 ghost use Rattle.ast.specs.Is.{Is, twoTerms};
 ghost use Rattle.ast.specs.Tree.{treeAt};
 ghost use Rattle.table.specs.Table as «table-spec»;
-ghost use Rattle.table.specs.Rows.{Sorted};
+ghost use Rattle.table.specs.Rising.{Sorted};
 ghost use Rattle.table.specs.Values.{tableOf};
 ghost use Rattle.rows.specs.Rows.{row, Appended, Wrote, when};
 ghost use Rattle.scopes.specs.Answers.{rowedAnswer};

@@ -13,9 +13,9 @@ use Rattle.ast.specs.Image.{nodes, kindAt}
 use Rattle.ast.specs.Tests.{need, verdict}
 use Rattle.ast.proofs.Accepted.{both, needed, ran, sized}
 use Rattle.rows.specs.Rows.{Row}
-use Rattle.table.specs.Rows.{nodeAt}
+use Rattle.table.specs.Rising.{nodeAt}
 use Rattle.sound.specs.Sound.{symbolsIn, scopesIn, parentBelow, rowSound, testSound}
-use Rattle.table.specs.State.{Exit}
+use Rattle.table.specs.State.{Walked}
 use Rattle.table.specs.Table.{symbolOf, lookup}
 use Rattle.scopes.specs.Lookup.{testLookup, symbolAnswer, foundBy, lookupCall}
 use Rattle.scopes.specs.Resolve.{testTable, walked, counted, Way, refuses, stops, fills, way, answerBy, tableCall, resolve}
@@ -70,7 +70,7 @@ module _ (img tab : List ℕ) where
   lookup-low s = first-low _ _ table-low (first-low _ _ sound-low (need-low 17 _ (omega arith)))
 
 -- a call that is lent a table: what it says of a table that it has filled fits
-call-fits : (img tab : List ℕ) {r : ℕ} (f : Table → Answer) → Low r → (r ≡ 0 → testTable img tab ≡ 0) → ((e : Exit) → testTable img tab ≡ 0 → walked img tab ≡ done e → Fits (f (counted img (e .table))))
+call-fits : (img tab : List ℕ) {r : ℕ} (f : Table → Answer) → Low r → (r ≡ 0 → testTable img tab ≡ 0) → ((e : Walked) → testTable img tab ≡ 0 → walked img tab ≡ done e → Fits (f (counted img (e .table))))
     → Fits (answerBy f (way img tab r))
 unfolding answerBy
 call-fits img tab {r} f low tested fits = go (way img tab r) (went img tab r)
@@ -85,7 +85,7 @@ pub resolve-fits : (img tab : List ℕ) → Fits ((resolve img tab) .answer)
 unfolding resolve tableCall
 resolve-fits img tab = call-fits img tab _ (table-low img tab) (λ p. p) counts
   where
-    counts : (e : Exit) → testTable img tab ≡ 0 → walked img tab ≡ done e → Fits (result (e .table .scopes) (e .table .symbols))
+    counts : (e : Walked) → testTable img tab ≡ 0 → walked img tab ≡ done e → Fits (result (e .table .scopes) (e .table .symbols))
     counts e q h = unfold Fits in
         let d = walked-ended img tab q e h in
         let s = sized img (table-accepted img tab q) in
@@ -154,7 +154,7 @@ rows-fit : (img tab rows : List ℕ) {r : ℕ} (f : Table → List Row) → Low 
 unfolding rowsCall
 rows-fit img tab rows f low tested few = call-fits img tab (λ t. result 0 (length (f t))) low tested count
   where
-    count : (e : Exit) → testTable img tab ≡ 0 → walked img tab ≡ done e → Fits (result 0 (length (f (counted img (e .table)))))
+    count : (e : Walked) → testTable img tab ≡ 0 → walked img tab ≡ done e → Fits (result 0 (length (f (counted img (e .table)))))
     count e q h = unfold Fits in
         let a = table-accepted img tab q in
         let s = sized img a in

@@ -11,7 +11,7 @@ use Rattle.ast.specs.Rules.{Rule, moduleRules}
 use Rattle.ast.specs.Answer.{result}
 use Rattle.scopes.specs.Resolve.{testTable, walked, headed, counted, wayOf, way, answerBy, tableBy, Outcome, tableCall, resolve}
 use Rattle.scopes.specs.Walk.{Listed, done}
-use Rattle.table.specs.State.{Exit}
+use Rattle.table.specs.State.{Walked}
 use Rattle.scopes.specs.Twice.{declaredTwice}
 use Rattle.scopes.proofs.Calls.{rows-table, rowed-held}
 use Rattle.scopes.proofs.Resolving.{table-accepted, own-counts}
@@ -33,7 +33,7 @@ use Rattle.meaning.proofs.Marks.{by-meaning}
 use Rattle.meaning.proofs.Faults.{faults-by-meaning}
 
 -- what Resolve leaves where the walk ends
-resolve-done : (img tab : List ℕ) → testTable img tab ≡ 0 → {e : Exit} → walked img tab ≡ done e
+resolve-done : (img tab : List ℕ) → testTable img tab ≡ 0 → {e : Walked} → walked img tab ≡ done e
     → resolve img tab ≡ record { answer = result (e .table .scopes) (e .table .symbols); table = headed img (e .table) }
 unfolding resolve tableCall way wayOf answerBy tableBy
 resolve-done img tab p {e} h =
@@ -48,10 +48,10 @@ module _ (img tab rows : List ℕ) where
       let d = single-done img tab p once in
       let t = d .0 .table in
       let z = resolve-done img tab p (d .1) in
-      let o = (ap (λ (o : Outcome). o .answer) z, ap (λ (o : Outcome). o .table) z) in
-      let c = own-counts img tab (t .scopes) (t .symbols) (o .0) in
+      let words = ap (λ (o : Outcome). o .table) z in
+      let c = own-counts img tab (t .scopes) (t .symbols) (ap (λ (o : Outcome). o .answer) z) in
       let same : counted img t ≡ tableOf img ((resolve img tab) .table) =
-      ap₂ (λ (ws : List ℕ) (k : ℕ). record { words = ws; scopes = k; symbols = t .symbols }) (sym (o .1)) (sym (c .0))
+      ap₂ (λ (ws : List ℕ) (k : ℕ). record { words = ws; scopes = k; symbols = t .symbols }) (sym words) (sym (c .0))
       ∙ ap (λ (y : ℕ). record { words = (resolve img tab) .table; scopes = scopesIn img ((resolve img tab) .table); symbols = y }) (sym (c .1)) in
       subst (λ (u : Table). Recorded img u w) same
       (rules-recorded img tab (d .0) (table-accepted img tab p) (d .1) r i w j)

@@ -22,7 +22,7 @@ use Rattle.error.specs.Kinds.{introducedInThen, definedNotNew, patternNotFresh,
 use Rattle.scopes.specs.Resolve.{walked, counted}
 use Rattle.ast.proofs.Bools.{not-equal}
 use Rattle.scopes.specs.Walk.{done}
-use Rattle.table.specs.State.{Exit}
+use Rattle.table.specs.State.{Walked}
 use Rattle.table.specs.Table.{Table, lookup, isVar, entryAt, atEntry, atExit}
 use Rattle.bindings.specs.Errors.{sameNode, introduces, introducedRow, definedRow, definedRows, argRow, argRows, listRows, isCtor, appRows, patternRows, rowsOf, rowsSeq, rowsFirst, rowsDefined, declRows, declsRows, plainRows}
 use Rattle.ast.specs.Rules.{Rule, saysAll, rules, rulesAll, rulesOf, moduleRules}
@@ -390,7 +390,7 @@ module _ (img : List ℕ) (T₀ : Table) where
   module-faults n k sh ts s d t = decls-faults ts d (s .1) (kindsAll-map (no-module k) ts (s .0 .0 .kids)) (saysAll img ts) t
 
 -- what the table says and what the tree says
-pub faults-by-meaning : (img tab : List ℕ) (e : Exit) → verdict img ≡ 0 → walked img tab ≡ done e → plainRows img (counted img (e .table)) ≡ faultsIn img
+pub faults-by-meaning : (img tab : List ℕ) (e : Walked) → verdict img ≡ 0 → walked img tab ≡ done e → plainRows img (counted img (e .table)) ≡ faultsIn img
 unfolding plainRows faultsIn moduleRules kindOf kinds
 faults-by-meaning img tab e accepted q =
     let f = formed img accepted in

@@ -5,7 +5,7 @@ use Prim.Native.Nat.{ℕ, _≤_, _<_}
 use native.Mathlib.Omega.{arith}
 use Rattle.ast.specs.Image.{nodes}
 use Rattle.ast.specs.Tree.{Trees, none, _◂_}
-use Rattle.table.specs.State.{Exit}
+use Rattle.table.specs.State.{Walked}
 use Rattle.table.specs.Table.{Table, lookup, entryAt, exitAt}
 use Rattle.ordered.specs.Kept.{Kept}
 use Rattle.ordered.specs.Walk.{Role, occurs, walk, walkFirst}
@@ -23,12 +23,12 @@ module _ (img : List ℕ) where
   Small ns = (n : ℕ) → In n ns → n < N
 
   -- the steps of a walk over the first, then the others
-  pub walks-first : (r : Role) (us : Trees) (e : Exit) → Walks img (numbersSeq us) e (walkFirst img r us e)
+  pub walks-first : (r : Role) (us : Trees) (e : Walked) → Walks img (numbersSeq us) e (walkFirst img r us e)
   unfolding numbers walk
   walks-first r none e = stay
   walks-first r (u ◂ us) e = next (walks-over img occurs u e) (walks-along img r us (walk img occurs u e))
 
-  pub walks-rise : {ns : List ℕ} {e e′ : Exit} → Walks img ns e e′ → e .table .scopes ≤ e′ .table .scopes
+  pub walks-rise : {ns : List ℕ} {e e′ : Walked} → Walks img ns e e′ → e .table .scopes ≤ e′ .table .scopes
   walks-rise v = (rises img Any Any v) .0
 
   -- T keeps what t has: its lookups, and the entries and exits of the nodes ns
@@ -53,7 +53,7 @@ module _ (img : List ℕ) where
         }
 
     -- of two walks, one after the other: what it keeps at the end, it keeps where the second starts
-    pub ends-between : {ns ms : List ℕ} {e e′ e″ : Exit} → Walks img ns e e′ → Walks img ms e′ e″ → Kept img (e .table) → e .scope < e .table .scopes
+    pub ends-between : {ns ms : List ℕ} {e e′ e″ : Walked} → Walks img ns e e′ → Walks img ms e′ e″ → Kept img (e .table) → e .scope < e .table .scopes
         → Ends (ns ++ ms) (e″ .table) → Ends ns (e′ .table)
     ends-between {ns} {ms} {e} {e′} {e″} v u s i k =
         let q = rises img Any Any u in

@@ -13,7 +13,7 @@ use Rattle.ast.specs.Tree.{Tree, node, block, Trees, none, _◂_}
 use Rattle.rows.specs.Rows.{Row, row}
 use Rattle.scopes.specs.Resolve.{walked, counted}
 use Rattle.scopes.specs.Walk.{done}
-use Rattle.table.specs.State.{Exit}
+use Rattle.table.specs.State.{Walked}
 use Rattle.table.specs.Table.{Table, lookup, exitAt}
 use Rattle.occurrences.specs.Occurrences.{listed, rowsFor, ruleRows, allRows, occurrenceRows}
 use Rattle.ast.specs.Rules.{Rule, moduleRules}
@@ -113,7 +113,7 @@ module _ (img : List ℕ) (T : Table) where
       ap₂ _++_ (let g = f r (inl refl) in marks-along (r .statements) (g .0) occurs 0 (r .meaning) (g .1)) (rules-marks rs (λ q i. f q (inr i)))
 
 -- what the table says and what the tree says
-pub by-meaning : (img tab : List ℕ) (e : Exit) → verdict img ≡ 0 → walked img tab ≡ done e → occurrenceRows img (counted img (e .table)) ≡ marksIn img
+pub by-meaning : (img tab : List ℕ) (e : Walked) → verdict img ≡ 0 → walked img tab ≡ done e → occurrenceRows img (counted img (e .table)) ≡ marksIn img
 unfolding occurrenceRows marksIn
 by-meaning img tab e accepted q =
     rules-marks img (counted img (e .table)) (moduleRules img)

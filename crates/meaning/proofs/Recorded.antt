@@ -9,7 +9,7 @@ use Rattle.ast.specs.Kinds.{outer, inner, plain, term, ident, head, headMember,
 use Rattle.ast.specs.Rules.{Rule, moduleRules}
 use Rattle.ast.specs.Tests.{verdict}
 use Rattle.ast.specs.Tree.{Tree, node, block, Trees, none, _◂_}
-use Rattle.table.specs.State.{Exit}
+use Rattle.table.specs.State.{Walked}
 use Rattle.table.specs.Table.{Table, lookup, entryAt, exitAt}
 use Rattle.scopes.specs.Resolve.{walked, counted}
 use Rattle.scopes.specs.Walk.{done}
@@ -69,7 +69,7 @@ module _ (img : List ℕ) (T : Table) where
     eachThen p (u ◂ us) env t = both (each occurs u env (t .0)) (eachSeq p us (meets img T occurs u env) (t .1))
 
 -- in the table of the walk, its counts in front
-pub rules-recorded : (img tab : List ℕ) (e : Exit) → verdict img ≡ 0 → walked img tab ≡ done e → (r : Rule) → In r (moduleRules img)
+pub rules-recorded : (img tab : List ℕ) (e : Walked) → verdict img ≡ 0 → walked img tab ≡ done e → (r : Rule) → In r (moduleRules img)
     → (w : Meeting) → In w (ruleMeetings (nameOf img) (kindAt img) r) → Recorded img (counted img (e .table)) w
 unfolding ruleMeetings
 rules-recorded img tab e accepted q r i = one img (counted img (e .table)) (eachSeq img (counted img (e .table)) occurs (r .statements) (r .meaning) (rules-told img tab e accepted q r i))

@@ -5,7 +5,7 @@ use Prim.Native.Nat.{ℕ}
 use native.Mathlib.Omega.{arith}
 use Rattle.ast.specs.Rules.{Rule, moduleRules}
 use Rattle.ast.specs.Tests.{verdict}
-use Rattle.table.specs.State.{Exit}
+use Rattle.table.specs.State.{Walked}
 use Rattle.scopes.specs.Resolve.{walked, counted}
 use Rattle.scopes.specs.Walk.{done}
 use Rattle.sight.specs.Sight.{In}
@@ -15,7 +15,7 @@ use Rattle.meaning.specs.Meaning.{occurs}
 use Rattle.meaning.proofs.Keeps.{walks-rise}
 use Rattle.meaning.proofs.Told.{ToldSeq, rule-told}
 
-pub rules-told : (img tab : List ℕ) (e : Exit) → verdict img ≡ 0 → walked img tab ≡ done e
+pub rules-told : (img tab : List ℕ) (e : Walked) → verdict img ≡ 0 → walked img tab ≡ done e
     → (r : Rule) → In r (moduleRules img) → ToldSeq img (counted img (e .table)) occurs (r .statements) (r .meaning)
 rules-told img tab e accepted q r i =
     let w = (resolved img tab e accepted q) .walks r i in

@@ -12,7 +12,7 @@ use Rattle.ast.specs.Image.{nodes, kindAt, nameOf}
 use Rattle.ast.specs.Kinds.{Class, outer, inner, plain, term, ident, head, headMember, member, case, ifVar, definedThen, arg}
 use Rattle.ast.specs.Tree.{Tree, node, block, Trees, none, _◂_}
 use Rattle.table.specs.Layout.{allOnes}
-use Rattle.table.specs.State.{Exit, introduce, back, marked}
+use Rattle.table.specs.State.{Walked, introduce, back, marked}
 use Rattle.table.specs.Table.{Table, mark, lookup, isKind, isValue, entryAt, exitAt}
 use Rattle.ordered.specs.Kept.{Kept}
 use Rattle.ordered.specs.Walk.{Role, walkIdent, walk, walkSeq, walkFirst}
@@ -103,7 +103,7 @@ module _ (img : List ℕ) (T : Table) where
     ToldThen p (u ◂ us) env = Told occurs u env × ToldSeq p us (meets occurs u env)
 
   -- where the walk stands, with the environment there
-  pub record At (env : Env) (e : Exit) : Type 0 where
+  pub record At (env : Env) (e : Walked) : Type 0 where
     pub sane : Kept img (e .table)
     pub inside : e .scope < e .table .scopes
     pub reads : Reads (e .scope) env
@@ -125,12 +125,12 @@ module _ (img : List ℕ) (T : Table) where
   Kept-by ns t = Ends img T ns t
 
   -- a mark more
-  marked-at : (n c x : ℕ) {env : Env} (e : Exit) → n < nodes img → At env e → At env (record { scope = e .scope; table = mark img n c x (e .table) })
+  marked-at : (n c x : ℕ) {env : Env} (e : Walked) → n < nodes img → At env e → At env (record { scope = e .scope; table = mark img n c x (e .table) })
   unfolding mark
   marked-at n c x e l a = record { sane = mark-kept img n c x (e .table) l (a .sane); inside = a .inside; reads = a .reads }
 
   -- what T has at the node n, which is entered at e and left at e′
-  around : (n : ℕ) (env env′ : Env) (e e′ : Exit)
+  around : (n : ℕ) (env env′ : Env) (e e′ : Walked)
       → entryAt img (T .words) n ≡ entryAt img ((mark img n (e .scope) (e′ .scope) (e′ .table)) .words) n
       → exitAt img (T .words) n ≡ exitAt img ((mark img n (e .scope) (e′ .scope) (e′ .table)) .words) n
       → n < nodes img → At env e → At env′ e′ → Around n env env′
@@ -141,7 +141,7 @@ module _ (img : List ℕ) (T : Table) where
       }
 
   -- the node n around what stands below it
-  wrapped : (n : ℕ) (ns : List ℕ) {env env′ : Env} {X : Type 0} (e e′ : Exit) → Walks img ns e e′ → At env e → (Kept-by ns (e′ .table) → X × At env′ e′)
+  wrapped : (n : ℕ) (ns : List ℕ) {env env′ : Env} {X : Type 0} (e e′ : Walked) → Walks img ns e e′ → At env e → (Kept-by ns (e′ .table) → X × At env′ e′)
       → Kept-by (ns ++ (n ∷ [])) (mark img n (e .scope) (e′ .scope) (e′ .table)) → (Around n env env′ × X) × At env′ (marked img n (e .scope) e′)
   unfolding marked
   wrapped n ns {env} {env′} e e′ w a below k =
@@ -153,7 +153,7 @@ module _ (img : List ℕ) (T : Table) where
       )
 
   -- back in the scope where a block starts
-  back-at : {env env′ : Env} (e e′ : Exit) → e .table .scopes ≤ e′ .table .scopes → At env e → At env′ e′ → At env (back img (e .scope) e′)
+  back-at : {env env′ : Env} (e e′ : Walked) → e .table .scopes ≤ e′ .table .scopes → At env e → At env′ e′ → At env (back img (e .scope) e′)
   back-at e e′ l a a′ = record { sane = a′ .sane; inside = (let i = a .inside in omega arith); reads = a .reads }
 
   -- an ident ------------------------------------------------------------------------------------------------------------
@@ -168,9 +168,9 @@ module _ (img : List ℕ) (T : Table) where
       go true = refl
       go false = refl
 
-  module _ (i : ℕ) (env : Env) (e : Exit) (a : At env e) where
+  module _ (i : ℕ) (env : Env) (e : Walked) (a : At env e) where
     -- the walk goes on from a test that says whether the name is known
-    abbrev stepped : Bool → Exit
+    abbrev stepped : Bool → Walked
     stepped b = elim b [ true ↦ e | false ↦ introduce img i e ]
 
     abbrev said : Bool → Env
@@ -218,7 +218,7 @@ module _ (img : List ℕ) (T : Table) where
         (picked (isKind img 13 o) old k)
 
   -- an IdentTerm, marked
-  ident-told : {r : Role} {p : Part} (i k : ℕ) (sh : List ℕ) (us : Trees) {env : Env} (e : Exit) → Alike (e .table .scopes) r p → At env e
+  ident-told : {r : Role} {p : Part} (i k : ℕ) (sh : List ℕ) (us : Trees) {env : Env} (e : Walked) → Alike (e .table .scopes) r p → At env e
       → Kept-by (i ∷ []) ((walk img r (node i k (inner ident) sh us) e) .table)
       → Around i env (meetsIdent p i env) × At (meetsIdent p i env) (walk img r (node i k (inner ident) sh us) e)
   unfolding walk numbers marked
@@ -235,7 +235,7 @@ module _ (img : List ℕ) (T : Table) where
 
   -- trees ---------------------------------------------------------------------------------------------------------------
   -- the one child is an IdentTerm
-  lone-told : {r : Role} {p : Part} (ts : Trees) → IdentOnly img ts → {env : Env} (e : Exit) → Alike (e .table .scopes) r p → At env e
+  lone-told : {r : Role} {p : Part} (ts : Trees) → IdentOnly img ts → {env : Env} (e : Walked) → Alike (e .table .scopes) r p → At env e
       → Kept-by (numbersSeq ts) ((walkSeq img r ts e) .table) → ToldSeq p ts env × At (meetsSeq p ts env) (walkSeq img r ts e)
   unfolding numbers walk meet Told
   lone-told {r} {p} ts h {env} e q a =
@@ -243,7 +243,7 @@ module _ (img : List ℕ) (T : Table) where
       (λ k. let f = ident-told (h .i) (h .k) (h .sh) (h .us) e q a k in ((f .0, tt), f .1))
 
   -- member names
-  names-told : (us : Trees) → Idents img us → {env : Env} (e : Exit) → At env e → Kept-by (numbersSeq us) ((walkSeq img walking.names us e) .table)
+  names-told : (us : Trees) → Idents img us → {env : Env} (e : Walked) → At env e → Kept-by (numbersSeq us) ((walkSeq img walking.names us e) .table)
       → ToldSeq names us env × At (meetsSeq names us env) (walkSeq img walking.names us e)
   unfolding numbers walk meet meetIdent introduces Told Idents
   names-told none h e a k = (tt, a)
@@ -263,7 +263,7 @@ module _ (img : List ℕ) (T : Table) where
   mutual
     unfolding numbers walk meet Told Body
 
-    told : (u : Tree) → Body img u → {r : Role} {p : Part} {env : Env} (e : Exit) → Alike (e .table .scopes) r p → At env e → Kept-by (numbers u) ((walk img r u e) .table)
+    told : (u : Tree) → Body img u → {r : Role} {p : Part} {env : Env} (e : Walked) → Alike (e .table .scopes) r p → At env e → Kept-by (numbers u) ((walk img r u e) .table)
         → Told p u env × At (meets p u env) (walk img r u e)
     told (block ts) h e q a k =
         let f = toldSeq ts h e as-occurs a k in
@@ -299,7 +299,7 @@ module _ (img : List ℕ) (T : Table) where
         (λ kq. toldThen ts (defines-bodies img ts h) e (as-defines (a .inside) (a .reads)) a kq) kp
     told (node n k (inner arg) sh ts) h e q a kp = absurd h
 
-    toldSeq : (us : Trees) → Bodies img us → {r : Role} {p : Part} {env : Env} (e : Exit) → Alike (e .table .scopes) r p → At env e
+    toldSeq : (us : Trees) → Bodies img us → {r : Role} {p : Part} {env : Env} (e : Walked) → Alike (e .table .scopes) r p → At env e
         → Kept-by (numbersSeq us) ((walkSeq img r us e) .table) → ToldSeq p us env × At (meetsSeq p us env) (walkSeq img r us e)
     toldSeq none h e q a k = (tt, a)
     toldSeq (u ◂ us) h {r} {p} {env} e q a k =
@@ -309,7 +309,7 @@ module _ (img : List ℕ) (T : Table) where
         let g = toldSeq us (h .1) e′ (alike-more (walks-rise img v) q) (f .1) (ends-after img T (numbers u) (numbersSeq us) ((walkSeq img r us e′) .table) k) in
         ((f .0, g .0), g .1)
 
-    toldThen : (us : Trees) → Bodies img us → {r : Role} {p : Part} {env : Env} (e : Exit) → Alike (e .table .scopes) r p → At env e
+    toldThen : (us : Trees) → Bodies img us → {r : Role} {p : Part} {env : Env} (e : Walked) → Alike (e .table .scopes) r p → At env e
         → Kept-by (numbersSeq us) ((walkFirst img r us e) .table) → ToldThen p us env × At (meetThen (nameOf img) (kindAt img) p us env) (walkFirst img r us e)
     toldThen none h e q a k = (tt, a)
     toldThen (u ◂ us) h {r} {p} {env} e q a k =
@@ -319,7 +319,7 @@ module _ (img : List ℕ) (T : Table) where
         let g = toldSeq us (h .1) e′ (alike-more (walks-rise img v) q) (f .1) (ends-after img T (numbers u) (numbersSeq us) ((walkSeq img r us e′) .table) k) in
         ((f .0, g .0), g .1)
 
-    toldFirst : (us : Trees) → Members img us → {env : Env} (e : Exit) → At env e → Kept-by (numbersSeq us) ((walkFirst img walking.names us e) .table)
+    toldFirst : (us : Trees) → Members img us → {env : Env} (e : Walked) → At env e → Kept-by (numbersSeq us) ((walkFirst img walking.names us e) .table)
         → ToldThen names us env × At (meetsThen names us env) (walkFirst img walking.names us e)
     toldFirst none h e a k = (tt, a)
     toldFirst (u ◂ us) h {env} e a k =
@@ -329,5 +329,5 @@ module _ (img : List ℕ) (T : Table) where
         ((f .0, g .0), g .1)
 
   -- a rule's statements, from where the environment says what lookup gives
-  pub rule-told : (ts : Trees) → Bodies img ts → {env : Env} (e : Exit) → At env e → Kept-by (numbersSeq ts) ((walkSeq img walking.occurs ts e) .table) → ToldSeq occurs ts env
+  pub rule-told : (ts : Trees) → Bodies img ts → {env : Env} (e : Walked) → At env e → Kept-by (numbersSeq ts) ((walkSeq img walking.occurs ts e) .table) → ToldSeq occurs ts env
   rule-told ts h e a k = (toldSeq ts h e as-occurs a k) .0

@@ -9,7 +9,7 @@ use Rattle.table.specs.Values.{sought}
 use Rattle.ast.specs.Rules.{moduleRules}
 use Rattle.table.specs.Table.{Table, lookup}
 use Rattle.table.specs.Values.{tableOf}
-use Rattle.table.specs.declared.Walked.{Walked}
+use Rattle.table.specs.declared.Walked.{Walked as InCode}
 use Rattle.rows.specs.Rows.{Row, Wrote}
 use Rattle.rows.proofs.Appends.{wrote-as}
 use Rattle.scopes.specs.Resolve.{testTable}
@@ -35,7 +35,7 @@ module _ (img : List ℕ) (t : Table) where
   sought-lists : rowsByRule img t (moduleRules img) ≡ rowsByRule img (sought (t .words) (t .symbols)) (moduleRules img)
   sought-lists = same-lists img t _ sought-found (moduleRules img)
 
-module _ (img tab : List ℕ) (passes : testTable img tab ≡ 0) {d : Declared} {ws : List ℕ} (r : Resolves img tab d ws) {w : Walked} (q : d ≡ Done w) where
+module _ (img tab : List ℕ) (passes : testTable img tab ≡ 0) {d : Declared} {ws : List ℕ} (r : Resolves img tab d ws) {w : InCode} (q : d ≡ Done w) where
   pub whole : Whole img (sought ws (w .symbols))
   whole =
       let f = resolved-filled img tab passes r q in

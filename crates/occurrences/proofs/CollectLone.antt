@@ -21,7 +21,7 @@ use Rattle.ast.proofs.Count.{is-same, is-other}
 use Rattle.ast.proofs.Runs.{sat, claimed-times}
 use Rattle.ast.proofs.Unfold.{All, nil, cons, All-map}
 use Rattle.table.specs.Table.{Table, rowIs, findFrom, climb, lookup, exitAt}
-use Rattle.table.specs.Rows.{nodeAt, parentAt}
+use Rattle.table.specs.Rising.{nodeAt, parentAt}
 use Rattle.rows.specs.Rows.{Row, row, rights, Appended, readRows}
 use Rattle.rows.proofs.Reading.{read-appended, read-more, read-end, read-all}
 use Rattle.occurrences.specs.Spots.{Spot, spotsSeq}

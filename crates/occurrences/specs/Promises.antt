@@ -15,7 +15,7 @@ use Rattle.ast.specs.Is.{Is, Run}
 use Rattle.ast.specs.Promises.{bump, claimAll}
 use Rattle.ast.specs.Tests.{verdict}
 use Rattle.table.specs.Table.{Table}
-use Rattle.table.specs.Rows.{nodeAt, Sorted}
+use Rattle.table.specs.Rising.{nodeAt, Sorted}
 use Rattle.rows.specs.Rows.{Row, row, rowsLength}
 use Rattle.occurrences.specs.Spots.{Spot, spots, spotsSeq}
 use Rattle.ast.specs.Rules.{rules, rulesAll}

@@ -6,7 +6,7 @@ ghost use lib.ListN.{length, getD, set};
 ghost use Rattle.ast.specs.Image as «image-spec»;
 ghost use Rattle.ast.specs.Is.{twoTerms};
 ghost use Rattle.ast.specs.Kinds.{kindOf};
-ghost use Rattle.table.specs.Rows.{Sorted};
+ghost use Rattle.table.specs.Rising.{Sorted};
 ghost use Rattle.table.specs.Values.{sought};
 ghost use Rattle.rows.specs.Rows.{rights, rowsLength, Appended, Wrote, readRows};
 ghost use Rattle.scopes.specs.Answers.{rowedAnswer};

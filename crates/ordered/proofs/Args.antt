@@ -7,7 +7,7 @@ use Rattle.ast.specs.Image.{field}
 use Rattle.ast.specs.Is.{Is}
 use Rattle.ast.specs.Kinds.{kindOf}
 use Rattle.ast.specs.Tree.{Tree}
-use Rattle.table.specs.State.{Exit, introduce, marked}
+use Rattle.table.specs.State.{Walked, introduce, marked}
 use Rattle.ast.proofs.Row.{next, nodeOf, Child, FormedFields}
 use Rattle.ast.proofs.Shapes.{row, tree-of, child-is}
 use Rattle.ordered.specs.Walk.{occurs, walkArg, walk}
@@ -17,28 +17,28 @@ use Rattle.ordered.proofs.Steps.{part-room}
 
 module _ (img : List ℕ) where
   -- one argument: its type, then its name in a new scope
-  argged : ℕ → ℕ → Exit → Exit
+  argged : ℕ → ℕ → Walked → Walked
   argged n x e = walkArg img n (elim x [ zero ↦ 0 | suc m ↦ 1 ] ∷ []) e
 
-  arg-whole : {n : ℕ} (e : Exit) → Is img (kindOf 10) n → over img n e ≡ marked img n (e .scope) (argged n (field img n 0) (over img (field img n 1) e))
+  arg-whole : {n : ℕ} (e : Walked) → Is img (kindOf 10) n → over img n e ≡ marked img n (e .scope) (argged n (field img n 0) (over img (field img n 1) e))
   unfolding walk nodeOf kindOf argged
   arg-whole e is = ap (λ (u : Tree). walk img occurs u e) (tree-of img is)
 
-  arg-none : (n : ℕ) (e : Exit) → argged n 0 e ≡ e
+  arg-none : (n : ℕ) (e : Walked) → argged n 0 e ≡ e
   unfolding argged walkArg
   arg-none n e = refl
 
-  arg-some : (n m : ℕ) (e : Exit) → argged n (suc m) e ≡ introduce img n e
+  arg-some : (n m : ℕ) (e : Walked) → argged n (suc m) e ≡ introduce img n e
   unfolding argged walkArg
   arg-some n m e = refl
 
-  pub record Arg (n d : ℕ) (e : Exit) : Type 0 where
+  pub record Arg (n d : ℕ) (e : Walked) : Type 0 where
     pub first : Ready img (kindOf 23) d e
     pub whole : field img n 0 ≡ 0 → over img n e ≡ marked img n (e .scope) (over img d e)
     pub room : (field img n 0 ≡ 0 → ⊥) → Room img (introduce img n (over img d e))
     pub whole2 : (field img n 0 ≡ 0 → ⊥) → over img n e ≡ marked img n (e .scope) (introduce img n (over img d e))
 
-  pub argOf : {n d : ℕ} {e : Exit} → Ready img (kindOf 10) n e → d ≡ field img n 1 → Arg n d e
+  pub argOf : {n d : ℕ} {e : Walked} → Ready img (kindOf 10) n e → d ≡ field img n 1 → Arg n d e
   unfolding FormedFields next kindOf
   argOf {n} {d} {e} p q =
       subst (λ (x : ℕ). Arg n x e) (sym q)
@@ -52,7 +52,7 @@ module _ (img : List ℕ) where
       h : Child img n 23 (field img n 1)
       h = (row img (p .is)) .1 .0
 
-      f : Exit
+      f : Walked
       f = over img (field img n 1) e
 
       w0 : field img n 0 ≡ 0 → over img n e ≡ marked img n (e .scope) (over img (field img n 1) e)

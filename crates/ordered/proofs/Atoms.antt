@@ -10,7 +10,7 @@ use Rattle.ast.specs.Image.{field, nameOf}
 use Rattle.ast.specs.Is.{kindBy, Is}
 use Rattle.ast.specs.Kinds.{inner, plain, Field, name, cases, noChild, kindOf}
 use Rattle.ast.specs.Tree.{Tree, Trees, none, _◂_, swap, ordered, treeAt}
-use Rattle.table.specs.State.{Exit, introduce, marked}
+use Rattle.table.specs.State.{Walked, introduce, marked}
 use Rattle.table.specs.Table.{climb, isKind}
 use Rattle.ast.proofs.Row.{append, next, nodeOf, Child, FormedFields}
 use Rattle.ast.proofs.Shapes.{row, tree-of, child-is, case-last, termKinds, term-last}
@@ -21,12 +21,12 @@ use Rattle.ordered.proofs.Steps.{room-in, part-room, tree-grows, ident-
 
 module _ (img : List ℕ) where
   -- a leaf
-  pub leaf-step : {n : ℕ} (e : Exit) → Is img (kindBy (inner plain) (name ∷ [])) n → over img n e ≡ marked img n (e .scope) e
+  pub leaf-step : {n : ℕ} (e : Walked) → Is img (kindBy (inner plain) (name ∷ [])) n → over img n e ≡ marked img n (e .scope) e
   unfolding walk nodeOf
   leaf-step e is = ap (λ (u : Tree). walk img occurs u e) (tree-of img is)
 
   -- a plain node that wraps an enum
-  pub plain-wrapped : (ks : List ℕ) {n d : ℕ} {e : Exit} → Ready img (kindBy (inner plain) (cases ks ∷ [])) n e → (c : ℕ) → c ≡ field img n 0 → d ≡ field img n 1
+  pub plain-wrapped : (ks : List ℕ) {n d : ℕ} {e : Walked} → Ready img (kindBy (inner plain) (cases ks ∷ [])) n e → (c : ℕ) → c ≡ field img n 0 → d ≡ field img n 1
       → eqb (getD ks c noChild) noChild ≡ false → Wrapped img occurs (kindOf (getD ks c noChild)) n d e
   unfolding ordered
   plain-wrapped ks {n} {d} {e} p c q q2 s =
@@ -41,31 +41,31 @@ module _ (img : List ℕ) where
   plain-last ks is = case-last img (inner plain) ks is
 
   -- the term of a variable: an ident that is looked up from the scope b, or any other term ------------------------------
-  pub var-known : (n b : ℕ) (e : Exit) (x : ℕ) → x ≡ nameOf img n → isKind img 13 (climb img (suc b) (e .table .words) (e .table .symbols) b x) ≡ true → walkIdent img (defines b) n e ≡ e
+  pub var-known : (n b : ℕ) (e : Walked) (x : ℕ) → x ≡ nameOf img n → isKind img 13 (climb img (suc b) (e .table .words) (e .table .symbols) b x) ≡ true → walkIdent img (defines b) n e ≡ e
   unfolding walkIdent
-  var-known n b e x q h = ap (λ (v : Bool). elim v as (λ _. Exit) [ true ↦ e | false ↦ introduce img n e ]) (ap (isKind img 13) (found-from img n b e x _ q refl) ∙ h)
+  var-known n b e x q h = ap (λ (v : Bool). elim v as (λ _. Walked) [ true ↦ e | false ↦ introduce img n e ]) (ap (isKind img 13) (found-from img n b e x _ q refl) ∙ h)
 
-  pub var-new : (n b : ℕ) (e : Exit) (x : ℕ) → x ≡ nameOf img n → isKind img 13 (climb img (suc b) (e .table .words) (e .table .symbols) b x) ≡ false → walkIdent img (defines b) n e ≡ introduce img n e
+  pub var-new : (n b : ℕ) (e : Walked) (x : ℕ) → x ≡ nameOf img n → isKind img 13 (climb img (suc b) (e .table .words) (e .table .symbols) b x) ≡ false → walkIdent img (defines b) n e ≡ introduce img n e
   unfolding walkIdent
-  var-new n b e x q h = ap (λ (v : Bool). elim v as (λ _. Exit) [ true ↦ e | false ↦ introduce img n e ]) (ap (isKind img 13) (found-from img n b e x _ q refl) ∙ h)
+  var-new n b e x q h = ap (λ (v : Bool). elim v as (λ _. Walked) [ true ↦ e | false ↦ introduce img n e ]) (ap (isKind img 13) (found-from img n b e x _ q refl) ∙ h)
 
   -- only an ident's walk goes by the role
-  free-plain : {fs : List Field} {n : ℕ} (r : Role) (e : Exit) → Is img (kindBy (inner plain) fs) n → walk img r (treeAt img n) e ≡ over img n e
+  free-plain : {fs : List Field} {n : ℕ} (r : Role) (e : Walked) → Is img (kindBy (inner plain) fs) n → walk img r (treeAt img n) e ≡ over img n e
   unfolding walk nodeOf
   free-plain {fs} {n} r e is = subst (λ (u : Tree). walk img r u e ≡ walk img occurs u e) (sym (tree-of img is)) refl
 
-  free-member : {n : ℕ} (r : Role) (e : Exit) → Is img (kindOf 17) n → walk img r (treeAt img n) e ≡ over img n e
+  free-member : {n : ℕ} (r : Role) (e : Walked) → Is img (kindOf 17) n → walk img r (treeAt img n) e ≡ over img n e
   unfolding walk nodeOf kindOf
   free-member {n} r e is = subst (λ (u : Tree). walk img r u e ≡ walk img occurs u e) (sym (tree-of img is)) refl
 
-  free-case : {n : ℕ} (r : Role) (e : Exit) (c : ℕ) → Is img (kindOf 12) n → c ≡ field img n 0 → eqb (getD termKinds c noChild) noChild ≡ false
+  free-case : {n : ℕ} (r : Role) (e : Walked) (c : ℕ) → Is img (kindOf 12) n → c ≡ field img n 0 → eqb (getD termKinds c noChild) noChild ≡ false
       → (Is img (kindOf (getD termKinds c noChild)) (field img n 1) → walk img r (treeAt img (field img n 1)) e ≡ over img (field img n 1) e) → inside img r n e ≡ inside img occurs n e
   free-case {n} r e c is q s f =
       let k = term-case img {e = e} r is c q refl s in
       let l = term-case img {e = e} occurs is c q refl s in
       k .inner ∙ f (k .is) ∙ sym (l .inner)
 
-  pub free-inside : {n : ℕ} (r : Role) (e : Exit) → Is img (kindOf 12) n → (field img n 0 ≡ 0 → ⊥) → inside img r n e ≡ inside img occurs n e
+  pub free-inside : {n : ℕ} (r : Role) (e : Walked) → Is img (kindOf 12) n → (field img n 0 ≡ 0 → ⊥) → inside img r n e ≡ inside img occurs n e
   unfolding kindOf
   free-inside {n} r e is z = go (field img n 0) refl (term-last img is) z
     where
@@ -80,12 +80,12 @@ module _ (img : List ℕ) where
       go (suc (suc (suc (suc (suc (suc (suc zero))))))) q l y = free-case r e 7 is q refl (free-plain r e)
       go (suc (suc (suc (suc (suc (suc (suc (suc c)))))))) q l y = absurd (omega arith)
 
-  pub record VarIdent (b n d : ℕ) (e : Exit) : Type 0 where
+  pub record VarIdent (b n d : ℕ) (e : Walked) : Type 0 where
     pub is : Is img (kindOf 13) d
     pub room : Room img (walkIdent img (defines b) d e)
     pub inner : inside img (defines b) n e ≡ marked img d (e .scope) (walkIdent img (defines b) d e)
 
-  pub var-ident : {b n d : ℕ} {e : Exit} → Variable img b n e → 0 ≡ field img n 0 → d ≡ field img n 1 → VarIdent b n d e
+  pub var-ident : {b n d : ℕ} {e : Walked} → Variable img b n e → 0 ≡ field img n 0 → d ≡ field img n 1 → VarIdent b n d e
   var-ident {b} {n} {d} {e} p q q2 =
       let k = term-case img {e = e} (defines b) (p .is) 0 q q2 refl in
       let i = k .inner ∙ ident-step img (defines b) e (k .is) in
@@ -95,17 +95,17 @@ module _ (img : List ℕ) where
         inner = i;
       }
 
-  pub var-other : {b n : ℕ} {e : Exit} → Variable img b n e → (field img n 0 ≡ 0 → ⊥) → (Ready img (kindOf 12) n e) × (inside img (defines b) n e ≡ inside img occurs n e)
+  pub var-other : {b n : ℕ} {e : Walked} → Variable img b n e → (field img n 0 ≡ 0 → ⊥) → (Ready img (kindOf 12) n e) × (inside img (defines b) n e ≡ inside img occurs n e)
   var-other {b} {n} {e} p z =
       let f = free-inside (defines b) e (p .is) z in
       (record { is = p .is; room = subst (Room img) (term-whole-as img (defines b) e (p .is) ∙ ap (marked img n (e .scope)) f ∙ sym (term-whole img e (p .is))) (p .room) }, f)
 
-  declares-ident : (n : ℕ) (e : Exit) → walkIdent img declares n e ≡ walkIdent img (defines (e .scope)) n e
+  declares-ident : (n : ℕ) (e : Walked) → walkIdent img declares n e ≡ walkIdent img (defines (e .scope)) n e
   unfolding walkIdent
   declares-ident n e = refl
 
   -- an if-var's ident is looked up from where it stands
-  pub declares-as : {n : ℕ} (e : Exit) → Is img (kindOf 12) n → walk img declares (treeAt img n) e ≡ walk img (defines (e .scope)) (treeAt img n) e
+  pub declares-as : {n : ℕ} (e : Walked) → Is img (kindOf 12) n → walk img declares (treeAt img n) e ≡ walk img (defines (e .scope)) (treeAt img n) e
   declares-as {n} e is = term-whole-as img declares e is ∙ ap (marked img n (e .scope)) (go (field img n 0) refl) ∙ sym (term-whole-as img (defines (e .scope)) e is)
     where
       go : (c : ℕ) → c ≡ field img n 0 → inside img declares n e ≡ inside img (defines (e .scope)) n e
@@ -116,16 +116,16 @@ module _ (img : List ℕ) where
       go (suc c) q = free-inside declares e is (λ h. let z : suc c ≡ 0 = q ∙ h in omega arith) ∙ sym (free-inside (defines (e .scope)) e is (λ h. let z : suc c ≡ 0 = q ∙ h in omega arith))
 
   -- an if-var: its type, then its term -----------------------------------------------------------------------------
-  pub record IfVar (n c d : ℕ) (e : Exit) : Type 0 where
+  pub record IfVar (n c d : ℕ) (e : Walked) : Type 0 where
     pub first : Ready img (kindOf 23) d e
     pub second : Variable img ((over img d e) .scope) c (over img d e)
     pub whole : over img n e ≡ marked img n (e .scope) (walk img declares (treeAt img c) (over img d e))
 
-  ifVar-whole : {n : ℕ} (e : Exit) → Is img (kindOf 33) n → over img n e ≡ marked img n (e .scope) (walk img declares (treeAt img (field img n 0)) (over img (field img n 1) e))
+  ifVar-whole : {n : ℕ} (e : Walked) → Is img (kindOf 33) n → over img n e ≡ marked img n (e .scope) (walk img declares (treeAt img (field img n 0)) (over img (field img n 1) e))
   unfolding walk nodeOf kindOf
   ifVar-whole e is = ap (λ (u : Tree). walk img occurs u e) (tree-of img is)
 
-  pub ifVarOf : {n c d : ℕ} {e : Exit} → Ready img (kindOf 33) n e → c ≡ field img n 0 → d ≡ field img n 1 → IfVar n c d e
+  pub ifVarOf : {n c d : ℕ} {e : Walked} → Ready img (kindOf 33) n e → c ≡ field img n 0 → d ≡ field img n 1 → IfVar n c d e
   unfolding FormedFields next kindOf
   ifVarOf {n} {c} {d} {e} p q r =
       let h : Child img n 12 (field img n 0) = (row img (p .is)) .0 in
@@ -141,7 +141,7 @@ module _ (img : List ℕ) where
       }))
 
   -- a defined-then: its term, then its variable, if it has one -------------------------------------------------------
-  pub record Defined (n d : ℕ) (e : Exit) : Type 0 where
+  pub record Defined (n d : ℕ) (e : Walked) : Type 0 where
     pub first : Ready img (kindOf 12) d e
     pub whole : field img n 0 ≡ 0 → over img n e ≡ marked img n (e .scope) (over img d e)
     pub second : (m : ℕ) → field img n 0 ≡ suc m → Variable img (e .scope) m (over img d e)
@@ -151,19 +151,19 @@ module _ (img : List ℕ) where
   definedKids : ℕ → ℕ → Trees
   definedKids n x = swap (append (elim x [ zero ↦ none | suc m ↦ treeAt img m ◂ none ]) (treeAt img (field img n 1) ◂ none))
 
-  defined-whole : {n : ℕ} (e : Exit) → Is img (kindOf 34) n → over img n e ≡ marked img n (e .scope) (walkFirst img (defines (e .scope)) (definedKids n (field img n 0)) e)
+  defined-whole : {n : ℕ} (e : Walked) → Is img (kindOf 34) n → over img n e ≡ marked img n (e .scope) (walkFirst img (defines (e .scope)) (definedKids n (field img n 0)) e)
   unfolding walk nodeOf kindOf definedKids
   defined-whole e is = ap (λ (u : Tree). walk img occurs u e) (tree-of img is)
 
-  defined-none : (n : ℕ) (e : Exit) → walkFirst img (defines (e .scope)) (definedKids n 0) e ≡ over img (field img n 1) e
+  defined-none : (n : ℕ) (e : Walked) → walkFirst img (defines (e .scope)) (definedKids n 0) e ≡ over img (field img n 1) e
   unfolding walk definedKids append swap
   defined-none n e = refl
 
-  defined-some : (n m : ℕ) (e : Exit) → walkFirst img (defines (e .scope)) (definedKids n (suc m)) e ≡ walk img (defines (e .scope)) (treeAt img m) (over img (field img n 1) e)
+  defined-some : (n m : ℕ) (e : Walked) → walkFirst img (defines (e .scope)) (definedKids n (suc m)) e ≡ walk img (defines (e .scope)) (treeAt img m) (over img (field img n 1) e)
   unfolding walk definedKids append swap
   defined-some n m e = refl
 
-  pub definedOf : {n d : ℕ} {e : Exit} → Ready img (kindOf 34) n e → d ≡ field img n 1 → Defined n d e
+  pub definedOf : {n d : ℕ} {e : Walked} → Ready img (kindOf 34) n e → d ≡ field img n 1 → Defined n d e
   unfolding FormedFields next kindOf
   definedOf {n} {d} {e} p q =
       subst (λ (x : ℕ). Defined n x e) (sym q)
@@ -191,7 +191,7 @@ module _ (img : List ℕ) where
       go (suc m) s = part-room img p (w1 m s) (tree-grows img _ _ _)
 
   -- a type expression that is no member
-  pub type-leaf : {n d : ℕ} (e : Exit) → Ready img (kindOf 23) n e → (field img n 0 ≡ 1 → ⊥) → d ≡ field img n 1 → inside img occurs n e ≡ marked img d (e .scope) e
+  pub type-leaf : {n d : ℕ} (e : Walked) → Ready img (kindOf 23) n e → (field img n 0 ≡ 1 → ⊥) → d ≡ field img n 1 → inside img occurs n e ≡ marked img d (e .scope) e
   unfolding kindOf
   type-leaf {n} {d} e p z q2 = go (field img n 0) refl (plain-last (24 ∷ 17 ∷ 25 ∷ []) (p .is)) z
     where

@@ -9,8 +9,8 @@ use Rattle.ast.specs.Image.{nodes, nameOf}
 use Rattle.ast.specs.Kinds.{outer, inner, plain, term, ident, head, headMember, member, case, ifVar, definedThen, arg}
 use Rattle.ast.specs.Tree.{Tree, node, block, Trees, none, _◂_}
 use Rattle.table.specs.Layout.{allOnes}
-use Rattle.table.specs.Rows.{scopeOf, Sorted}
-use Rattle.table.specs.State.{Exit, introduce, childScope, ownSymbol, marked, unmarked, back}
+use Rattle.table.specs.Rising.{scopeOf, Sorted}
+use Rattle.table.specs.State.{Walked, introduce, childScope, ownSymbol, marked, unmarked, back}
 use Rattle.table.specs.Table.{lookup, isKind, isValue, mark, newScope, newSymbol}
 use Rattle.ast.proofs.Small.{Small, Smalls}
 use Rattle.ordered.specs.Walk.{Role, occurs, declares, names, defines, walkIdent, headRole, walkArg, walk, walkSeq, walkFirst}
@@ -20,7 +20,7 @@ use Rattle.ordered.proofs.Kept.{past, mark-past, scope-past, symbol-pas
 
 -- from e to f, whose counts are within the arrays: the rows of e stay, so do the words past the table, and what is kept of a
 -- table is kept
-pub record Grows (img : List ℕ) (e f : Exit) : Type 0 where
+pub record Grows (img : List ℕ) (e f : Walked) : Type 0 where
   pub scopes : e .table .scopes ≤ f .table .scopes
   pub symbols : e .table .symbols ≤ f .table .symbols
   pub long : length (f .table .words) ≡ length (e .table .words)
@@ -28,18 +28,18 @@ pub record Grows (img : List ℕ) (e f : Exit) : Type 0 where
   pub passed : Few img (f .table) → past img (f .table) ≡ past img (e .table)
   pub kept : Few img (f .table) → Kept img (e .table) → Kept img (f .table)
 
-pub few-below : {img : List ℕ} {e f : Exit} → Grows img e f → Few img (f .table) → Few img (e .table)
+pub few-below : {img : List ℕ} {e f : Walked} → Grows img e f → Few img (f .table) → Few img (e .table)
 few-below h q = let a = h .scopes in let b = h .symbols in record { scopes = omega arith; symbols = omega arith }
 
 -- rows of rising scope were so before
-pub sorted-below : {img : List ℕ} {e f : Exit} → Grows img e f → Few img (f .table) → Sorted (nodes img) (f .table .symbols) (f .table .words) → Sorted (nodes img) (e .table .symbols) (e .table .words)
+pub sorted-below : {img : List ℕ} {e f : Walked} → Grows img e f → Few img (f .table) → Sorted (nodes img) (f .table .symbols) (f .table .words) → Sorted (nodes img) (e .table .symbols) (e .table .words)
 sorted-below h q s =
     record { within = (let y = h .symbols in let z = s .within in omega arith); long = (let y = h .long in let z = s .long in omega arith); rises = λ i j a b. let y = h .symbols in let u = h .rows q i (omega arith) in let v = h .rows q j b in let z = s .rises i j a (omega arith) in omega arith }
 
-pub stays : {img : List ℕ} (e : Exit) → Grows img e e
+pub stays : {img : List ℕ} (e : Walked) → Grows img e e
 stays e = record { scopes = omega arith; symbols = omega arith; long = refl; rows = λ q j l. refl; passed = λ q. refl; kept = λ q s. s }
 
-pub further : {img : List ℕ} {e f g : Exit} → Grows img e f → Grows img f g → Grows img e g
+pub further : {img : List ℕ} {e f g : Walked} → Grows img e f → Grows img f g → Grows img e g
 further h k =
     record {
       scopes = (let a = h .scopes in let b = k .scopes in omega arith);
@@ -51,7 +51,7 @@ further h k =
     }
 
 module _ (img : List ℕ) where
-  pub introduces : (n : ℕ) (e : Exit) → Grows img e (introduce img n e)
+  pub introduces : (n : ℕ) (e : Walked) → Grows img e (introduce img n e)
   unfolding introduce childScope ownSymbol newScope newSymbol
   introduces n e =
       record {
@@ -63,34 +63,34 @@ module _ (img : List ℕ) where
         kept = λ q s. symbol-kept img (e .table .scopes) n (newScope img (e .scope) (e .table)) (let a = q .symbols in omega arith) (let z : suc (e .table .scopes) ≡ e .table .scopes + 1 = omega arith in z) (scope-kept img (e .scope) (e .table) (let a = q .scopes in omega arith) s);
       }
 
-  marks : {n : ℕ} → n < nodes img → (a b s : ℕ) (e : Exit) → Grows img e (record { scope = s; table = mark img n a b (e .table) })
+  marks : {n : ℕ} → n < nodes img → (a b s : ℕ) (e : Walked) → Grows img e (record { scope = s; table = mark img n a b (e .table) })
   unfolding mark
   marks {n} h a b s e =
       record { scopes = omega arith; symbols = omega arith; long = mark-length img n a b (e .table); rows = λ q j l. mark-rows img n a b (e .table) h j; passed = λ q. mark-past img n a b (e .table) h; kept = λ q d. mark-kept img n a b (e .table) h d }
 
-  pick-grows : (b : Bool) (n : ℕ) (e : Exit) → Grows img e (elim b [ true ↦ e | false ↦ introduce img n e ])
+  pick-grows : (b : Bool) (n : ℕ) (e : Walked) → Grows img e (elim b [ true ↦ e | false ↦ introduce img n e ])
   pick-grows true n e = stays e
   pick-grows false n e = introduces n e
 
-  pub ident-grows : (r : Role) (n : ℕ) (e : Exit) → Grows img e (walkIdent img r n e)
+  pub ident-grows : (r : Role) (n : ℕ) (e : Walked) → Grows img e (walkIdent img r n e)
   unfolding walkIdent
   ident-grows occurs n e = pick-grows (isValue img (lookup img (e .table) (e .scope) (nameOf img n))) n e
   ident-grows declares n e = pick-grows (isKind img 13 (lookup img (e .table) (e .scope) (nameOf img n))) n e
   ident-grows names n e = stays e
   ident-grows (defines b) n e = pick-grows (isKind img 13 (lookup img (e .table) b (nameOf img n))) n e
 
-  pub marked-grows : {n : ℕ} → n < nodes img → (cur : ℕ) {e f : Exit} → Grows img e f → Grows img e (marked img n cur f)
+  pub marked-grows : {n : ℕ} → n < nodes img → (cur : ℕ) {e f : Walked} → Grows img e f → Grows img e (marked img n cur f)
   unfolding marked
   marked-grows l cur {e} {f} h = further h (marks l cur (f .scope) (f .scope) f)
 
-  pub unmarked-grows : {n : ℕ} → n < nodes img → {e f : Exit} → Grows img e f → Grows img e (unmarked img n f)
+  pub unmarked-grows : {n : ℕ} → n < nodes img → {e f : Walked} → Grows img e f → Grows img e (unmarked img n f)
   unfolding unmarked
   unmarked-grows l {e} {f} h = further h (marks l allOnes allOnes (f .scope) f)
 
-  pub back-grows : (cur : ℕ) {e f : Exit} → Grows img e f → Grows img e (back img cur f)
+  pub back-grows : (cur : ℕ) {e f : Walked} → Grows img e f → Grows img e (back img cur f)
   back-grows cur h = record { scopes = h .scopes; symbols = h .symbols; long = h .long; rows = h .rows; passed = h .passed; kept = h .kept }
 
-  pub arg-grows : (n : ℕ) (sh : List ℕ) {e f : Exit} → Grows img e f → Grows img e (walkArg img n sh f)
+  pub arg-grows : (n : ℕ) (sh : List ℕ) {e f : Walked} → Grows img e f → Grows img e (walkArg img n sh f)
   unfolding walkArg
   arg-grows n [] h = h
   arg-grows n (zero ∷ sh) h = h
@@ -99,7 +99,7 @@ module _ (img : List ℕ) where
   mutual
     unfolding walk Small
 
-    pub walk-grows : (r : Role) (u : Tree) → Small (nodes img) u → (e : Exit) → Grows img e (walk img r u e)
+    pub walk-grows : (r : Role) (u : Tree) → Small (nodes img) u → (e : Walked) → Grows img e (walk img r u e)
     walk-grows r (block ts) q e = back-grows (e .scope) (seq-grows occurs ts q e)
     walk-grows r (node n k (outer o) sh ts) q e = stays e
     walk-grows r (node n k (inner plain) sh ts) q e = marked-grows (q .0) (e .scope) (seq-grows occurs ts (q .1) e)
@@ -113,10 +113,10 @@ module _ (img : List ℕ) where
     walk-grows r (node n k (inner definedThen) sh ts) q e = marked-grows (q .0) (e .scope) (first-grows (defines (e .scope)) ts (q .1) e)
     walk-grows r (node n k (inner arg) sh ts) q e = marked-grows (q .0) (e .scope) (arg-grows n sh (seq-grows occurs ts (q .1) e))
 
-    pub seq-grows : (r : Role) (us : Trees) → Smalls (nodes img) us → (e : Exit) → Grows img e (walkSeq img r us e)
+    pub seq-grows : (r : Role) (us : Trees) → Smalls (nodes img) us → (e : Walked) → Grows img e (walkSeq img r us e)
     seq-grows r none q e = stays e
     seq-grows r (u ◂ us) q e = further (walk-grows r u (q .0) e) (seq-grows r us (q .1) (walk img r u e))
 
-    pub first-grows : (r : Role) (us : Trees) → Smalls (nodes img) us → (e : Exit) → Grows img e (walkFirst img r us e)
+    pub first-grows : (r : Role) (us : Trees) → Smalls (nodes img) us → (e : Walked) → Grows img e (walkFirst img r us e)
     first-grows r none q e = stays e
     first-grows r (u ◂ us) q e = further (walk-grows occurs u (q .0) e) (seq-grows r us (q .1) (walk img occurs u e))

@@ -9,7 +9,7 @@ use lib.ListN.{length, set, drop, length-set}
 use lib.Seq.{drop-set-lt}
 use Rattle.ast.specs.Image.{nodes}
 use Rattle.table.specs.Layout.{entryPlace, exitPlace, parentPlace, scopePlace, nodePlace, tableLength}
-use Rattle.table.specs.Rows.{scopeOf}
+use Rattle.table.specs.Rising.{scopeOf}
 use Rattle.table.specs.Table.{Table, mark, newScope, newSymbol}
 use Rattle.table.proofs.Frames.{mark-word, scope-word, symbol-word, symbol-scope}
 use Rattle.ordered.specs.Kept.{Kept}

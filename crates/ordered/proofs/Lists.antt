@@ -10,7 +10,7 @@ use Rattle.ast.specs.Items.{items}
 use Rattle.ast.specs.Is.{Is, kindBy}
 use Rattle.ast.specs.Kinds.{inner, plain, list, kindOf}
 use Rattle.ast.specs.Tree.{Tree, Trees, treeAt}
-use Rattle.table.specs.State.{Exit, marked, unmarked}
+use Rattle.table.specs.State.{Walked, marked, unmarked}
 use Rattle.ast.proofs.Row.{append-none, Child, FormedFields, next, nodeOf}
 use Rattle.ast.proofs.Shapes.{row, tree-of, child-is, items-more, run-item, run-list}
 use Rattle.ast.proofs.Small.{items-small}
@@ -20,41 +20,41 @@ use Rattle.ordered.proofs.Grows.{Grows, stays, unmarked-grows, seq-grow
 use Rattle.ordered.proofs.Steps.{room-in, part-room, name-step}
 
 -- a loop over items: after i of them it stands at f, and what is left from there is the whole
-pub record Left (img : List ℕ) (r : Role) (n j count i : ℕ) (e f : Exit) : Type 0 where
+pub record Left (img : List ℕ) (r : Role) (n j count i : ℕ) (e f : Walked) : Type 0 where
   pub within : i ≤ count
   pub long : length (f .table .words) ≡ length (e .table .words)
   pub left : rest img r n j count 0 e ≡ rest img r n j count i f
 
 module _ (img : List ℕ) where
-  pub rest-more : (r : Role) (n j count i : ℕ) (e : Exit) → i < count → rest img r n j count i e ≡ rest img r n j count (i + 1) (walk img r (treeAt img (field img n (j + i))) e)
+  pub rest-more : (r : Role) (n j count i : ℕ) (e : Walked) → i < count → rest img r n j count i e ≡ rest img r n j count (i + 1) (walk img r (treeAt img (field img n (j + i))) e)
   unfolding rest walk
   rest-more r n j count i e h = ap (λ (us : Trees). walkSeq img r us e) (items-more img n j count i h)
 
-  pub rest-end : (r : Role) (n j count i : ℕ) (e : Exit) → count ≤ i → rest img r n j count i e ≡ e
+  pub rest-end : (r : Role) (n j count i : ℕ) (e : Walked) → count ≤ i → rest img r n j count i e ≡ e
   unfolding rest walk
   rest-end r n j count i e h = let z : count - i ≡ 0 = omega arith in rw (z, rest)
 
-  pub rest-grows : (r : Role) (n j count i : ℕ) (e : Exit) → Grows img e (rest img r n j count i e)
+  pub rest-grows : (r : Role) (n j count i : ℕ) (e : Walked) → Grows img e (rest img r n j count i e)
   unfolding rest
   rest-grows r n j count i e = seq-grows img r _ (items-small img n (count - i) (j + i)) e
 
-  pub list-whole : {k n : ℕ} (e : Exit) → Is img (kindBy (inner plain) (list k ∷ [])) n → over img n e ≡ marked img n (e .scope) (rest img occurs n 1 (field img n 0) 0 e)
+  pub list-whole : {k n : ℕ} (e : Walked) → Is img (kindBy (inner plain) (list k ∷ [])) n → over img n e ≡ marked img n (e .scope) (rest img occurs n 1 (field img n 0) 0 e)
   unfolding walk nodeOf rest
   list-whole {k} {n} e is =
       ap (λ (u : Tree). walk img occurs u e) (tree-of img is)
       ∙ ap (λ (us : Trees). marked img n (e .scope) (walkSeq img occurs us e)) (append-none _ ∙ ap (λ (c : ℕ). items img n c 1) (sym (sub-zero (field img n 0))))
 
-  pub rest-start : (r : Role) (n j count : ℕ) (e : Exit) → walkSeq img r (items img n count j) e ≡ rest img r n j count 0 e
+  pub rest-start : (r : Role) (n j count : ℕ) (e : Walked) → walkSeq img r (items img n count j) e ≡ rest img r n j count 0 e
   unfolding rest
   rest-start r n j count e = ap (λ (us : Trees). walkSeq img r us e) (ap (λ (c : ℕ). items img n c j) (sym (sub-zero count)) ∙ ap (items img n (count - 0)) (sym (add-zero j)))
 
   -- a run of items: one of them, walked from f, where what is left from there is the whole ---------------------------
-  pub record RunItem (k n j count i c : ℕ) (e f : Exit) : Type 0 where
+  pub record RunItem (k n j count i c : ℕ) (e f : Walked) : Type 0 where
     pub low : c < n
     pub ready : Ready img (kindOf k) c f
     pub more : rest img occurs n j count 0 e ≡ rest img occurs n j count (i + 1) (over img c f)
 
-  pub runItem : {k n j count i c : ℕ} {e f : Exit} → ReadyRun img k n j count e → i < count → c ≡ field img n (j + i)
+  pub runItem : {k n j count i c : ℕ} {e f : Walked} → ReadyRun img k n j count e → i < count → c ≡ field img n (j + i)
       → rest img occurs n j count 0 e ≡ rest img occurs n j count i f → RunItem k n j count i c e f
   runItem {k} {n} {j} {count} {i} {c} {e} {f} p l q w =
       let h = run-item img (p .run) l refl in
@@ -67,24 +67,24 @@ module _ (img : List ℕ) where
       })
 
   -- a plain list as a run of its items
-  pub list-run : {k n count : ℕ} {e : Exit} → Ready img (kindBy (inner plain) (list k ∷ [])) n e → count ≡ field img n 0 → ReadyRun img k n 1 count e
+  pub list-run : {k n count : ℕ} {e : Walked} → Ready img (kindBy (inner plain) (list k ∷ [])) n e → count ≡ field img n 0 → ReadyRun img k n 1 count e
   list-run {k} {n} {count} {e} p q =
       subst (λ (x : ℕ). ReadyRun img k n 1 x e) (sym q)
       (record { run = run-list img (p .is) refl; room = part-room img p (list-whole e (p .is)) (stays _) })
 
   -- an app head's member: a term, and names that introduce nothing -----------------------------------------------------
-  pub record HeadMember (n c : ℕ) (e : Exit) : Type 0 where
+  pub record HeadMember (n c : ℕ) (e : Walked) : Type 0 where
     pub low : c < n
     pub first : Ready img (kindOf 12) c e
     pub whole : over img n e ≡ unmarked img n (rest img names n 2 (field img n 1) 0 (over img c e))
 
-  headMember-whole : {n : ℕ} (e : Exit) → Is img (kindOf 16) n → over img n e ≡ unmarked img n (rest img names n 2 (field img n 1) 0 (over img (field img n 0) e))
+  headMember-whole : {n : ℕ} (e : Walked) → Is img (kindOf 16) n → over img n e ≡ unmarked img n (rest img names n 2 (field img n 1) 0 (over img (field img n 0) e))
   unfolding walk nodeOf kindOf rest
   headMember-whole {n} e is =
       ap (λ (u : Tree). walk img occurs u e) (tree-of img is)
       ∙ ap (λ (us : Trees). unmarked img n (walkSeq img names us (over img (field img n 0) e))) (append-none _ ∙ ap (λ (c : ℕ). items img n c 2) (sym (sub-zero (field img n 1))))
 
-  pub headMemberOf : {n c : ℕ} {e : Exit} → Ready img (kindOf 16) n e → c ≡ field img n 0 → HeadMember n c e
+  pub headMemberOf : {n c : ℕ} {e : Walked} → Ready img (kindOf 16) n e → c ≡ field img n 0 → HeadMember n c e
   unfolding FormedFields kindOf
   headMemberOf {n} {c} {e} p q =
       let h : Child img n 12 (field img n 0) = (row img (p .is)) .0 in
@@ -97,7 +97,7 @@ module _ (img : List ℕ) where
       })
 
   -- a name of it, marked
-  pub name-more : {n i c : ℕ} (e f : Exit) → Is img (kindOf 16) n → i < field img n 1 → c ≡ field img n (2 + i)
+  pub name-more : {n i c : ℕ} (e f : Walked) → Is img (kindOf 16) n → i < field img n 1 → c ≡ field img n (2 + i)
       → rest img names n 2 (field img n 1) 0 e ≡ rest img names n 2 (field img n 1) i f
       → rest img names n 2 (field img n 1) 0 e ≡ rest img names n 2 (field img n 1) (i + 1) (marked img c (f .scope) f)
   unfolding FormedFields next kindOf

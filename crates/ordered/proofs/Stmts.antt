@@ -9,7 +9,7 @@ use Rattle.ast.specs.Is.{Is}
 use Rattle.ast.specs.Items.{items, blocks}
 use Rattle.ast.specs.Kinds.{kindOf}
 use Rattle.ast.specs.Tree.{Tree, Trees}
-use Rattle.table.specs.State.{Exit, marked, back}
+use Rattle.table.specs.State.{Walked, marked, back}
 use Rattle.ast.proofs.Row.{append-none, next, nodeOf, Child, FormedFields}
 use Rattle.ast.proofs.Shapes.{one-more, row, tree-of, child-is, run-tail}
 use Rattle.ast.proofs.Small.{blocks-small}
@@ -22,23 +22,23 @@ use Rattle.ordered.proofs.Lists.{rest-start, rest-grows}
 
 module _ (img : List ℕ) where
   -- a match case: its pattern, then its statements ------------------------------------------------------------------
-  case-whole : {n : ℕ} (e : Exit) → Is img (kindOf 35) n → over img n e ≡ marked img n (e .scope) (back img (e .scope) (walkSeq img occurs (items img n (field img n 1) 2) (over img (field img n 0) e)))
+  case-whole : {n : ℕ} (e : Walked) → Is img (kindOf 35) n → over img n e ≡ marked img n (e .scope) (back img (e .scope) (walkSeq img occurs (items img n (field img n 1) 2) (over img (field img n 0) e)))
   unfolding walk nodeOf kindOf
   case-whole {n} e is =
       ap (λ (u : Tree). walk img occurs u e) (tree-of img is)
       ∙ ap (λ (us : Trees). marked img n (e .scope) (back img (e .scope) (walkSeq img occurs us (over img (field img n 0) e)))) (append-none (items img n (field img n 1) 2))
 
-  pub record MatchCase (n c count : ℕ) (e : Exit) : Type 0 where
+  pub record MatchCase (n c count : ℕ) (e : Walked) : Type 0 where
     pub low : c < n
     pub first : Ready img (kindOf 12) c e
     pub second : ReadyRun img 36 n 2 count (over img c e)
     pub whole : over img n e ≡ marked img n (e .scope) (back img (e .scope) (rest img occurs n 2 count 0 (over img c e)))
 
-  pub matchCase : {n c count : ℕ} {e : Exit} → Ready img (kindOf 35) n e → c ≡ field img n 0 → count ≡ field img n 1 → MatchCase n c count e
+  pub matchCase : {n c count : ℕ} {e : Walked} → Ready img (kindOf 35) n e → c ≡ field img n 0 → count ≡ field img n 1 → MatchCase n c count e
   unfolding FormedFields next kindOf
   matchCase {n} {c} {count} {e} p q r =
       let h : Child img n 12 (field img n 0) = (row img (p .is)) .0 in
-      let w = case-whole e (p .is) ∙ ap (λ (f : Exit). marked img n (e .scope) (back img (e .scope) f)) (rest-start img occurs n 2 (field img n 1) (over img (field img n 0) e)) in
+      let w = case-whole e (p .is) ∙ ap (λ (f : Walked). marked img n (e .scope) (back img (e .scope) f)) (rest-start img occurs n 2 (field img n 1) (over img (field img n 0) e)) in
       subst (λ (x : ℕ). MatchCase n x count e) (sym q) (subst (λ (x : ℕ). MatchCase n (field img n 0) x e) (sym r)
       (record {
         low = h .below;
@@ -48,19 +48,19 @@ module _ (img : List ℕ) where
       }))
 
   -- a match: its term, then its cases, each of which drops what it adds ------------------------------------------------
-  pub record MatchOf (n c : ℕ) (e : Exit) : Type 0 where
+  pub record MatchOf (n c : ℕ) (e : Walked) : Type 0 where
     pub low : c < n
     pub first : Ready img (kindOf 12) c e
     pub second : ReadyRun img 35 n 2 (field img n 1) (over img c e)
     pub whole : over img n e ≡ marked img n (e .scope) (rest img occurs n 2 (field img n 1) 0 (over img c e))
 
-  match-whole : {n : ℕ} (e : Exit) → Is img (kindOf 40) n → over img n e ≡ marked img n (e .scope) (walkSeq img occurs (items img n (field img n 1) 2) (over img (field img n 0) e))
+  match-whole : {n : ℕ} (e : Walked) → Is img (kindOf 40) n → over img n e ≡ marked img n (e .scope) (walkSeq img occurs (items img n (field img n 1) 2) (over img (field img n 0) e))
   unfolding walk nodeOf kindOf
   match-whole {n} e is =
       ap (λ (u : Tree). walk img occurs u e) (tree-of img is)
       ∙ ap (λ (us : Trees). marked img n (e .scope) (walkSeq img occurs us (over img (field img n 0) e))) (append-none (items img n (field img n 1) 2))
 
-  pub matchOf : {n c : ℕ} {e : Exit} → Ready img (kindOf 40) n e → c ≡ field img n 0 → MatchOf n c e
+  pub matchOf : {n c : ℕ} {e : Walked} → Ready img (kindOf 40) n e → c ≡ field img n 0 → MatchOf n c e
   unfolding FormedFields next kindOf
   matchOf {n} {c} {e} p q =
       let h : Child img n 12 (field img n 0) = (row img (p .is)) .0 in
@@ -74,42 +74,42 @@ module _ (img : List ℕ) where
       })
 
   -- a branch: each block from the scope before it --------------------------------------------------------------------
-  pub branch-whole : {n : ℕ} (e : Exit) → Is img (kindOf 39) n → over img n e ≡ marked img n (e .scope) (walkSeq img occurs (blocks img n (field img n 0) 1) e)
+  pub branch-whole : {n : ℕ} (e : Walked) → Is img (kindOf 39) n → over img n e ≡ marked img n (e .scope) (walkSeq img occurs (blocks img n (field img n 0) 1) e)
   unfolding walk nodeOf kindOf
   branch-whole {n} e is =
       ap (λ (u : Tree). walk img occurs u e) (tree-of img is)
       ∙ ap (λ (us : Trees). marked img n (e .scope) (walkSeq img occurs us e)) (append-none (blocks img n (field img n 0) 1))
 
-  blocks-grows : (n c j : ℕ) (e : Exit) → Grows img e (walkSeq img occurs (blocks img n c j) e)
+  blocks-grows : (n c j : ℕ) (e : Walked) → Grows img e (walkSeq img occurs (blocks img n c j) e)
   blocks-grows n c j e = seq-grows img occurs _ (blocks-small img n c j) e
 
-  blocks-step : (n c j : ℕ) (e : Exit) → walkSeq img occurs (blocks img n (suc c) j) e ≡ walkSeq img occurs (blocks img n c (j + 1 + field img n j)) (back img (e .scope) (rest img occurs n (j + 1) (field img n j) 0 e))
+  blocks-step : (n c j : ℕ) (e : Walked) → walkSeq img occurs (blocks img n (suc c) j) e ≡ walkSeq img occurs (blocks img n c (j + 1 + field img n j)) (back img (e .scope) (rest img occurs n (j + 1) (field img n j) 0 e))
   unfolding walk blocks
-  blocks-step n c j e = ap (λ (f : Exit). walkSeq img occurs (blocks img n c (j + 1 + field img n j)) (back img (e .scope) f)) (rest-start img occurs n (j + 1) (field img n j) e)
+  blocks-step n c j e = ap (λ (f : Walked). walkSeq img occurs (blocks img n c (j + 1 + field img n j)) (back img (e .scope) f)) (rest-start img occurs n (j + 1) (field img n j) e)
 
-  pub blocks-end : (n c j : ℕ) (e : Exit) → c ≡ 0 → walkSeq img occurs (blocks img n c j) e ≡ e
+  pub blocks-end : (n c j : ℕ) (e : Walked) → c ≡ 0 → walkSeq img occurs (blocks img n c j) e ≡ e
   unfolding walk blocks
   blocks-end n c j e h = ap (λ (x : ℕ). walkSeq img occurs (blocks img n x j) e) h
 
   -- a loop over blocks: after i of them it stands at place j and at f
-  pub record BlocksLeft (n i j : ℕ) (e f : Exit) : Type 0 where
+  pub record BlocksLeft (n i j : ℕ) (e f : Walked) : Type 0 where
     pub from : BlocksFrom img n (field img n 0) i j
     pub long : length (f .table .words) ≡ length (e .table .words)
     pub left : walkSeq img occurs (blocks img n (field img n 0) 1) e ≡ walkSeq img occurs (blocks img n (field img n 0 - i) j) f
 
-  pub branch-start : {n : ℕ} {e : Exit} → Is img (kindOf 39) n → BlocksLeft n 0 1 e e
+  pub branch-start : {n : ℕ} {e : Walked} → Is img (kindOf 39) n → BlocksLeft n 0 1 e e
   branch-start {n} {e} is =
       record { from = blocks-from img is refl; long = refl; left = ap (λ (c : ℕ). walkSeq img occurs (blocks img n c 1) e) (sym (sub-zero (field img n 0))) }
 
-  pub branch-place : {n i j : ℕ} {e f : Exit} → BlocksLeft n i j e f → j ≤ 8192
+  pub branch-place : {n i j : ℕ} {e f : Walked} → BlocksLeft n i j e f → j ≤ 8192
   branch-place p = blocks-place img (p .from)
 
   -- one block more, of size s
-  pub record BlockItem (n i j s : ℕ) (e f : Exit) : Type 0 where
+  pub record BlockItem (n i j s : ℕ) (e f : Walked) : Type 0 where
     pub run : ReadyRun img 36 n (j + 1) s f
-    pub more : (g : Exit) → g ≡ back img (f .scope) (rest img occurs n (j + 1) s 0 f) → length (g .table .words) ≡ length (e .table .words) → BlocksLeft n (i + 1) (j + 1 + s) e g
+    pub more : (g : Walked) → g ≡ back img (f .scope) (rest img occurs n (j + 1) s 0 f) → length (g .table .words) ≡ length (e .table .words) → BlocksLeft n (i + 1) (j + 1 + s) e g
 
-  pub blockItem : {n i j s : ℕ} {e f : Exit} → Ready img (kindOf 39) n e → BlocksLeft n i j e f → i < field img n 0 → s ≡ field img n j → BlockItem n i j s e f
+  pub blockItem : {n i j s : ℕ} {e f : Walked} → Ready img (kindOf 39) n e → BlocksLeft n i j e f → i < field img n 0 → s ≡ field img n j → BlockItem n i j s e f
   blockItem {n} {i} {j} {s} {e} {f} p b l q =
       subst (λ (x : ℕ). BlockItem n i j x e f) (sym q)
       (record {

@@ -2,7 +2,7 @@
 use mathlib.Core.List.{List}
 use Prim.Native.Nat.{ℕ, _<_}
 use Rattle.ast.specs.Image.{nodes}
-use Rattle.table.specs.Rows.{scopeOf, Sorted}
+use Rattle.table.specs.Rising.{scopeOf, Sorted}
 use Rattle.table.specs.Table.{Table}
 
 module _ (img : List ℕ) where

@@ -8,21 +8,21 @@ use Rattle.ast.specs.Tree.{treeAt}
 use Rattle.ast.specs.Items.{items, below}
 use Rattle.ast.specs.Is.{Is, Run}
 use Rattle.table.specs.Table.{Table}
-use Rattle.table.specs.Rows.{Sorted}
-use Rattle.table.specs.State.{Exit}
+use Rattle.table.specs.Rising.{Sorted}
+use Rattle.table.specs.State.{Walked}
 use Rattle.ordered.specs.Walk.{Role, occurs, defines, walk, walkSeq}
 
 module _ (img : List ℕ) where
   -- the walk over the tree of node n
-  abbrev pub over : ℕ → Exit → Exit
+  abbrev pub over : ℕ → Walked → Walked
   over n e = walk img occurs (treeAt img n) e
 
   -- the walk over the trees below node n
-  abbrev pub inside : Role → ℕ → Exit → Exit
+  abbrev pub inside : Role → ℕ → Walked → Walked
   inside r n e = walkSeq img r (below (treeAt img n)) e
 
   -- the walk over those of the count items from place j of n's row on that are left after i of them
-  unfoldable pub rest : Role → (n j count i : ℕ) → Exit → Exit
+  unfoldable pub rest : Role → (n j count i : ℕ) → Walked → Walked
   unfolding items
   rest r n j count i e = walkSeq img r (items img n (count - i) (j + i)) e
 
@@ -33,23 +33,23 @@ pub record Few (img : List ℕ) (t : Table) : Type 0 where
 
 -- what a walk keeps: the counts fit a word and the arrays, and the rows stand by rising scope. A walk only appends, so this
 -- holds before it if it holds after it: walkers ask it of their end
-pub record Room (img : List ℕ) (e : Exit) : Type 0 where
+pub record Room (img : List ℕ) (e : Walked) : Type 0 where
   pub scopes : e .table .scopes < 2 ^ 32
   pub symbols : e .table .symbols < 2 ^ 32
   pub few : Few img (e .table)
   pub rising : Sorted (nodes img) (e .table .symbols) (e .table .words)
 
 -- what a walker asks: the node is of its kind, and there is room for the walk over it
-pub record Ready (img : List ℕ) (kd : Kind) (n : ℕ) (e : Exit) : Type 0 where
+pub record Ready (img : List ℕ) (kd : Kind) (n : ℕ) (e : Walked) : Type 0 where
   pub is : Is img kd n
   pub room : Room img (over img n e)
 
 -- the same of the term of a variable that is looked up from the scope b
-pub record Variable (img : List ℕ) (b n : ℕ) (e : Exit) : Type 0 where
+pub record Variable (img : List ℕ) (b n : ℕ) (e : Walked) : Type 0 where
   pub is : Is img (kindOf 12) n
   pub room : Room img (walk img (defines b) (treeAt img n) e)
 
 -- the same of a run of children
-pub record ReadyRun (img : List ℕ) (k n j count : ℕ) (e : Exit) : Type 0 where
+pub record ReadyRun (img : List ℕ) (k n j count : ℕ) (e : Walked) : Type 0 where
   pub run : Run img k n j count
   pub room : Room img (rest img occurs n j count 0 e)

@@ -6,7 +6,7 @@ use Rattle.ast.specs.Image.{nameOf}
 use Rattle.ast.specs.Kinds.{Class, outer, inner, Inner, plain, term, ident, head, headMember, member, case, ifVar, definedThen, arg}
 use Rattle.ast.specs.Tree.{Tree, node, block, Trees, none, _◂_}
 use Rattle.table.specs.Table.{lookup, isKind, isVar, isValue}
-use Rattle.table.specs.State.{Exit, introduce, marked, unmarked, back}
+use Rattle.table.specs.State.{Walked, introduce, marked, unmarked, back}
 
 -- what an IdentTerm does at its place: an ordinary term, an if-var, a defined-then variable (with the scope before the
 -- atom's term), or a name that introduces nothing: an app head's or a member's
@@ -15,7 +15,7 @@ pub data Role : Type 0 where
   defines : ℕ → Role
 
 module _ (img : List ℕ) where
-  unfoldable pub walkIdent : Role → ℕ → Exit → Exit
+  unfoldable pub walkIdent : Role → ℕ → Walked → Walked
   unfolding lookup isKind isValue introduce
   walkIdent occurs i e = elim (isValue img (lookup img (e .table) (e .scope) (nameOf img i))) [ true ↦ e | false ↦ introduce img i e ]
   walkIdent declares i e = elim (isVar img (lookup img (e .table) (e .scope) (nameOf img i))) [ true ↦ e | false ↦ introduce img i e ]
@@ -27,7 +27,7 @@ module _ (img : List ℕ) where
   headRole (zero ∷ _) = names
   headRole (suc c ∷ _) = occurs
 
-  unfoldable pub walkArg : ℕ → List ℕ → Exit → Exit
+  unfoldable pub walkArg : ℕ → List ℕ → Walked → Walked
   unfolding introduce
   walkArg n [] e = e
   walkArg n (zero ∷ _) e = e
@@ -36,7 +36,7 @@ module _ (img : List ℕ) where
   unfoldable mutual
     unfolding walkIdent marked unmarked headRole walkArg
 
-    pub walk : Role → Tree → Exit → Exit
+    pub walk : Role → Tree → Walked → Walked
     walk r (block ts) e = back img (e .scope) (walkSeq occurs ts e)
     walk r (node n k (outer o) sh ts) e = e
     walk r (node n k (inner plain) sh ts) e = marked img n (e .scope) (walkSeq occurs ts e)
@@ -51,11 +51,11 @@ module _ (img : List ℕ) where
     walk r (node n k (inner arg) sh ts) e = marked img n (e .scope) (walkArg n sh (walkSeq occurs ts e))
 
     -- one after another, each from where the one before ends
-    pub walkSeq : Role → Trees → Exit → Exit
+    pub walkSeq : Role → Trees → Walked → Walked
     walkSeq r none e = e
     walkSeq r (u ◂ us) e = walkSeq r us (walk r u e)
 
     -- the first for itself, then the others in the given role
-    pub walkFirst : Role → Trees → Exit → Exit
+    pub walkFirst : Role → Trees → Walked → Walked
     walkFirst r none e = e
     walkFirst r (u ◂ us) e = walkSeq r us (walk occurs u e)

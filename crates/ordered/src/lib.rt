@@ -8,8 +8,8 @@ ghost use Rattle.ast.specs.Is.{Is, oneTerm, twoTerms};
 ghost use Rattle.ast.specs.Kinds.{kindOf};
 ghost use Rattle.ast.specs.Tree.{treeAt};
 ghost use Rattle.table.specs.Table as «table-spec»;
-ghost use Rattle.table.specs.Rows.{Sorted};
-ghost use Rattle.table.specs.Values.{exitOf};
+ghost use Rattle.table.specs.Rising.{Sorted};
+ghost use Rattle.table.specs.Values.{walkedOf};
 ghost use Rattle.ordered.specs.Walk.{occurs, declares, defines, names, walk, walkSeq, walkIdent, headRole};
 ghost use Rattle.ordered.specs.Promises.{over, inside, rest, Room, Ready, Variable, ReadyRun};
 use ast::NodeId;
@@ -18,8 +18,8 @@ use table::Walked;
 
 // The ident introduced, unless lookup gives a Var or a Const.
 pub fn bind_ident(image: &[u8], table: &mut [u32], at: Walked, ident: NodeId) -> Walked
-    requires { ⌜ Room (now image) (walkIdent (now image) occurs (ident .0) (exitOf at (now table))) ⌝ }
-    ensures { λ r. ⌜ exitOf r (now (table .exit)) ≡ walkIdent (now (image .entry)) occurs (ident .0) (exitOf at (now (table .entry))) ⌝ }
+    requires { ⌜ Room (now image) (walkIdent (now image) occurs (ident .0) (walkedOf at (now table))) ⌝ }
+    ensures { λ r. ⌜ walkedOf r (now (table .exit)) ≡ walkIdent (now (image .entry)) occurs (ident .0) (walkedOf at (now (table .entry))) ⌝ }
 {
     let name = ast::name_of(image, ident);
     let scope = at.scope;
@@ -32,8 +32,8 @@ pub fn bind_ident(image: &[u8], table: &mut [u32], at: Walked, ident: NodeId) ->
 }
 
 pub fn walk_ident_term(image: &[u8], table: &mut [u32], at: Walked, ident: NodeId) -> Walked
-    requires { ⌜ Ready (now image) (kindOf 13) (ident .0) (exitOf at (now table)) ⌝ }
-    ensures { λ r. ⌜ exitOf r (now (table .exit)) ≡ over (now (image .entry)) (ident .0) (exitOf at (now (table .entry))) ⌝ }
+    requires { ⌜ Ready (now image) (kindOf 13) (ident .0) (walkedOf at (now table)) ⌝ }
+    ensures { λ r. ⌜ walkedOf r (now (table .exit)) ≡ over (now (image .entry)) (ident .0) (walkedOf at (now (table .entry))) ⌝ }
 {
     let w = bind_ident(image, table, at, ident);
     table::leave(image, table, ident, at, w)
@@ -42,7 +42,7 @@ pub fn walk_ident_term(image: &[u8], table: &mut [u32], at: Walked, ident: NodeI
 // The names of an app head's member: each is recorded, and introduces nothing.
 pub fn walk_names(image: &[u8], table: &mut [u32], at: Walked, node: NodeId) -> Walked
     requires { ⌜ Is (now image) (kindOf 16) (node .0) ⌝ }
-    ensures { λ r. ⌜ exitOf r (now (table .exit)) ≡ rest (now (image .entry)) names (node .0) 2 («image-spec».field (now (image .entry)) (node .0) 1) 0 (exitOf at (now (table .entry))) ⌝ }
+    ensures { λ r. ⌜ walkedOf r (now (table .exit)) ≡ rest (now (image .entry)) names (node .0) 2 («image-spec».field (now (image .entry)) (node .0) 1) 0 (walkedOf at (now (table .entry))) ⌝ }
 {
     let count = ast::wide(ast::field(image, node, 1));
     let mut i = 0;
@@ -57,16 +57,16 @@ pub fn walk_names(image: &[u8], table: &mut [u32], at: Walked, node: NodeId) -> 
 
 // A term: what it holds, then its own two places.
 pub fn walk_term(image: &[u8], table: &mut [u32], at: Walked, term: NodeId) -> Walked
-    requires { ⌜ Ready (now image) (kindOf 12) (term .0) (exitOf at (now table)) ⌝ }
-    ensures { λ r. ⌜ exitOf r (now (table .exit)) ≡ over (now (image .entry)) (term .0) (exitOf at (now (table .entry))) ⌝ }
+    requires { ⌜ Ready (now image) (kindOf 12) (term .0) (walkedOf at (now table)) ⌝ }
+    ensures { λ r. ⌜ walkedOf r (now (table .exit)) ≡ over (now (image .entry)) (term .0) (walkedOf at (now (table .entry))) ⌝ }
 {
     let w = walk_term_case(image, table, at, term);
     table::leave(image, table, term, at, w)
 }
 
 pub fn walk_term_case(image: &[u8], table: &mut [u32], at: Walked, term: NodeId) -> Walked
-    requires { ⌜ Ready (now image) (kindOf 12) (term .0) (exitOf at (now table)) ⌝ }
-    ensures { λ r. ⌜ exitOf r (now (table .exit)) ≡ inside (now (image .entry)) occurs (term .0) (exitOf at (now (table .entry))) ⌝ }
+    requires { ⌜ Ready (now image) (kindOf 12) (term .0) (walkedOf at (now table)) ⌝ }
+    ensures { λ r. ⌜ walkedOf r (now (table .exit)) ≡ inside (now (image .entry)) occurs (term .0) (walkedOf at (now (table .entry))) ⌝ }
 {
     let case = ast::field(image, term, 0);
     let id = NodeId(ast::field(image, term, 1));
@@ -81,8 +81,8 @@ pub fn walk_term_case(image: &[u8], table: &mut [u32], at: Walked, term: NodeId)
 }
 
 pub fn walk_app_term(image: &[u8], table: &mut [u32], at: Walked, id: NodeId) -> Walked
-    requires { ⌜ Ready (now image) (kindOf 14) (id .0) (exitOf at (now table)) ⌝ }
-    ensures { λ r. ⌜ exitOf r (now (table .exit)) ≡ over (now (image .entry)) (id .0) (exitOf at (now (table .entry))) ⌝ }
+    requires { ⌜ Ready (now image) (kindOf 14) (id .0) (walkedOf at (now table)) ⌝ }
+    ensures { λ r. ⌜ walkedOf r (now (table .exit)) ≡ over (now (image .entry)) (id .0) (walkedOf at (now (table .entry))) ⌝ }
 {
     let head = NodeId(ast::field(image, id, 0));
     let args = NodeId(ast::field(image, id, 1));
@@ -93,8 +93,8 @@ pub fn walk_app_term(image: &[u8], table: &mut [u32], at: Walked, id: NodeId) ->
 
 // A Dom, Cod or Id term.
 pub fn walk_one_term(image: &[u8], table: &mut [u32], at: Walked, id: NodeId) -> Walked
-    requires { ⌜ Ready (now image) oneTerm (id .0) (exitOf at (now table)) ⌝ }
-    ensures { λ r. ⌜ exitOf r (now (table .exit)) ≡ over (now (image .entry)) (id .0) (exitOf at (now (table .entry))) ⌝ }
+    requires { ⌜ Ready (now image) oneTerm (id .0) (walkedOf at (now table)) ⌝ }
+    ensures { λ r. ⌜ walkedOf r (now (table .exit)) ≡ over (now (image .entry)) (id .0) (walkedOf at (now (table .entry))) ⌝ }
 {
     let arg = NodeId(ast::field(image, id, 0));
     let after = walk_term(image, table, at, arg);
@@ -103,8 +103,8 @@ pub fn walk_one_term(image: &[u8], table: &mut [u32], at: Walked, id: NodeId) ->
 
 // A Comp term, or an Equal atom: two terms.
 pub fn walk_two_terms(image: &[u8], table: &mut [u32], at: Walked, id: NodeId) -> Walked
-    requires { ⌜ Ready (now image) twoTerms (id .0) (exitOf at (now table)) ⌝ }
-    ensures { λ r. ⌜ exitOf r (now (table .exit)) ≡ over (now (image .entry)) (id .0) (exitOf at (now (table .entry))) ⌝ }
+    requires { ⌜ Ready (now image) twoTerms (id .0) (walkedOf at (now table)) ⌝ }
+    ensures { λ r. ⌜ walkedOf r (now (table .exit)) ≡ over (now (image .entry)) (id .0) (walkedOf at (now (table .entry))) ⌝ }
 {
     let first = NodeId(ast::field(image, id, 0));
     let second = NodeId(ast::field(image, id, 1));
@@ -114,16 +114,16 @@ pub fn walk_two_terms(image: &[u8], table: &mut [u32], at: Walked, id: NodeId) -
 }
 
 pub fn walk_app_head(image: &[u8], table: &mut [u32], at: Walked, head: NodeId) -> Walked
-    requires { ⌜ Ready (now image) (kindOf 15) (head .0) (exitOf at (now table)) ⌝ }
-    ensures { λ r. ⌜ exitOf r (now (table .exit)) ≡ over (now (image .entry)) (head .0) (exitOf at (now (table .entry))) ⌝ }
+    requires { ⌜ Ready (now image) (kindOf 15) (head .0) (walkedOf at (now table)) ⌝ }
+    ensures { λ r. ⌜ walkedOf r (now (table .exit)) ≡ over (now (image .entry)) (head .0) (walkedOf at (now (table .entry))) ⌝ }
 {
     let w = walk_head_case(image, table, at, head);
     table::leave(image, table, head, at, w)
 }
 
 pub fn walk_head_case(image: &[u8], table: &mut [u32], at: Walked, head: NodeId) -> Walked
-    requires { ⌜ Ready (now image) (kindOf 15) (head .0) (exitOf at (now table)) ⌝ }
-    ensures { λ r. ⌜ exitOf r (now (table .exit)) ≡ inside (now (image .entry)) (headRole (now (image .entry)) («image-spec».field (now (image .entry)) (head .0) 0 ∷ [])) (head .0) (exitOf at (now (table .entry))) ⌝ }
+    requires { ⌜ Ready (now image) (kindOf 15) (head .0) (walkedOf at (now table)) ⌝ }
+    ensures { λ r. ⌜ walkedOf r (now (table .exit)) ≡ inside (now (image .entry)) (headRole (now (image .entry)) («image-spec».field (now (image .entry)) (head .0) 0 ∷ [])) (head .0) (walkedOf at (now (table .entry))) ⌝ }
 {
     let case = ast::field(image, head, 0);
     let id = NodeId(ast::field(image, head, 1));
@@ -135,8 +135,8 @@ pub fn walk_head_case(image: &[u8], table: &mut [u32], at: Walked, head: NodeId)
 }
 
 pub fn walk_head_member(image: &[u8], table: &mut [u32], at: Walked, id: NodeId) -> Walked
-    requires { ⌜ Ready (now image) (kindOf 16) (id .0) (exitOf at (now table)) ⌝ }
-    ensures { λ r. ⌜ exitOf r (now (table .exit)) ≡ over (now (image .entry)) (id .0) (exitOf at (now (table .entry))) ⌝ }
+    requires { ⌜ Ready (now image) (kindOf 16) (id .0) (walkedOf at (now table)) ⌝ }
+    ensures { λ r. ⌜ walkedOf r (now (table .exit)) ≡ over (now (image .entry)) (id .0) (walkedOf at (now (table .entry))) ⌝ }
 {
     let receiver = NodeId(ast::field(image, id, 0));
     let scope = walk_term(image, table, at, receiver);
@@ -145,8 +145,8 @@ pub fn walk_head_member(image: &[u8], table: &mut [u32], at: Walked, id: NodeId)
 }
 
 pub fn walk_term_member(image: &[u8], table: &mut [u32], at: Walked, id: NodeId) -> Walked
-    requires { ⌜ Ready (now image) (kindOf 17) (id .0) (exitOf at (now table)) ⌝ }
-    ensures { λ r. ⌜ exitOf r (now (table .exit)) ≡ over (now (image .entry)) (id .0) (exitOf at (now (table .entry))) ⌝ }
+    requires { ⌜ Ready (now image) (kindOf 17) (id .0) (walkedOf at (now table)) ⌝ }
+    ensures { λ r. ⌜ walkedOf r (now (table .exit)) ≡ over (now (image .entry)) (id .0) (walkedOf at (now (table .entry))) ⌝ }
 {
     let term = NodeId(ast::field(image, id, 0));
     let name = NodeId(ast::field(image, id, 1));
@@ -156,16 +156,16 @@ pub fn walk_term_member(image: &[u8], table: &mut [u32], at: Walked, id: NodeId)
 }
 
 pub fn walk_term_list(image: &[u8], table: &mut [u32], at: Walked, list: NodeId) -> Walked
-    requires { ⌜ Ready (now image) (kindOf 22) (list .0) (exitOf at (now table)) ⌝ }
-    ensures { λ r. ⌜ exitOf r (now (table .exit)) ≡ over (now (image .entry)) (list .0) (exitOf at (now (table .entry))) ⌝ }
+    requires { ⌜ Ready (now image) (kindOf 22) (list .0) (walkedOf at (now table)) ⌝ }
+    ensures { λ r. ⌜ walkedOf r (now (table .exit)) ≡ over (now (image .entry)) (list .0) (walkedOf at (now (table .entry))) ⌝ }
 {
     let w = walk_terms(image, table, at, list);
     table::leave(image, table, list, at, w)
 }
 
 pub fn walk_terms(image: &[u8], table: &mut [u32], at: Walked, list: NodeId) -> Walked
-    requires { ⌜ Ready (now image) (kindOf 22) (list .0) (exitOf at (now table)) ⌝ }
-    ensures { λ r. ⌜ exitOf r (now (table .exit)) ≡ rest (now (image .entry)) occurs (list .0) 1 («image-spec».field (now (image .entry)) (list .0) 0) 0 (exitOf at (now (table .entry))) ⌝ }
+    requires { ⌜ Ready (now image) (kindOf 22) (list .0) (walkedOf at (now table)) ⌝ }
+    ensures { λ r. ⌜ walkedOf r (now (table .exit)) ≡ rest (now (image .entry)) occurs (list .0) 1 («image-spec».field (now (image .entry)) (list .0) 0) 0 (walkedOf at (now (table .entry))) ⌝ }
 {
     let count = ast::wide(ast::field(image, list, 0));
     let mut i = 0;
@@ -179,16 +179,16 @@ pub fn walk_terms(image: &[u8], table: &mut [u32], at: Walked, list: NodeId) -> 
 }
 
 pub fn walk_type_expr(image: &[u8], table: &mut [u32], at: Walked, id: NodeId) -> Walked
-    requires { ⌜ Ready (now image) (kindOf 23) (id .0) (exitOf at (now table)) ⌝ }
-    ensures { λ r. ⌜ exitOf r (now (table .exit)) ≡ over (now (image .entry)) (id .0) (exitOf at (now (table .entry))) ⌝ }
+    requires { ⌜ Ready (now image) (kindOf 23) (id .0) (walkedOf at (now table)) ⌝ }
+    ensures { λ r. ⌜ walkedOf r (now (table .exit)) ≡ over (now (image .entry)) (id .0) (walkedOf at (now (table .entry))) ⌝ }
 {
     let w = walk_type_expr_case(image, table, at, id);
     table::leave(image, table, id, at, w)
 }
 
 pub fn walk_type_expr_case(image: &[u8], table: &mut [u32], at: Walked, id: NodeId) -> Walked
-    requires { ⌜ Ready (now image) (kindOf 23) (id .0) (exitOf at (now table)) ⌝ }
-    ensures { λ r. ⌜ exitOf r (now (table .exit)) ≡ inside (now (image .entry)) occurs (id .0) (exitOf at (now (table .entry))) ⌝ }
+    requires { ⌜ Ready (now image) (kindOf 23) (id .0) (walkedOf at (now table)) ⌝ }
+    ensures { λ r. ⌜ walkedOf r (now (table .exit)) ≡ inside (now (image .entry)) occurs (id .0) (walkedOf at (now (table .entry))) ⌝ }
 {
     let case = ast::field(image, id, 0);
     let child = NodeId(ast::field(image, id, 1));
@@ -199,16 +199,16 @@ pub fn walk_type_expr_case(image: &[u8], table: &mut [u32], at: Walked, id: Node
 }
 
 pub fn walk_pred_expr(image: &[u8], table: &mut [u32], at: Walked, id: NodeId) -> Walked
-    requires { ⌜ Ready (now image) (kindOf 26) (id .0) (exitOf at (now table)) ⌝ }
-    ensures { λ r. ⌜ exitOf r (now (table .exit)) ≡ over (now (image .entry)) (id .0) (exitOf at (now (table .entry))) ⌝ }
+    requires { ⌜ Ready (now image) (kindOf 26) (id .0) (walkedOf at (now table)) ⌝ }
+    ensures { λ r. ⌜ walkedOf r (now (table .exit)) ≡ over (now (image .entry)) (id .0) (walkedOf at (now (table .entry))) ⌝ }
 {
     let w = walk_pred_expr_case(image, table, at, id);
     table::leave(image, table, id, at, w)
 }
 
 pub fn walk_pred_expr_case(image: &[u8], table: &mut [u32], at: Walked, id: NodeId) -> Walked
-    requires { ⌜ Ready (now image) (kindOf 26) (id .0) (exitOf at (now table)) ⌝ }
-    ensures { λ r. ⌜ exitOf r (now (table .exit)) ≡ inside (now (image .entry)) occurs (id .0) (exitOf at (now (table .entry))) ⌝ }
+    requires { ⌜ Ready (now image) (kindOf 26) (id .0) (walkedOf at (now table)) ⌝ }
+    ensures { λ r. ⌜ walkedOf r (now (table .exit)) ≡ inside (now (image .entry)) occurs (id .0) (walkedOf at (now (table .entry))) ⌝ }
 {
     let case = ast::field(image, id, 0);
     let child = NodeId(ast::field(image, id, 1));
@@ -219,8 +219,8 @@ pub fn walk_pred_expr_case(image: &[u8], table: &mut [u32], at: Walked, id: Node
 }
 
 pub fn walk_pred_atom(image: &[u8], table: &mut [u32], at: Walked, id: NodeId) -> Walked
-    requires { ⌜ Ready (now image) (kindOf 31) (id .0) (exitOf at (now table)) ⌝ }
-    ensures { λ r. ⌜ exitOf r (now (table .exit)) ≡ over (now (image .entry)) (id .0) (exitOf at (now (table .entry))) ⌝ }
+    requires { ⌜ Ready (now image) (kindOf 31) (id .0) (walkedOf at (now table)) ⌝ }
+    ensures { λ r. ⌜ walkedOf r (now (table .exit)) ≡ over (now (image .entry)) (id .0) (walkedOf at (now (table .entry))) ⌝ }
 {
     let pred = NodeId(ast::field(image, id, 0));
     let args = NodeId(ast::field(image, id, 1));
@@ -246,8 +246,8 @@ pub fn bind_var(
     before: ScopeId,
     ident: NodeId,
 ) -> Walked
-    requires { ⌜ Room (now image) (walkIdent (now image) (defines (before .0)) (ident .0) (exitOf at (now table))) ⌝ }
-    ensures { λ r. ⌜ exitOf r (now (table .exit)) ≡ walkIdent (now (image .entry)) (defines (before .0)) (ident .0) (exitOf at (now (table .entry))) ⌝ }
+    requires { ⌜ Room (now image) (walkIdent (now image) (defines (before .0)) (ident .0) (walkedOf at (now table))) ⌝ }
+    ensures { λ r. ⌜ walkedOf r (now (table .exit)) ≡ walkIdent (now (image .entry)) (defines (before .0)) (ident .0) (walkedOf at (now (table .entry))) ⌝ }
 {
     let name = ast::name_of(image, ident);
     let symbols = at.symbols;
@@ -265,8 +265,8 @@ pub fn walk_then_defined_var(
     before: ScopeId,
     term: NodeId,
 ) -> Walked
-    requires { ⌜ Variable (now image) (before .0) (term .0) (exitOf at (now table)) ⌝ }
-    ensures { λ r. ⌜ exitOf r (now (table .exit)) ≡ walk (now (image .entry)) (defines (before .0)) (treeAt (now (image .entry)) (term .0)) (exitOf at (now (table .entry))) ⌝ }
+    requires { ⌜ Variable (now image) (before .0) (term .0) (walkedOf at (now table)) ⌝ }
+    ensures { λ r. ⌜ walkedOf r (now (table .exit)) ≡ walk (now (image .entry)) (defines (before .0)) (treeAt (now (image .entry)) (term .0)) (walkedOf at (now (table .entry))) ⌝ }
 {
     let w = walk_var_case(image, table, at, before, term);
     table::leave(image, table, term, at, w)
@@ -279,8 +279,8 @@ pub fn walk_var_case(
     before: ScopeId,
     term: NodeId,
 ) -> Walked
-    requires { ⌜ Variable (now image) (before .0) (term .0) (exitOf at (now table)) ⌝ }
-    ensures { λ r. ⌜ exitOf r (now (table .exit)) ≡ inside (now (image .entry)) (defines (before .0)) (term .0) (exitOf at (now (table .entry))) ⌝ }
+    requires { ⌜ Variable (now image) (before .0) (term .0) (walkedOf at (now table)) ⌝ }
+    ensures { λ r. ⌜ walkedOf r (now (table .exit)) ≡ inside (now (image .entry)) (defines (before .0)) (term .0) (walkedOf at (now (table .entry))) ⌝ }
 {
     let case = ast::field(image, term, 0);
     if case == 0 {
@@ -293,8 +293,8 @@ pub fn walk_var_case(
 
 // The term of an if-var, which is looked up from where it stands.
 pub fn walk_var_term(image: &[u8], table: &mut [u32], at: Walked, term: NodeId) -> Walked
-    requires { ⌜ Variable (now image) (at .scope .0) (term .0) (exitOf at (now table)) ⌝ }
-    ensures { λ r. ⌜ exitOf r (now (table .exit)) ≡ walk (now (image .entry)) declares (treeAt (now (image .entry)) (term .0)) (exitOf at (now (table .entry))) ⌝ }
+    requires { ⌜ Variable (now image) (at .scope .0) (term .0) (walkedOf at (now table)) ⌝ }
+    ensures { λ r. ⌜ walkedOf r (now (table .exit)) ≡ walk (now (image .entry)) declares (treeAt (now (image .entry)) (term .0)) (walkedOf at (now (table .entry))) ⌝ }
 {
     let before = at.scope;
     walk_then_defined_var(image, table, at, before, term)
@@ -302,8 +302,8 @@ pub fn walk_var_term(image: &[u8], table: &mut [u32], at: Walked, term: NodeId) 
 
 // The variable is not visible inside its own annotation.
 pub fn walk_var_atom(image: &[u8], table: &mut [u32], at: Walked, id: NodeId) -> Walked
-    requires { ⌜ Ready (now image) (kindOf 33) (id .0) (exitOf at (now table)) ⌝ }
-    ensures { λ r. ⌜ exitOf r (now (table .exit)) ≡ over (now (image .entry)) (id .0) (exitOf at (now (table .entry))) ⌝ }
+    requires { ⌜ Ready (now image) (kindOf 33) (id .0) (walkedOf at (now table)) ⌝ }
+    ensures { λ r. ⌜ walkedOf r (now (table .exit)) ≡ over (now (image .entry)) (id .0) (walkedOf at (now (table .entry))) ⌝ }
 {
     let term = NodeId(ast::field(image, id, 0));
     let typ = NodeId(ast::field(image, id, 1));
@@ -314,8 +314,8 @@ pub fn walk_var_atom(image: &[u8], table: &mut [u32], at: Walked, id: NodeId) ->
 
 // The initializer does not see a binding introduced by the variable slot of the same atom.
 pub fn walk_defined_atom(image: &[u8], table: &mut [u32], at: Walked, id: NodeId) -> Walked
-    requires { ⌜ Ready (now image) (kindOf 34) (id .0) (exitOf at (now table)) ⌝ }
-    ensures { λ r. ⌜ exitOf r (now (table .exit)) ≡ over (now (image .entry)) (id .0) (exitOf at (now (table .entry))) ⌝ }
+    requires { ⌜ Ready (now image) (kindOf 34) (id .0) (walkedOf at (now table)) ⌝ }
+    ensures { λ r. ⌜ walkedOf r (now (table .exit)) ≡ over (now (image .entry)) (id .0) (walkedOf at (now (table .entry))) ⌝ }
 {
     let var = ast::field(image, id, 0);
     let term = NodeId(ast::field(image, id, 1));
@@ -329,16 +329,16 @@ pub fn walk_defined_atom(image: &[u8], table: &mut [u32], at: Walked, id: NodeId
 }
 
 pub fn walk_if_atom(image: &[u8], table: &mut [u32], at: Walked, id: NodeId) -> Walked
-    requires { ⌜ Ready (now image) (kindOf 28) (id .0) (exitOf at (now table)) ⌝ }
-    ensures { λ r. ⌜ exitOf r (now (table .exit)) ≡ over (now (image .entry)) (id .0) (exitOf at (now (table .entry))) ⌝ }
+    requires { ⌜ Ready (now image) (kindOf 28) (id .0) (walkedOf at (now table)) ⌝ }
+    ensures { λ r. ⌜ walkedOf r (now (table .exit)) ≡ over (now (image .entry)) (id .0) (walkedOf at (now (table .entry))) ⌝ }
 {
     let w = walk_if_atom_case(image, table, at, id);
     table::leave(image, table, id, at, w)
 }
 
 pub fn walk_if_atom_case(image: &[u8], table: &mut [u32], at: Walked, id: NodeId) -> Walked
-    requires { ⌜ Ready (now image) (kindOf 28) (id .0) (exitOf at (now table)) ⌝ }
-    ensures { λ r. ⌜ exitOf r (now (table .exit)) ≡ inside (now (image .entry)) occurs (id .0) (exitOf at (now (table .entry))) ⌝ }
+    requires { ⌜ Ready (now image) (kindOf 28) (id .0) (walkedOf at (now table)) ⌝ }
+    ensures { λ r. ⌜ walkedOf r (now (table .exit)) ≡ inside (now (image .entry)) occurs (id .0) (walkedOf at (now (table .entry))) ⌝ }
 {
     let case = ast::field(image, id, 0);
     let child = NodeId(ast::field(image, id, 1));
@@ -351,16 +351,16 @@ pub fn walk_if_atom_case(image: &[u8], table: &mut [u32], at: Walked, id: NodeId
 }
 
 pub fn walk_then_atom(image: &[u8], table: &mut [u32], at: Walked, id: NodeId) -> Walked
-    requires { ⌜ Ready (now image) (kindOf 29) (id .0) (exitOf at (now table)) ⌝ }
-    ensures { λ r. ⌜ exitOf r (now (table .exit)) ≡ over (now (image .entry)) (id .0) (exitOf at (now (table .entry))) ⌝ }
+    requires { ⌜ Ready (now image) (kindOf 29) (id .0) (walkedOf at (now table)) ⌝ }
+    ensures { λ r. ⌜ walkedOf r (now (table .exit)) ≡ over (now (image .entry)) (id .0) (walkedOf at (now (table .entry))) ⌝ }
 {
     let w = walk_then_atom_case(image, table, at, id);
     table::leave(image, table, id, at, w)
 }
 
 pub fn walk_then_atom_case(image: &[u8], table: &mut [u32], at: Walked, id: NodeId) -> Walked
-    requires { ⌜ Ready (now image) (kindOf 29) (id .0) (exitOf at (now table)) ⌝ }
-    ensures { λ r. ⌜ exitOf r (now (table .exit)) ≡ inside (now (image .entry)) occurs (id .0) (exitOf at (now (table .entry))) ⌝ }
+    requires { ⌜ Ready (now image) (kindOf 29) (id .0) (walkedOf at (now table)) ⌝ }
+    ensures { λ r. ⌜ walkedOf r (now (table .exit)) ≡ inside (now (image .entry)) occurs (id .0) (walkedOf at (now (table .entry))) ⌝ }
 {
     let case = ast::field(image, id, 0);
     let child = NodeId(ast::field(image, id, 1));
@@ -372,8 +372,8 @@ pub fn walk_then_atom_case(image: &[u8], table: &mut [u32], at: Walked, id: Node
 }
 
 pub fn walk_if_stmt(image: &[u8], table: &mut [u32], at: Walked, id: NodeId) -> Walked
-    requires { ⌜ Ready (now image) (kindOf 37) (id .0) (exitOf at (now table)) ⌝ }
-    ensures { λ r. ⌜ exitOf r (now (table .exit)) ≡ over (now (image .entry)) (id .0) (exitOf at (now (table .entry))) ⌝ }
+    requires { ⌜ Ready (now image) (kindOf 37) (id .0) (walkedOf at (now table)) ⌝ }
+    ensures { λ r. ⌜ walkedOf r (now (table .exit)) ≡ over (now (image .entry)) (id .0) (walkedOf at (now (table .entry))) ⌝ }
 {
     let atom = NodeId(ast::field(image, id, 0));
     let after = walk_if_atom(image, table, at, atom);
@@ -381,8 +381,8 @@ pub fn walk_if_stmt(image: &[u8], table: &mut [u32], at: Walked, id: NodeId) -> 
 }
 
 pub fn walk_then_stmt(image: &[u8], table: &mut [u32], at: Walked, id: NodeId) -> Walked
-    requires { ⌜ Ready (now image) (kindOf 38) (id .0) (exitOf at (now table)) ⌝ }
-    ensures { λ r. ⌜ exitOf r (now (table .exit)) ≡ over (now (image .entry)) (id .0) (exitOf at (now (table .entry))) ⌝ }
+    requires { ⌜ Ready (now image) (kindOf 38) (id .0) (walkedOf at (now table)) ⌝ }
+    ensures { λ r. ⌜ walkedOf r (now (table .exit)) ≡ over (now (image .entry)) (id .0) (walkedOf at (now (table .entry))) ⌝ }
 {
     let atom = NodeId(ast::field(image, id, 0));
     let after = walk_then_atom(image, table, at, atom);
@@ -398,8 +398,8 @@ pub fn walk_stmt_block(
     first: usize,
     count: usize,
 ) -> Walked
-    requires { ⌜ ReadyRun (now image) 36 (node .0) first count (exitOf at (now table)) ⌝ }
-    ensures { λ r. ⌜ exitOf r (now (table .exit)) ≡ rest (now (image .entry)) occurs (node .0) first count 0 (exitOf at (now (table .entry))) ⌝ }
+    requires { ⌜ ReadyRun (now image) 36 (node .0) first count (walkedOf at (now table)) ⌝ }
+    ensures { λ r. ⌜ walkedOf r (now (table .exit)) ≡ rest (now (image .entry)) occurs (node .0) first count 0 (walkedOf at (now (table .entry))) ⌝ }
 {
     let mut done = 0;
     let mut w = at;
@@ -412,16 +412,16 @@ pub fn walk_stmt_block(
 }
 
 pub fn walk_stmt(image: &[u8], table: &mut [u32], at: Walked, id: NodeId) -> Walked
-    requires { ⌜ Ready (now image) (kindOf 36) (id .0) (exitOf at (now table)) ⌝ }
-    ensures { λ r. ⌜ exitOf r (now (table .exit)) ≡ over (now (image .entry)) (id .0) (exitOf at (now (table .entry))) ⌝ }
+    requires { ⌜ Ready (now image) (kindOf 36) (id .0) (walkedOf at (now table)) ⌝ }
+    ensures { λ r. ⌜ walkedOf r (now (table .exit)) ≡ over (now (image .entry)) (id .0) (walkedOf at (now (table .entry))) ⌝ }
 {
     let w = walk_stmt_case(image, table, at, id);
     table::leave(image, table, id, at, w)
 }
 
 pub fn walk_stmt_case(image: &[u8], table: &mut [u32], at: Walked, id: NodeId) -> Walked
-    requires { ⌜ Ready (now image) (kindOf 36) (id .0) (exitOf at (now table)) ⌝ }
-    ensures { λ r. ⌜ exitOf r (now (table .exit)) ≡ inside (now (image .entry)) occurs (id .0) (exitOf at (now (table .entry))) ⌝ }
+    requires { ⌜ Ready (now image) (kindOf 36) (id .0) (walkedOf at (now table)) ⌝ }
+    ensures { λ r. ⌜ walkedOf r (now (table .exit)) ≡ inside (now (image .entry)) occurs (id .0) (walkedOf at (now (table .entry))) ⌝ }
 {
     let case = ast::field(image, id, 0);
     let child = NodeId(ast::field(image, id, 1));
@@ -434,8 +434,8 @@ pub fn walk_stmt_case(image: &[u8], table: &mut [u32], at: Walked, id: NodeId) -
 }
 
 pub fn walk_branch(image: &[u8], table: &mut [u32], at: Walked, id: NodeId) -> Walked
-    requires { ⌜ Ready (now image) (kindOf 39) (id .0) (exitOf at (now table)) ⌝ }
-    ensures { λ r. ⌜ exitOf r (now (table .exit)) ≡ over (now (image .entry)) (id .0) (exitOf at (now (table .entry))) ⌝ }
+    requires { ⌜ Ready (now image) (kindOf 39) (id .0) (walkedOf at (now table)) ⌝ }
+    ensures { λ r. ⌜ walkedOf r (now (table .exit)) ≡ over (now (image .entry)) (id .0) (walkedOf at (now (table .entry))) ⌝ }
 {
     let w = walk_blocks(image, table, at, id);
     table::leave(image, table, id, at, w)
@@ -443,8 +443,8 @@ pub fn walk_branch(image: &[u8], table: &mut [u32], at: Walked, id: NodeId) -> W
 
 // Each block from the branch's entry; what a block adds is dropped.
 pub fn walk_blocks(image: &[u8], table: &mut [u32], at: Walked, id: NodeId) -> Walked
-    requires { ⌜ Ready (now image) (kindOf 39) (id .0) (exitOf at (now table)) ⌝ }
-    ensures { λ r. ⌜ exitOf r (now (table .exit)) ≡ walkSeq (now (image .entry)) occurs (blocks (now (image .entry)) (id .0) («image-spec».field (now (image .entry)) (id .0) 0) 1) (exitOf at (now (table .entry))) ⌝ }
+    requires { ⌜ Ready (now image) (kindOf 39) (id .0) (walkedOf at (now table)) ⌝ }
+    ensures { λ r. ⌜ walkedOf r (now (table .exit)) ≡ walkSeq (now (image .entry)) occurs (blocks (now (image .entry)) (id .0) («image-spec».field (now (image .entry)) (id .0) 0) 1) (walkedOf at (now (table .entry))) ⌝ }
 {
     let count = ast::wide(ast::field(image, id, 0));
     let mut i = 0;
@@ -466,8 +466,8 @@ pub fn walk_blocks(image: &[u8], table: &mut [u32], at: Walked, id: NodeId) -> W
 }
 
 pub fn walk_match(image: &[u8], table: &mut [u32], at: Walked, id: NodeId) -> Walked
-    requires { ⌜ Ready (now image) (kindOf 40) (id .0) (exitOf at (now table)) ⌝ }
-    ensures { λ r. ⌜ exitOf r (now (table .exit)) ≡ over (now (image .entry)) (id .0) (exitOf at (now (table .entry))) ⌝ }
+    requires { ⌜ Ready (now image) (kindOf 40) (id .0) (walkedOf at (now table)) ⌝ }
+    ensures { λ r. ⌜ walkedOf r (now (table .exit)) ≡ over (now (image .entry)) (id .0) (walkedOf at (now (table .entry))) ⌝ }
 {
     let term = NodeId(ast::field(image, id, 0));
     let after_term = walk_term(image, table, at, term);
@@ -477,8 +477,8 @@ pub fn walk_match(image: &[u8], table: &mut [u32], at: Walked, id: NodeId) -> Wa
 
 // Each case from the scope after the matched term.
 pub fn walk_cases(image: &[u8], table: &mut [u32], at: Walked, id: NodeId) -> Walked
-    requires { ⌜ ReadyRun (now image) 35 (id .0) 2 («image-spec».field (now image) (id .0) 1) (exitOf at (now table)) ⌝ }
-    ensures { λ r. ⌜ exitOf r (now (table .exit)) ≡ rest (now (image .entry)) occurs (id .0) 2 («image-spec».field (now (image .entry)) (id .0) 1) 0 (exitOf at (now (table .entry))) ⌝ }
+    requires { ⌜ ReadyRun (now image) 35 (id .0) 2 («image-spec».field (now image) (id .0) 1) (walkedOf at (now table)) ⌝ }
+    ensures { λ r. ⌜ walkedOf r (now (table .exit)) ≡ rest (now (image .entry)) occurs (id .0) 2 («image-spec».field (now (image .entry)) (id .0) 1) 0 (walkedOf at (now (table .entry))) ⌝ }
 {
     let count = ast::wide(ast::field(image, id, 1));
     let mut i = 0;
@@ -493,8 +493,8 @@ pub fn walk_cases(image: &[u8], table: &mut [u32], at: Walked, id: NodeId) -> Wa
 
 // What a case adds is dropped.
 pub fn walk_match_case(image: &[u8], table: &mut [u32], at: Walked, id: NodeId) -> Walked
-    requires { ⌜ Ready (now image) (kindOf 35) (id .0) (exitOf at (now table)) ⌝ }
-    ensures { λ r. ⌜ exitOf r (now (table .exit)) ≡ over (now (image .entry)) (id .0) (exitOf at (now (table .entry))) ⌝ }
+    requires { ⌜ Ready (now image) (kindOf 35) (id .0) (walkedOf at (now table)) ⌝ }
+    ensures { λ r. ⌜ walkedOf r (now (table .exit)) ≡ over (now (image .entry)) (id .0) (walkedOf at (now (table .entry))) ⌝ }
 {
     let pattern = NodeId(ast::field(image, id, 0));
     let count = ast::wide(ast::field(image, id, 1));
@@ -510,8 +510,8 @@ pub fn walk_match_case(image: &[u8], table: &mut [u32], at: Walked, id: NodeId) 
 }
 
 pub fn walk_arg_decl(image: &[u8], table: &mut [u32], at: Walked, id: NodeId) -> Walked
-    requires { ⌜ Ready (now image) (kindOf 10) (id .0) (exitOf at (now table)) ⌝ }
-    ensures { λ r. ⌜ exitOf r (now (table .exit)) ≡ over (now (image .entry)) (id .0) (exitOf at (now (table .entry))) ⌝ }
+    requires { ⌜ Ready (now image) (kindOf 10) (id .0) (walkedOf at (now table)) ⌝ }
+    ensures { λ r. ⌜ walkedOf r (now (table .exit)) ≡ over (now (image .entry)) (id .0) (walkedOf at (now (table .entry))) ⌝ }
 {
     let name = ast::field(image, id, 0);
     let typ = NodeId(ast::field(image, id, 1));
@@ -524,8 +524,8 @@ pub fn walk_arg_decl(image: &[u8], table: &mut [u32], at: Walked, id: NodeId) ->
 }
 
 pub fn walk_args(image: &[u8], table: &mut [u32], at: Walked, node: NodeId, count: usize) -> Walked
-    requires { ⌜ ReadyRun (now image) 10 (node .0) 1 count (exitOf at (now table)) ⌝ }
-    ensures { λ r. ⌜ exitOf r (now (table .exit)) ≡ rest (now (image .entry)) occurs (node .0) 1 count 0 (exitOf at (now (table .entry))) ⌝ }
+    requires { ⌜ ReadyRun (now image) 10 (node .0) 1 count (walkedOf at (now table)) ⌝ }
+    ensures { λ r. ⌜ walkedOf r (now (table .exit)) ≡ rest (now (image .entry)) occurs (node .0) 1 count 0 (walkedOf at (now (table .entry))) ⌝ }
 {
     let mut i = 0;
     let mut w = at;
@@ -538,8 +538,8 @@ pub fn walk_args(image: &[u8], table: &mut [u32], at: Walked, node: NodeId, coun
 }
 
 pub fn walk_arg_decl_list(image: &[u8], table: &mut [u32], at: Walked, id: NodeId) -> Walked
-    requires { ⌜ Ready (now image) (kindOf 11) (id .0) (exitOf at (now table)) ⌝ }
-    ensures { λ r. ⌜ exitOf r (now (table .exit)) ≡ over (now (image .entry)) (id .0) (exitOf at (now (table .entry))) ⌝ }
+    requires { ⌜ Ready (now image) (kindOf 11) (id .0) (walkedOf at (now table)) ⌝ }
+    ensures { λ r. ⌜ walkedOf r (now (table .exit)) ≡ over (now (image .entry)) (id .0) (walkedOf at (now (table .entry))) ⌝ }
 {
     let count = ast::wide(ast::field(image, id, 0));
     let w = walk_args(image, table, at, id, count);

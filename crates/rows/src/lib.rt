@@ -18,7 +18,7 @@ pub fn clear(words: &mut [u32], n: usize)
 }
 
 // How many words the rows of an image of n nodes need.
-pub fn words(n: u32) -> usize
+pub fn words_for(n: u32) -> usize
     ensures { λ r. ⌜ r ≡ rowsLength n ⌝ }
 {
     1 + 2 * ast::wide(n)
@@ -29,7 +29,7 @@ pub fn begin(rows: &mut [u32], n: u32)
     requires { ⌜ rowsLength n ≤ length (now rows) ⌝ }
     ensures { λ _. ⌜ now (rows .exit) ≡ cleared (rowsLength n) (now (rows .entry)) ⌝ }
 {
-    clear(rows, words(n));
+    clear(rows, words_for(n));
 }
 
 // After the last row: the count in front, which is handed back.

@@ -12,8 +12,8 @@ use Rattle.ast.specs.Kinds.{outer, inner, root, decl, signature, rule, enum, mo
 use Rattle.ast.specs.Tree.{Tree, node, block, Trees, none, _◂_, size, sizes}
 use Rattle.ast.proofs.Small.{Small, Smalls}
 use Rattle.ast.proofs.Unfold.{All, nil, cons, All-append}
-use Rattle.table.specs.Rows.{scopeOf}
-use Rattle.table.specs.State.{Exit, childScope, ownSymbol, marked, back}
+use Rattle.table.specs.Rising.{scopeOf}
+use Rattle.table.specs.State.{Walked, childScope, ownSymbol, marked, back}
 use Rattle.table.specs.Table.{find, mark, newScope, newSymbol}
 use Rattle.ordered.specs.Walk.{occurs, walkSeq}
 use Rattle.ordered.specs.Promises.{Few}
@@ -21,8 +21,8 @@ use Rattle.ordered.proofs.Grows.{seq-grows}
 use Rattle.ordered.specs.Kept.{Kept}
 use Rattle.ordered.proofs.Kept.{past, mark-kept, scope-kept, symbol-kept, mark-past, scope-past, symbol-past, mark-length, scope-length, symbol-length, mark-rows, scope-rows}
 use Rattle.ordered.proofs.Size.{seq-within}
-use Rattle.scopes.specs.Walk.{Listed, done, twice, recorded, recordedAll, enterName, andThen, enterNames, markAll, enter, enterAll, visit, visitAll}
-use Rattle.scopes.specs.Promises.{ent, ents, vis, viss, Fits}
+use Rattle.scopes.specs.Walk.{Listed, done, twice, recorded, recordedAll, enterName, andThen, enterNames, markAll, enterAll, visit, visitAll}
+use Rattle.scopes.specs.Promises.{enter, ent, ents, vis, viss, Fits}
 
 -- the nodes that record are nodes of the tree
 module _ (m : ℕ) where
@@ -67,17 +67,17 @@ mutual
   addss (u ◂ us) = let h = adds u in let k = addss us in let q = length-append (declared u) (declaredAll us) in omega arith
 
 -- what a walk keeps of its table
-abbrev pub KeptAt : List ℕ → Exit → Type 0
+abbrev pub KeptAt : List ℕ → Walked → Type 0
 KeptAt img e = Kept img (e .table)
 
 -- the same, in the newest scope, where names may be entered
-pub record Newest (img : List ℕ) (e : Exit) : Type 0 where
+pub record Newest (img : List ℕ) (e : Walked) : Type 0 where
   pub kept : Kept img (e .table)
   pub last : suc (e .scope) ≡ e .table .scopes
 
 -- from e to f: the same scope, at most a scopes and b symbols more; and where the counts are within the arrays, Q is kept and
 -- the words past the table stay
-pub record Went (img : List ℕ) (Q : Exit → Type 0) (a b : ℕ) (e f : Exit) : Type 0 where
+pub record Went (img : List ℕ) (Q : Walked → Type 0) (a b : ℕ) (e f : Walked) : Type 0 where
   pub same : f .scope ≡ e .scope
   pub scopes : f .table .scopes ≤ e .table .scopes + a
   pub symbols : f .table .symbols ≤ e .table .symbols + b
@@ -88,36 +88,36 @@ pub record Went (img : List ℕ) (Q : Exit → Type 0) (a b : ℕ) (e f : Exit) 
   pub keeps : Few img (f .table) → Q e → Q f
 
 -- if it is done, it went so
-pub record In (img : List ℕ) (Q : Exit → Type 0) (a b : ℕ) (e : Exit) (l : Listed) : Type 0 where
-  pub went : (f : Exit) → l ≡ done f → Went img Q a b e f
+pub record In (img : List ℕ) (Q : Walked → Type 0) (a b : ℕ) (e : Walked) (l : Listed) : Type 0 where
+  pub went : (f : Walked) → l ≡ done f → Went img Q a b e f
 
-pub done-same : (f g : Exit) → done f ≡ done g → f ≡ g
+pub done-same : (f g : Walked) → done f ≡ done g → f ≡ g
 done-same f g q = cc
 
-pub twice-done : (x y z : ℕ) (g : Exit) → twice x y z ≡ done g → ⊥
+pub twice-done : (x y z : ℕ) (g : Walked) → twice x y z ≡ done g → ⊥
 twice-done x y z g q = let h : _≡_ {A = ℕ} 0 1 = cc in omega arith
 
 -- fewer scopes and symbols are within the arrays too
-pub few-back : {img : List ℕ} {Q : Exit → Type 0} {a b : ℕ} {e f : Exit} → Went img Q a b e f → Few img (f .table) → Few img (e .table)
+pub few-back : {img : List ℕ} {Q : Walked → Type 0} {a b : ℕ} {e f : Walked} → Went img Q a b e f → Few img (f .table) → Few img (e .table)
 few-back w h = let p = w .more in let q = w .grown in let i = h .scopes in let j = h .symbols in record { scopes = omega arith; symbols = omega arith }
 
 -- what follows is done only where all before it is
-pub and-inv : (img : List ℕ) (l : Listed) (g : Exit → Listed) (f : Exit) → andThen img l g ≡ done f → (e : Exit) × (l ≡ done e) × (g e ≡ done f)
+pub and-inv : (img : List ℕ) (l : Listed) (g : Walked → Listed) (f : Walked) → andThen img l g ≡ done f → (e : Walked) × (l ≡ done e) × (g e ≡ done f)
 unfolding andThen
 and-inv img (done e) g f q = (e, refl, q)
 and-inv img (twice x a b) g f q = absurd (twice-done x a b f q)
 
-module _ {img : List ℕ} {Q : Exit → Type 0} where
-  in-done : {a b : ℕ} {e f : Exit} → Went img Q a b e f → In img Q a b e (done f)
+module _ {img : List ℕ} {Q : Walked → Type 0} where
+  in-done : {a b : ℕ} {e f : Walked} → Went img Q a b e f → In img Q a b e (done f)
   in-done {a} {b} {e} {f} w = record { went = λ g q. subst (Went img Q a b e) (done-same f g q) w }
 
-  in-twice : {a b : ℕ} {e : Exit} (x y z : ℕ) → In img Q a b e (twice x y z)
+  in-twice : {a b : ℕ} {e : Walked} (x y z : ℕ) → In img Q a b e (twice x y z)
   in-twice x y z = record { went = λ g q. absurd (twice-done x y z g q) }
 
-  stay : (e : Exit) → In img Q 0 0 e (done e)
+  stay : (e : Walked) → In img Q 0 0 e (done e)
   stay e = in-done (record { same = refl; scopes = omega arith; symbols = omega arith; more = omega arith; grown = omega arith; long = refl; passed = λ h. refl; keeps = λ h s. s })
 
-  wide : {a b c d : ℕ} {e : Exit} {l : Listed} → a ≤ c → b ≤ d → In img Q a b e l → In img Q c d e l
+  wide : {a b c d : ℕ} {e : Walked} {l : Listed} → a ≤ c → b ≤ d → In img Q a b e l → In img Q c d e l
   wide p q w =
       record {
         went = λ f r.
@@ -127,7 +127,7 @@ module _ {img : List ℕ} {Q : Exit → Type 0} where
             record { same = v .same; scopes = omega arith; symbols = omega arith; more = v .more; grown = v .grown; long = v .long; passed = v .passed; keeps = v .keeps };
       }
 
-  then-went : {a b c d : ℕ} {e f g : Exit} → Went img Q a b e f → Went img Q c d f g → Went img Q (a + c) (b + d) e g
+  then-went : {a b c d : ℕ} {e f g : Walked} → Went img Q a b e f → Went img Q c d f g → Went img Q (a + c) (b + d) e g
   then-went v w =
       let p = v .more in
       let q = v .grown in
@@ -148,18 +148,18 @@ module _ {img : List ℕ} {Q : Exit → Type 0} where
         keeps = λ h z. w .keeps h (v .keeps (few-back w h) z);
       }
 
-  and-in : {a b c d : ℕ} {e : Exit} (l : Listed) (g : Exit → Listed) → In img Q a b e l → ((f : Exit) → In img Q c d f (g f)) → In img Q (a + c) (b + d) e (andThen img l g)
+  and-in : {a b c d : ℕ} {e : Walked} (l : Listed) (g : Walked → Listed) → In img Q a b e l → ((f : Walked) → In img Q c d f (g f)) → In img Q (a + c) (b + d) e (andThen img l g)
   unfolding andThen
   and-in (done f) g w h = record { went = λ k q. then-went (w .went f refl) ((h f) .went k q) }
   and-in (twice x y z) g w h = in-twice x y z
 
 module _ (img : List ℕ) where
   -- a name's entry, by what its scope has of the name
-  unfoldable pub named : ℕ → Exit → Option ℕ → Listed
+  unfoldable pub named : ℕ → Walked → Option ℕ → Listed
   unfolding ownSymbol
   named n e o = elim o [ nothing ↦ done (ownSymbol img n e) | some first ↦ twice (nameOf img n) first n ]
 
-  named-in : (n : ℕ) (e : Exit) (o : Option ℕ) → In img (Newest img) 0 1 e (named n e o)
+  named-in : (n : ℕ) (e : Walked) (o : Option ℕ) → In img (Newest img) 0 1 e (named n e o)
   unfolding named newSymbol
   named-in n e nothing =
       in-done
@@ -175,17 +175,17 @@ module _ (img : List ℕ) where
       })
   named-in n e (some a) = in-twice (nameOf img n) a n
 
-  pub name-in : (n : ℕ) (e : Exit) → In img (Newest img) 0 1 e (enterName img n e)
+  pub name-in : (n : ℕ) (e : Walked) → In img (Newest img) 0 1 e (enterName img n e)
   unfolding enterName named
   name-in n e = named-in n e (find img (e .table) (e .scope) (nameOf img n))
 
-  names-in : (ns : List ℕ) (e : Exit) → In img (Newest img) 0 (length ns) e (enterNames img ns e)
+  names-in : (ns : List ℕ) (e : Walked) → In img (Newest img) 0 (length ns) e (enterNames img ns e)
   unfolding enterNames
   names-in [] e = stay e
   names-in (n ∷ ns) e = wide (omega arith) (omega arith) (and-in (enterName img n e) (enterNames img ns) (name-in n e) (λ f. names-in ns f))
 
   -- marks change no count and no row
-  from-marked : {n : ℕ} → n < nodes img → (cur : ℕ) {a b : ℕ} (e : Exit) {l : Listed} → In img (Newest img) a b (marked img n cur e) l → In img (Newest img) a b e l
+  from-marked : {n : ℕ} → n < nodes img → (cur : ℕ) {a b : ℕ} (e : Walked) {l : Listed} → In img (Newest img) a b (marked img n cur e) l → In img (Newest img) a b e l
   unfolding marked mark
   from-marked {n} i cur e w =
       record {
@@ -203,30 +203,30 @@ module _ (img : List ℕ) where
             };
       }
 
-  from-marks : {ns : List ℕ} → All (λ n. n < nodes img) ns → {a b : ℕ} (e : Exit) {l : Listed} → In img (Newest img) a b (markAll img ns e) l → In img (Newest img) a b e l
+  from-marks : {ns : List ℕ} → All (λ n. n < nodes img) ns → {a b : ℕ} (e : Walked) {l : Listed} → In img (Newest img) a b (markAll img ns e) l → In img (Newest img) a b e l
   unfolding markAll
   from-marks nil e w = w
   from-marks (cons {c = n} l h) e w = from-marked l (e .scope) e (from-marks h (marked img n (e .scope) e) w)
 
-  pub enter-in : (u : Tree) → Small (nodes img) u → (e : Exit) → In img (Newest img) 0 (ent u) e (enter img u e)
+  pub enter-in : (u : Tree) → Small (nodes img) u → (e : Walked) → In img (Newest img) 0 (ent u) e (enter img u e)
   unfolding enter
   enter-in u q e = from-marks (recorded-small (nodes img) u q) e (names-in (declared u) (markAll img (recorded u) e))
 
-  pub enterAll-in : (us : Trees) → Smalls (nodes img) us → (e : Exit) → In img (Newest img) 0 (ents us) e (enterAll img us e)
+  pub enterAll-in : (us : Trees) → Smalls (nodes img) us → (e : Walked) → In img (Newest img) 0 (ents us) e (enterAll img us e)
   unfolding enterAll
   enterAll-in us q e = from-marks (recordedAll-small (nodes img) us q) e (names-in (declaredAll us) (markAll img (recordedAll us) e))
 
-  walked-in : (ts : Trees) → Smalls (nodes img) ts → (e : Exit) → Went img (KeptAt img) (sizes ts) (sizes ts) e (back img (e .scope) (walkSeq img occurs ts e))
+  walked-in : (ts : Trees) → Smalls (nodes img) ts → (e : Walked) → Went img (KeptAt img) (sizes ts) (sizes ts) e (back img (e .scope) (walkSeq img occurs ts e))
   walked-in ts q e =
       let w = seq-within img occurs ts e in
       let g = seq-grows img occurs ts q e in
       record { same = refl; scopes = w .scopes; symbols = w .symbols; more = g .scopes; grown = g .symbols; long = g .long; passed = g .passed; keeps = g .kept }
 
   -- a model's own scope
-  abbrev pub opened : ℕ → Exit → Exit
+  abbrev pub opened : ℕ → Walked → Walked
   opened n e = marked img n (e .table .scopes) (childScope img e)
 
-  pub child-newest : {n : ℕ} (e : Exit) → n < nodes img → e .table .scopes < nodes img → Kept img (e .table) → Newest img (opened n e)
+  pub child-newest : {n : ℕ} (e : Walked) → n < nodes img → e .table .scopes < nodes img → Kept img (e .table) → Newest img (opened n e)
   unfolding marked childScope newScope mark
   child-newest {n} e i l s =
       record {
@@ -234,12 +234,12 @@ module _ (img : List ℕ) where
         last = (let z : suc (e .table .scopes) ≡ e .table .scopes + 1 = omega arith in z);
       }
 
-  pub child-past : {n : ℕ} (e : Exit) → n < nodes img → e .table .scopes < nodes img → past img ((opened n e) .table) ≡ past img (e .table)
+  pub child-past : {n : ℕ} (e : Walked) → n < nodes img → e .table .scopes < nodes img → past img ((opened n e) .table) ≡ past img (e .table)
   unfolding marked childScope
   child-past {n} e i l = mark-past img n (e .table .scopes) (e .table .scopes) (newScope img (e .scope) (e .table)) i ∙ scope-past img (e .scope) (e .table) l
 
   -- no row of it yet
-  pub child-empty : {n : ℕ} (e : Exit) → n < nodes img → e .table .scopes < nodes img → Kept img (e .table)
+  pub child-empty : {n : ℕ} (e : Walked) → n < nodes img → e .table .scopes < nodes img → Kept img (e .table)
       → (j : ℕ) → j < (opened n e) .table .symbols → scopeOf (nodes img) ((opened n e) .table .words) j < (opened n e) .scope
   unfolding marked mark childScope newScope
   child-empty {n} e i l s j k =
@@ -248,15 +248,15 @@ module _ (img : List ℕ) where
       let c = s .under j k in
       omega arith
 
-  pub opened-counts : (n : ℕ) (e : Exit) → ((opened n e) .table .scopes ≡ e .table .scopes + 1) × ((opened n e) .table .symbols ≡ e .table .symbols)
+  pub opened-counts : (n : ℕ) (e : Walked) → ((opened n e) .table .scopes ≡ e .table .scopes + 1) × ((opened n e) .table .symbols ≡ e .table .symbols)
   unfolding marked mark childScope newScope
   opened-counts n e = (refl, refl)
 
-  child-length : (n : ℕ) (e : Exit) → length ((opened n e) .table .words) ≡ length (e .table .words)
+  child-length : (n : ℕ) (e : Walked) → length ((opened n e) .table .words) ≡ length (e .table .words)
   unfolding marked childScope
   child-length n e = mark-length img n (e .table .scopes) (e .table .scopes) (newScope img (e .scope) (e .table)) ∙ scope-length img (e .scope) (e .table)
 
-  from-child : {n : ℕ} → n < nodes img → {a b c d : ℕ} (e : Exit) (l : Listed) (g : Exit → Listed) → In img (Newest img) a b (opened n e) l → ((f : Exit) → In img (KeptAt img) c d f (g f))
+  from-child : {n : ℕ} → n < nodes img → {a b c d : ℕ} (e : Walked) (l : Listed) (g : Walked → Listed) → In img (Newest img) a b (opened n e) l → ((f : Walked) → In img (KeptAt img) c d f (g f))
       → In img (KeptAt img) (suc (a + c)) (b + d) e (andThen img (andThen img l g) (λ f. done (back img (e .scope) f)))
   unfolding andThen marked mark childScope newScope
   from-child {n} i {a} {b} {c} {d} e (done f) g w h = go (g f) (h f)
@@ -292,7 +292,7 @@ module _ (img : List ℕ) where
   mutual
     unfolding visit vis size Small
 
-    pub visit-in : (u : Tree) → Small (nodes img) u → (e : Exit) → In img (KeptAt img) (size u) (vis u) e (visit img u e)
+    pub visit-in : (u : Tree) → Small (nodes img) u → (e : Walked) → In img (KeptAt img) (size u) (vis u) e (visit img u e)
     visit-in (block ts) q e = wide (omega arith) (omega arith) (stay e)
     visit-in (node n k (inner i) sh ts) q e = wide (omega arith) (omega arith) (stay e)
     visit-in (node n k (outer root) sh ts) q e = wide (omega arith) (omega arith) (stay e)
@@ -304,12 +304,12 @@ module _ (img : List ℕ) where
         wide (omega arith) (omega arith)
         (from-child (q .0) e (enterAll img ts (opened n e)) (visitAll img ts) (enterAll-in ts (q .1) (opened n e)) (λ f. visitAll-in ts (q .1) f))
 
-    pub visitAll-in : (us : Trees) → Smalls (nodes img) us → (e : Exit) → In img (KeptAt img) (sizes us) (viss us) e (visitAll img us e)
+    pub visitAll-in : (us : Trees) → Smalls (nodes img) us → (e : Walked) → In img (KeptAt img) (sizes us) (viss us) e (visitAll img us e)
     visitAll-in none q e = stay e
     visitAll-in (u ◂ us) q e = and-in (visit img u e) (visitAll img us) (visit-in u (q .0) e) (λ f. visitAll-in us (q .1) f)
 
   -- a whole list, from the newest scope on
-  kept-in : {a b : ℕ} {e : Exit} {l : Listed} → Newest img e → In img (Newest img) a b e l → In img (KeptAt img) a b e l
+  kept-in : {a b : ℕ} {e : Walked} {l : Listed} → Newest img e → In img (Newest img) a b e l → In img (KeptAt img) a b e l
   kept-in new w =
       record {
         went = λ f q.
@@ -317,11 +317,11 @@ module _ (img : List ℕ) where
             record { same = v .same; scopes = v .scopes; symbols = v .symbols; more = v .more; grown = v .grown; long = v .long; passed = v .passed; keeps = λ h z. (v .keeps h new) .kept };
       }
 
-  pub list-in : (ts : Trees) (e : Exit) → Smalls (nodes img) ts → Newest img e → In img (KeptAt img) (0 + sizes ts) (ents ts + viss ts) e (andThen img (enterAll img ts e) (visitAll img ts))
+  pub list-in : (ts : Trees) (e : Walked) → Smalls (nodes img) ts → Newest img e → In img (KeptAt img) (0 + sizes ts) (ents ts + viss ts) e (andThen img (enterAll img ts e) (visitAll img ts))
   list-in ts e q new = and-in (enterAll img ts e) (visitAll img ts) (kept-in new (enterAll-in ts q e)) (λ f. visitAll-in ts q f)
 
   -- what fits before fits after
-  pub fits-next : {a b c d : ℕ} {e f : Exit} → Fits img (a + c) (b + d) e → Went img (KeptAt img) a b e f → Fits img c d f
+  pub fits-next : {a b c d : ℕ} {e f : Walked} → Fits img (a + c) (b + d) e → Went img (KeptAt img) a b e f → Fits img c d f
   fits-next h w =
       let x = h .scopes in
       let y = h .symbols in

@@ -12,10 +12,10 @@ use Rattle.ast.specs.Image.{nodes}
 use Rattle.ast.specs.Tests.{need}
 use Rattle.ast.specs.declared.NodeId.{NodeId}
 use Rattle.ast.proofs.Accepted.{both, skip, stop, needed}
-use Rattle.table.specs.State.{Exit}
+use Rattle.table.specs.State.{Walked}
 use Rattle.table.specs.Table.{Table}
 use Rattle.table.specs.Values.{tableOf}
-use Rattle.table.specs.declared.Walked.{Walked}
+use Rattle.table.specs.declared.Walked.{Walked as InCode}
 use Rattle.rows.specs.Rows.{Row, rowsLength, written, Wrote, held}
 use Rattle.rows.proofs.Reading.{held-written}
 use Rattle.scopes.specs.Walk.{Listed, done, twice}
@@ -54,7 +54,7 @@ module _ (img tab : List ℕ) where
   abbrev pub Went : ℕ → Way → Type 0
   Went r (refuses k) = (r ≡ k) × (k ≡ 0 → ⊥)
   Went r (stops x a b) = (r ≡ 0) × (walked img tab ≡ twice x a b)
-  Went r (fills t) = (r ≡ 0) × ((e : Exit) × (walked img tab ≡ done e) × (t ≡ counted img (e .table)))
+  Went r (fills t) = (r ≡ 0) × ((e : Walked) × (walked img tab ≡ done e) × (t ≡ counted img (e .table)))
 
   pub went : (r : ℕ) → Went r (way img tab r)
   unfolding way wayOf
@@ -76,7 +76,7 @@ module _ (img tab : List ℕ) where
       unfolding way wayOf
       way-stops h = ap (way img tab) passes ∙ ap (wayOf img) h
 
-      pub way-fills : {e : Exit} → walked img tab ≡ done e → way img tab r ≡ fills (counted img (e .table))
+      pub way-fills : {e : Walked} → walked img tab ≡ done e → way img tab r ≡ fills (counted img (e .table))
       unfolding way wayOf
       way-fills h = ap (way img tab) passes ∙ ap (wayOf img) h
 
@@ -104,7 +104,7 @@ module _ (img tab : List ℕ) {r : ℕ} (f : Table → Answer) where
     unfolding answerBy
     call-stopped q = call-by q
 
-    pub call-filled : {w : Walked} → d ≡ Done w → tableCall img tab r f ≡ record { answer = f (tableOf w ws); table = ws }
+    pub call-filled : {w : InCode} → d ≡ Done w → tableCall img tab r f ≡ record { answer = f (tableOf w ws); table = ws }
     unfolding answerBy
     call-filled q = call-by q
 
@@ -126,18 +126,18 @@ module _ (img tab rows : List ℕ) (f : Table → List Row) where
       rowed-twice h = ap leaving (way-stops img tab passes h)
 
       -- otherwise: the table that the walk ends with, its counts in front, and the rows that it has
-      pub rowed-done : {e : Exit} → walked img tab ≡ done e → rowsCall img tab rows r f
+      pub rowed-done : {e : Walked} → walked img tab ≡ done e → rowsCall img tab rows r f
           ≡ record { answer = result 0 (length (f (counted img (e .table)))); table = headed img (e .table); rows = written (nodes img) (f (counted img (e .table))) rows }
       unfolding rowsCall answerBy tableBy rowsBy
       rowed-done h = ap leaving (way-fills img tab passes h)
 
       -- where they are no more than nodes, they are read back
-      pub rowed-held : {e : Exit} → walked img tab ≡ done e → length (f (counted img (e .table))) ≤ nodes img
+      pub rowed-held : {e : Walked} → walked img tab ≡ done e → length (f (counted img (e .table))) ≤ nodes img
           → held (nodes img) ((rowsCall img tab rows r f) .rows) ≡ f (counted img (e .table))
       rowed-held h few = ap (λ (o : RowsOutcome). held (nodes img) (o .rows)) (rowed-done h) ∙ held-written (nodes img) _ rows few
 
       -- and counted
-      pub rowed-count : {e : Exit} → walked img tab ≡ done e → length (f (counted img (e .table))) ≤ nodes img
+      pub rowed-count : {e : Walked} → walked img tab ≡ done e → length (f (counted img (e .table))) ≤ nodes img
           → (rowsCall img tab rows r f) .answer ≡ result 0 (length (held (nodes img) ((rowsCall img tab rows r f) .rows)))
       rowed-count h few = ap (λ (o : RowsOutcome). o .answer) (rowed-done h) ∙ ap (λ (l : List Row). result 0 (length l)) (sym (rowed-held h few))
 
@@ -149,7 +149,7 @@ module _ (img tab rows : List ℕ) (f : Table → List Row) where
             ap leaving (way-by img tab passes h q)
             ∙ ap (λ (us : List ℕ). record { answer = twiceAnswer x (a .0) (b .0); table = us; rows = rows }) (table-by img tab passes h q)
 
-        pub rowed-filled : {w : Walked} {k : ℕ} {vs : List ℕ} → d ≡ Done w → Wrote (nodes img) (f (tableOf w ws)) rows k vs
+        pub rowed-filled : {w : InCode} {k : ℕ} {vs : List ℕ} → d ≡ Done w → Wrote (nodes img) (f (tableOf w ws)) rows k vs
             → rowsCall img tab rows r f ≡ record { answer = result 0 k; table = ws; rows = vs }
         unfolding rowsCall answerBy tableBy rowsBy
         rowed-filled {w} q g =

@@ -20,14 +20,14 @@ use Rattle.ast.proofs.Row.{append, append-none, Child, FormedFields, next, node
 use Rattle.ast.proofs.Shapes.{row, tree-of, child-is, case-kids, case-one, case-child, case-last, items-more}
 use Rattle.ast.proofs.Small.{Smalls, tree-small, items-small}
 use Rattle.table.specs.Layout.{tableLength}
-use Rattle.table.specs.State.{Exit, ownSymbol, marked}
+use Rattle.table.specs.State.{Walked, ownSymbol, marked}
 use Rattle.table.specs.Table.{find, findFrom, mark}
-use Rattle.table.specs.Values.{exitOf}
-use Rattle.table.specs.declared.Walked.{Walked}
+use Rattle.table.specs.Values.{walkedOf}
+use Rattle.table.specs.declared.Walked.{Walked as InCode}
 use Rattle.ast.specs.declared.NodeId.{NodeId}
 use Rattle.ordered.proofs.Kept.{past, mark-past, mark-length, symbol-past}
-use Rattle.scopes.specs.Walk.{Listed, done, twice, recorded, enterName, andThen, enterNames, markAll, enter, enterAll, visit}
-use Rattle.scopes.specs.Promises.{listedOf, ent, ents, vis, restEnter, Seen, Entering, Enters, Signature, Stamped}
+use Rattle.scopes.specs.Walk.{Listed, done, twice, recorded, enterName, andThen, enterNames, markAll, enterAll, visit}
+use Rattle.scopes.specs.Promises.{listedOf, enter, ent, ents, vis, restEnter, Seen, Entering, Enters, Signature, Stamped}
 use Rattle.scopes.specs.declared.Declared.{Declared}
 use Rattle.scopes.specs.declared.Declared.the-variants.{Done, Twice}
 use Rattle.scopes.proofs.Adds.{named, Went, done-same, twice-done, name-in, enter-in}
@@ -46,10 +46,10 @@ last-case (suc (suc (suc (suc (suc (suc x)))))) l a b c d e f = omega arith
 
 module _ (img : List ℕ) where
   -- before a call --------------------------------------------------------------------------------------------------------
-  pub entering-less : {seen : List ℕ} {a m : ℕ} {e : Exit} → a ≤ m → Entering img seen m e → Entering img seen a e
+  pub entering-less : {seen : List ℕ} {a m : ℕ} {e : Walked} → a ≤ m → Entering img seen m e → Entering img seen a e
   entering-less h p = record { accepted = p .accepted; live = p .live; room = (let r = p .room in omega arith); long = p .long; stamps = p .stamps }
 
-  pub entering-marked : {seen : List ℕ} {n m : ℕ} {e f : Exit} → f ≡ marked img n (e .scope) e → n < nodes img → Entering img seen m e → Entering img seen m f
+  pub entering-marked : {seen : List ℕ} {n m : ℕ} {e f : Walked} → f ≡ marked img n (e .scope) e → n < nodes img → Entering img seen m e → Entering img seen m f
   unfolding marked mark
   entering-marked {seen} {n} {m} {e} {f} q l p =
       subst (Entering img seen m) (sym q)
@@ -61,7 +61,7 @@ module _ (img : List ℕ) where
         stamps = seen-marked img (e .scope) e l (p .stamps);
       })
 
-  pub entering-next : {Q : Exit → Type 0} {seen vs : List ℕ} {a m : ℕ} {e f : Exit} → Entering img seen (a + m) e → Went img Q 0 a e f → Seen img vs f → Entering img vs m f
+  pub entering-next : {Q : Walked → Type 0} {seen vs : List ℕ} {a m : ℕ} {e f : Walked} → Entering img seen (a + m) e → Went img Q 0 a e f → Seen img vs f → Entering img vs m f
   entering-next p w s =
       record {
         accepted = p .accepted;
@@ -72,13 +72,13 @@ module _ (img : List ℕ) where
       }
 
   -- a word has room for what is counted
-  pub few-words : {seen : List ℕ} {m : ℕ} {e : Exit} → Entering img seen m e → nodes img ≤ 2048
+  pub few-words : {seen : List ℕ} {m : ℕ} {e : Walked} → Entering img seen m e → nodes img ≤ 2048
   few-words p = (sized img (p .accepted)) .fewNodes
 
   -- after a call ---------------------------------------------------------------------------------------------------------
-  pub past-marked : (n cur : ℕ) (e : Exit) {f : Exit} → f ≡ marked img n cur e → n < nodes img → past img (f .table) ≡ past img (e .table)
+  pub past-marked : (n cur : ℕ) (e : Walked) {f : Walked} → f ≡ marked img n cur e → n < nodes img → past img (f .table) ≡ past img (e .table)
   unfolding marked
-  past-marked n cur e q l = ap (λ (g : Exit). past img (g .table)) q ∙ mark-past img n cur (e .scope) (e .table) l
+  past-marked n cur e q l = ap (λ (g : Walked). past img (g .table)) q ∙ mark-past img n cur (e .scope) (e .table) l
 
   -- the same, told of another list and from an earlier table
   pub enters-as : {l k : Listed} {us ws seen vs : List ℕ} {r : Declared} → l ≡ k → drop (tableLength (nodes img)) us ≡ drop (tableLength (nodes img)) ws
@@ -86,23 +86,23 @@ module _ (img : List ℕ) where
   enters-as q h p = record { same = p .same ∙ q; stamps = λ f d. p .stamps f (q ∙ d); passed = p .passed ∙ h }
 
   -- one name -------------------------------------------------------------------------------------------------------------
-  found-here : (n : ℕ) (e : Exit) (x : ℕ) (o : Option ℕ) → x ≡ nameOf img n → o ≡ findFrom img (e .table .symbols) (e .table .words) 0 (e .scope) x
+  found-here : (n : ℕ) (e : Walked) (x : ℕ) (o : Option ℕ) → x ≡ nameOf img n → o ≡ findFrom img (e .table .symbols) (e .table .words) 0 (e .scope) x
       → find img (e .table) (e .scope) (nameOf img n) ≡ o
   unfolding find
   found-here n e x o q p = sym (p ∙ ap (findFrom img (e .table .symbols) (e .table .words) 0 (e .scope)) q)
 
-  enter-new : (n : ℕ) (e : Exit) (x : ℕ) → x ≡ nameOf img n → nothing ≡ findFrom img (e .table .symbols) (e .table .words) 0 (e .scope) x
+  enter-new : (n : ℕ) (e : Walked) (x : ℕ) → x ≡ nameOf img n → nothing ≡ findFrom img (e .table .symbols) (e .table .words) 0 (e .scope) x
       → enterName img n e ≡ done (ownSymbol img n e)
   unfolding enterName named
   enter-new n e x q p = ap (named img n e) (found-here n e x nothing q p)
 
-  enter-twice : (n : ℕ) (e : Exit) (x a : ℕ) → x ≡ nameOf img n → some a ≡ findFrom img (e .table .symbols) (e .table .words) 0 (e .scope) x
+  enter-twice : (n : ℕ) (e : Walked) (x a : ℕ) → x ≡ nameOf img n → some a ≡ findFrom img (e .table .symbols) (e .table .words) 0 (e .scope) x
       → enterName img n e ≡ twice x a n
   unfolding enterName named
   enter-twice n e x a q p = ap (named img n e) (found-here n e x (some a) q p) ∙ ap (λ (y : ℕ). twice y a n) (sym q)
 
-  module _ {seen : List ℕ} {e : Exit} (p : Entering img seen 1 e) (n x : ℕ) (name-is : x ≡ nameOf img n) where
-    entered : {us vs : List ℕ} (w : Walked) → nothing ≡ findFrom img (e .table .symbols) (e .table .words) 0 (e .scope) x → exitOf w vs ≡ ownSymbol img n e
+  module _ {seen : List ℕ} {e : Walked} (p : Entering img seen 1 e) (n x : ℕ) (name-is : x ≡ nameOf img n) where
+    entered : {us vs : List ℕ} (w : InCode) → nothing ≡ findFrom img (e .table .symbols) (e .table .words) 0 (e .scope) x → walkedOf w vs ≡ ownSymbol img n e
         → Seen img us (ownSymbol img n e) → Enters img (enterName img n e) (e .table .words) (Done w) us vs
     unfolding ownSymbol
     entered {us} {vs} w h q s =
@@ -110,14 +110,14 @@ module _ (img : List ℕ) where
         record {
           same = ap done q ∙ sym g;
           stamps = λ f d. subst (Seen img us) (done-same (ownSymbol img n e) f (sym g ∙ d)) s;
-          passed = ap (λ (f : Exit). past img (f .table)) q ∙ symbol-past img (e .scope) n (e .table) (let z = p .room in omega arith);
+          passed = ap (λ (f : Walked). past img (f .table)) q ∙ symbol-past img (e .scope) n (e .table) (let z = p .room in omega arith);
         }
 
     few : e .table .symbols < nodes img
     few = let z = p .room in omega arith
 
     -- its stamp was not there
-    pub enters-new : {us vs : List ℕ} {b : Bool} (w : Walked) → Stamped seen x (e .scope) b us → b ≡ true → exitOf w vs ≡ ownSymbol img n e
+    pub enters-new : {us vs : List ℕ} {b : Bool} (w : InCode) → Stamped seen x (e .scope) b us → b ≡ true → walkedOf w vs ≡ ownSymbol img n e
         → Enters img (enterName img n e) (e .table .words) (Done w) us vs
     enters-new {us} {vs} {b} w t q h =
         let (a, l, d) = t .new q in
@@ -126,8 +126,8 @@ module _ (img : List ℕ) where
         (seen-symbol img n e few (p .long) (λ k. ap (λ (y : ℕ). getD (set seen x (suc (e .scope))) y 0) (sym name-is) ∙ getD-set-same seen x (suc (e .scope)) 0 l) (seen-stamp img x (p .stamps))))
 
     -- it was there, but the scope does not have the name
-    pub enters-old : {us vs : List ℕ} {b : Bool} (w : Walked) → Stamped seen x (e .scope) b us → b ≡ false
-        → nothing ≡ findFrom img (e .table .symbols) (e .table .words) 0 (e .scope) x → exitOf w vs ≡ ownSymbol img n e
+    pub enters-old : {us vs : List ℕ} {b : Bool} (w : InCode) → Stamped seen x (e .scope) b us → b ≡ false
+        → nothing ≡ findFrom img (e .table .symbols) (e .table .words) 0 (e .scope) x → walkedOf w vs ≡ ownSymbol img n e
         → Enters img (enterName img n e) (e .table .words) (Done w) us vs
     enters-old {us} {vs} {b} w t q o h =
         let (a, d) = t .old q in
@@ -143,11 +143,11 @@ module _ (img : List ℕ) where
         record { same = ap (twice x (a .0)) q ∙ sym g; stamps = λ f d. absurd (twice-done x (a .0) n f (sym g ∙ d)); passed = refl }
 
   -- what follows a name, or a declaration -----------------------------------------------------------------------------------
-  pub and-done : (f : Exit) (g : Exit → Listed) (l : Listed) → l ≡ done f → andThen img l g ≡ g f
+  pub and-done : (f : Walked) (g : Walked → Listed) (l : Listed) → l ≡ done f → andThen img l g ≡ g f
   unfolding andThen
   and-done f g l h = ap (λ (m : Listed). andThen img m g) h
 
-  pub and-stop : (x a b : ℕ) (g : Exit → Listed) (l : Listed) → l ≡ twice x a b → andThen img l g ≡ twice x a b
+  pub and-stop : (x a b : ℕ) (g : Walked → Listed) (l : Listed) → l ≡ twice x a b → andThen img l g ≡ twice x a b
   unfolding andThen
   and-stop x a b g l h = ap (λ (m : Listed). andThen img m g) h
 
@@ -155,13 +155,13 @@ module _ (img : List ℕ) where
   pub signed : {fs : List Field} {n : ℕ} → Is img (kindBy (outer signature) fs) n → Signature img n
   signed is = record { accepted = is .accepted; below = is .below; class = ap (λ (k : Kind). k .class) (is .kind) }
 
-  pub sig-enter : {n : ℕ} (e : Exit) → Signature img n → (enter img (treeAt img n) e ≡ enterName img n (marked img n (e .scope) e)) × (ent (treeAt img n) ≡ 1)
+  pub sig-enter : {n : ℕ} (e : Walked) → Signature img n → (enter img (treeAt img n) e ≡ enterName img n (marked img n (e .scope) e)) × (ent (treeAt img n) ≡ 1)
   unfolding enter declared recorded enterNames markAll nodeOf
   sig-enter {n} e s =
       let is : Is img (kindBy (outer signature) ((kindOf (kindAt img n)) .fields)) n = record { accepted = s .accepted; below = s .below; kind = ap (λ (c : Class). kindBy c ((kindOf (kindAt img n)) .fields)) (s .class) } in
       subst (λ (u : Tree). (enter img u e ≡ enterName img n (marked img n (e .scope) e)) × (ent u ≡ 1)) (sym (tree-of img is)) (and-nothing img (enterName img n (marked img n (e .scope) e)), refl)
 
-  pub model-enter : {n : ℕ} (e : Exit) → Is img (kindOf 8) n → (enter img (treeAt img n) e ≡ enterName img n e) × (ent (treeAt img n) ≡ 1)
+  pub model-enter : {n : ℕ} (e : Walked) → Is img (kindOf 8) n → (enter img (treeAt img n) e ≡ enterName img n e) × (ent (treeAt img n) ≡ 1)
   unfolding enter declared recorded enterNames markAll nodeOf kindOf
   model-enter {n} e is = subst (λ (u : Tree). (enter img u e ≡ enterName img n e) × (ent u ≡ 1)) (sym (tree-of img is)) (and-nothing img (enterName img n e), refl)
 
@@ -169,18 +169,18 @@ module _ (img : List ℕ) where
   abbrev ruleShape : ℕ → ℕ → List ℕ
   ruleShape n x = elim x [ zero ↦ 0 | suc m ↦ 1 ] ∷ field img n 1 ∷ []
 
-  rule-enter : {n : ℕ} (e : Exit) → Is img (kindOf 6) n
+  rule-enter : {n : ℕ} (e : Walked) → Is img (kindOf 6) n
       → (enter img (treeAt img n) e ≡ enterNames img (ruleNode (ruleShape n (field img n 0)) n) (marked img n (e .scope) e)) × (declared (treeAt img n) ≡ ruleNode (ruleShape n (field img n 0)) n)
   unfolding enter declared recorded markAll nodeOf kindOf
   rule-enter {n} e is =
       subst (λ (u : Tree). (enter img u e ≡ enterNames img (ruleNode (ruleShape n (field img n 0)) n) (marked img n (e .scope) e)) × (declared u ≡ ruleNode (ruleShape n (field img n 0)) n))
       (sym (tree-of img is)) (refl, refl)
 
-  pub rule-unnamed : {n : ℕ} (e : Exit) → Is img (kindOf 6) n → field img n 0 ≡ 0 → enter img (treeAt img n) e ≡ done (marked img n (e .scope) e)
+  pub rule-unnamed : {n : ℕ} (e : Walked) → Is img (kindOf 6) n → field img n 0 ≡ 0 → enter img (treeAt img n) e ≡ done (marked img n (e .scope) e)
   unfolding enterNames ruleNode
   rule-unnamed {n} e is z = (rule-enter e is) .0 ∙ ap (λ (x : ℕ). enterNames img (ruleNode (ruleShape n x) n) (marked img n (e .scope) e)) z
 
-  pub rule-named : {n : ℕ} (e : Exit) → Is img (kindOf 6) n → (field img n 0 ≡ 0 → ⊥) → (enter img (treeAt img n) e ≡ enterName img n (marked img n (e .scope) e)) × (ent (treeAt img n) ≡ 1)
+  pub rule-named : {n : ℕ} (e : Walked) → Is img (kindOf 6) n → (field img n 0 ≡ 0 → ⊥) → (enter img (treeAt img n) e ≡ enterName img n (marked img n (e .scope) e)) × (ent (treeAt img n) ≡ 1)
   unfolding enterNames ruleNode
   rule-named {n} e is z = let r = rule-enter e is in let g = go (field img n 0) z in (r .0 ∙ g .0, ap length (r .1) ∙ g .1)
     where
@@ -188,19 +188,19 @@ module _ (img : List ℕ) where
       go zero y = absurd (y refl)
       go (suc m) y = (and-nothing img (enterName img n (marked img n (e .scope) e)), refl)
 
-  pub rule-entering : {seen : List ℕ} {n : ℕ} {e : Exit} → Is img (kindOf 6) n → (field img n 0 ≡ 0 → ⊥) → Entering img seen (ent (treeAt img n)) e → Entering img seen 1 e
+  pub rule-entering : {seen : List ℕ} {n : ℕ} {e : Walked} → Is img (kindOf 6) n → (field img n 0 ≡ 0 → ⊥) → Entering img seen (ent (treeAt img n)) e → Entering img seen 1 e
   rule-entering {e = e} is z p = entering-less (let q = (rule-named e is z) .1 in omega arith) p
 
   -- how many names they may add
-  abbrev nowhere : Exit
+  abbrev nowhere : Walked
   nowhere = record { scope = 0; table = record { words = []; scopes = 0; symbols = 0 } }
 
   pub model-ent : {n : ℕ} → Is img (kindOf 8) n → ent (treeAt img n) ≡ 1
   model-ent is = (model-enter nowhere is) .1
 
   -- an unnamed rule is only marked
-  pub rule-passes : {seen : List ℕ} {m n : ℕ} {e : Exit} {vs : List ℕ} (w : Walked) → Is img (kindOf 6) n → Entering img seen m e → field img n 0 ≡ 0
-      → exitOf w vs ≡ marked img n (e .scope) e → Enters img (enter img (treeAt img n) e) (e .table .words) (Done w) seen vs
+  pub rule-passes : {seen : List ℕ} {m n : ℕ} {e : Walked} {vs : List ℕ} (w : InCode) → Is img (kindOf 6) n → Entering img seen m e → field img n 0 ≡ 0
+      → walkedOf w vs ≡ marked img n (e .scope) e → Enters img (enter img (treeAt img n) e) (e .table .words) (Done w) seen vs
   rule-passes {seen} {m} {n} {e} w is p z q =
       let g = rule-unnamed e is z in
       record {
@@ -210,20 +210,20 @@ module _ (img : List ℕ) where
       }
 
   -- a list of items: what is left of it -----------------------------------------------------------------------------------
-  enter-more : (n j count i : ℕ) (e : Exit) → i < count → restEnter img n j count i e ≡ andThen img (enter img (treeAt img (field img n (j + i))) e) (restEnter img n j count (i + 1))
+  enter-more : (n j count i : ℕ) (e : Walked) → i < count → restEnter img n j count i e ≡ andThen img (enter img (treeAt img (field img n (j + i))) e) (restEnter img n j count (i + 1))
   unfolding restEnter
   enter-more n j count i e h =
       ap (λ (us : Trees). enterAll img us e) (items-more img n j count i h)
       ∙ enter-first img (treeAt img (field img n (j + i))) (items img n (count - (i + 1)) (j + (i + 1))) (items-small img n (count - (i + 1)) (j + (i + 1))) e
 
-  enter-end : (n j count i : ℕ) (e : Exit) → count ≤ i → restEnter img n j count i e ≡ done e
+  enter-end : (n j count i : ℕ) (e : Walked) → count ≤ i → restEnter img n j count i e ≡ done e
   unfolding restEnter enterAll declared recorded enterNames markAll items
   enter-end n j count i e h = let z : count - i ≡ 0 = omega arith in ap (λ (c : ℕ). enterAll img (items img n c (j + i)) e) z
 
   pub same-items : (n j count : ℕ) → items img n count j ≡ items img n (count - 0) (j + 0)
   same-items n j count = ap (λ (c : ℕ). items img n c j) (sym (sub-zero count)) ∙ ap (items img n (count - 0)) (sym (add-zero j))
 
-  pub enter-start : (n j count : ℕ) (e : Exit) → enterAll img (items img n count j) e ≡ restEnter img n j count 0 e
+  pub enter-start : (n j count : ℕ) (e : Walked) → enterAll img (items img n count j) e ≡ restEnter img n j count 0 e
   unfolding restEnter
   enter-start n j count e = ap (λ (us : Trees). enterAll img us e) (same-items n j count)
 
@@ -232,24 +232,24 @@ module _ (img : List ℕ) where
   ents-more n j count i h = ap ents (items-more img n j count i h) ∙ length-append (declared (treeAt img (field img n (j + i)))) (declaredAll (items img n (count - (i + 1)) (j + (i + 1))))
 
   -- a loop over the items: after i of them it stands at f
-  pub record EnterLeft (seen : List ℕ) (n j count i : ℕ) (e f : Exit) : Type 0 where
+  pub record EnterLeft (seen : List ℕ) (n j count i : ℕ) (e f : Walked) : Type 0 where
     pub within : i ≤ count
     pub long : length (f .table .words) ≡ length (e .table .words)
     pub entering : Entering img seen (ents (items img n (count - i) (j + i))) f
     pub passed : past img (f .table) ≡ past img (e .table)
     pub left : restEnter img n j count 0 e ≡ restEnter img n j count i f
 
-  pub enter-begin : {seen : List ℕ} {n j count : ℕ} {e : Exit} → Entering img seen (ents (items img n count j)) e → EnterLeft seen n j count 0 e e
+  pub enter-begin : {seen : List ℕ} {n j count : ℕ} {e : Walked} → Entering img seen (ents (items img n count j)) e → EnterLeft seen n j count 0 e e
   enter-begin {seen} {n} {j} {count} {e} p =
       record { within = omega arith; long = refl; entering = subst (λ (us : Trees). Entering img seen (ents us) e) (same-items n j count) p; passed = refl; left = refl }
 
-  pub record EnterItem (seen : List ℕ) (n j count i c : ℕ) (e f : Exit) : Type 0 where
+  pub record EnterItem (seen : List ℕ) (n j count i c : ℕ) (e f : Walked) : Type 0 where
     pub entering : Entering img seen (ent (treeAt img c)) f
-    pub more : {us : List ℕ} {r : Declared} {vs : List ℕ} (w : Walked) → r ≡ Done w → Enters img (enter img (treeAt img c) f) (f .table .words) r us vs → EnterLeft us n j count (i + 1) e (exitOf w vs)
+    pub more : {us : List ℕ} {r : Declared} {vs : List ℕ} (w : InCode) → r ≡ Done w → Enters img (enter img (treeAt img c) f) (f .table .words) r us vs → EnterLeft us n j count (i + 1) e (walkedOf w vs)
     pub stop : {us : List ℕ} {r : Declared} {vs : List ℕ} (x : ℕ) (a b : NodeId) → r ≡ Twice x a b → Enters img (enter img (treeAt img c) f) (f .table .words) r us vs
         → Enters img (restEnter img n j count 0 e) (e .table .words) (Twice x a b) us vs
 
-  pub enterItem : {seen : List ℕ} {n j count i c : ℕ} {e f : Exit} → EnterLeft seen n j count i e f → i < count → c ≡ field img n (j + i) → EnterItem seen n j count i c e f
+  pub enterItem : {seen : List ℕ} {n j count i c : ℕ} {e f : Walked} → EnterLeft seen n j count i e f → i < count → c ≡ field img n (j + i) → EnterItem seen n j count i c e f
   enterItem {seen} {n} {j} {count} {i} {c} {e} {f} b l q =
       subst (λ (x : ℕ). EnterItem seen n j count i x e f) (sym q)
       (record {
@@ -264,23 +264,23 @@ module _ (img : List ℕ) where
       m : ℕ
       m = field img n (j + i)
 
-      after : {us : List ℕ} {r : Declared} {vs : List ℕ} (w : Walked) → r ≡ Done w → Enters img (enter img (treeAt img m) f) (f .table .words) r us vs → EnterLeft us n j count (i + 1) e (exitOf w vs)
+      after : {us : List ℕ} {r : Declared} {vs : List ℕ} (w : InCode) → r ≡ Done w → Enters img (enter img (treeAt img m) f) (f .table .words) r us vs → EnterLeft us n j count (i + 1) e (walkedOf w vs)
       after {us} {r} {vs} w d p =
-          let h : enter img (treeAt img m) f ≡ done (exitOf w vs) = sym (p .same) ∙ ap (λ (o : Declared). listedOf o vs) d in
-          let t = (enter-in img (treeAt img m) (tree-small img m) f) .went (exitOf w vs) h in
+          let h : enter img (treeAt img m) f ≡ done (walkedOf w vs) = sym (p .same) ∙ ap (λ (o : Declared). listedOf o vs) d in
+          let t = (enter-in img (treeAt img m) (tree-small img m) f) .went (walkedOf w vs) h in
           record {
             within = omega arith;
             long = t .long ∙ b .long;
-            entering = entering-next (subst (λ (y : ℕ). Entering img seen y f) (ents-more n j count i l) (b .entering)) t (p .stamps (exitOf w vs) h);
+            entering = entering-next (subst (λ (y : ℕ). Entering img seen y f) (ents-more n j count i l) (b .entering)) t (p .stamps (walkedOf w vs) h);
             passed = p .passed ∙ b .passed;
-            left = b .left ∙ enter-more n j count i f l ∙ and-done (exitOf w vs) (restEnter img n j count (i + 1)) _ h;
+            left = b .left ∙ enter-more n j count i f l ∙ and-done (walkedOf w vs) (restEnter img n j count (i + 1)) _ h;
           }
 
-  pub enter-ended : {seen : List ℕ} {n j count i : ℕ} {e : Exit} {vs : List ℕ} (w : Walked) → EnterLeft seen n j count i e (exitOf w vs) → count ≤ i
+  pub enter-ended : {seen : List ℕ} {n j count i : ℕ} {e : Walked} {vs : List ℕ} (w : InCode) → EnterLeft seen n j count i e (walkedOf w vs) → count ≤ i
       → Enters img (restEnter img n j count 0 e) (e .table .words) (Done w) seen vs
   enter-ended {seen} {n} {j} {count} {i} {e} {vs} w b l =
-      let g = b .left ∙ enter-end n j count i (exitOf w vs) l in
-      record { same = sym g; stamps = λ f d. subst (Seen img seen) (done-same (exitOf w vs) f (sym g ∙ d)) (b .entering .stamps); passed = b .passed }
+      let g = b .left ∙ enter-end n j count i (walkedOf w vs) l in
+      record { same = sym g; stamps = λ f d. subst (Seen img seen) (done-same (walkedOf w vs) f (sym g ∙ d)) (b .entering .stamps); passed = b .passed }
 
   -- an enum: its own name, then its constructors' -----------------------------------------------------------------------------
   pub ctor-is : {n i c : ℕ} → Is img (kindOf 7) n → i < field img n 1 → c ≡ field img n (2 + i) → Is img (kindBy (outer signature) (name ∷ child 11 ∷ [])) c
@@ -289,7 +289,7 @@ module _ (img : List ℕ) where
       let h : Child img n 9 (field img n (2 + i)) = (row img is) .1 .0 i l in
       subst (Is img (kindBy (outer signature) (name ∷ child 11 ∷ []))) (sym q) (child-is img is h)
 
-  enum-enter : {n : ℕ} (e : Exit) → Is img (kindOf 7) n
+  enum-enter : {n : ℕ} (e : Walked) → Is img (kindOf 7) n
       → (enter img (treeAt img n) e ≡ andThen img (enterName img n (marked img n (e .scope) e)) (enterAll img (items img n (field img n 1) 2))) × (ent (treeAt img n) ≡ suc (ents (items img n (field img n 1) 2)))
   unfolding enter declared recorded nodeOf kindOf
   enum-enter {n} e is =
@@ -311,33 +311,33 @@ module _ (img : List ℕ) where
   ctor-ents {n} is = sig-ents n (field img n 1) 2 (λ i l. signed (ctor-is {i = i} is l refl))
 
   -- a constructor's name, of its enum's list
-  pub ctor-begin : {seen : List ℕ} {n : ℕ} {e : Exit} → Is img (kindOf 7) n → Entering img seen (field img n 1) e → EnterLeft seen n 2 (field img n 1) 0 e e
+  pub ctor-begin : {seen : List ℕ} {n : ℕ} {e : Walked} → Is img (kindOf 7) n → Entering img seen (field img n 1) e → EnterLeft seen n 2 (field img n 1) 0 e e
   ctor-begin {seen} {n} {e} is p = enter-begin (subst (λ (m : ℕ). Entering img seen m e) (sym (ctor-ents is)) p)
 
-  pub sig-entering : {seen : List ℕ} {n : ℕ} {e : Exit} → Signature img n → Entering img seen (ent (treeAt img n)) e → Entering img seen 1 e
+  pub sig-entering : {seen : List ℕ} {n : ℕ} {e : Walked} → Signature img n → Entering img seen (ent (treeAt img n)) e → Entering img seen 1 e
   sig-entering {seen} {n} {e} s p = entering-less (let z = (sig-enter e s) .1 in omega arith) p
 
-  pub enum-whole : {n : ℕ} (e : Exit) → Is img (kindOf 7) n → enter img (treeAt img n) e ≡ andThen img (enterName img n (marked img n (e .scope) e)) (restEnter img n 2 (field img n 1) 0)
+  pub enum-whole : {n : ℕ} (e : Walked) → Is img (kindOf 7) n → enter img (treeAt img n) e ≡ andThen img (enterName img n (marked img n (e .scope) e)) (restEnter img n 2 (field img n 1) 0)
   enum-whole {n} e is = (enum-enter e is) .0 ∙ ap (andThen img (enterName img n (marked img n (e .scope) e))) (fun-ext (λ f. enter-start n 2 (field img n 1) f))
 
   pub enum-ent : {n : ℕ} → Is img (kindOf 7) n → ent (treeAt img n) ≡ 1 + field img n 1
   enum-ent {n} is = let a = (enum-enter nowhere is) .1 in let c = ctor-ents is in omega arith
 
-  pub record EnumEnter (seen : List ℕ) (n : ℕ) (e f : Exit) : Type 0 where
+  pub record EnumEnter (seen : List ℕ) (n : ℕ) (e f : Walked) : Type 0 where
     pub own : Entering img seen 1 f
-    pub ctors : {us vs : List ℕ} {r : Declared} (w : Walked) → r ≡ Done w → Enters img (enterName img n f) (f .table .words) r us vs → Entering img us (field img n 1) (exitOf w vs)
-    pub enters : {us vs qs ws : List ℕ} {r o : Declared} (w : Walked) → r ≡ Done w → Enters img (enterName img n f) (f .table .words) r us vs
-        → Enters img (restEnter img n 2 (field img n 1) 0 (exitOf w vs)) vs o qs ws → Enters img (enter img (treeAt img n) e) (e .table .words) o qs ws
+    pub ctors : {us vs : List ℕ} {r : Declared} (w : InCode) → r ≡ Done w → Enters img (enterName img n f) (f .table .words) r us vs → Entering img us (field img n 1) (walkedOf w vs)
+    pub enters : {us vs qs ws : List ℕ} {r o : Declared} (w : InCode) → r ≡ Done w → Enters img (enterName img n f) (f .table .words) r us vs
+        → Enters img (restEnter img n 2 (field img n 1) 0 (walkedOf w vs)) vs o qs ws → Enters img (enter img (treeAt img n) e) (e .table .words) o qs ws
     pub stop : {us vs : List ℕ} {r : Declared} (x : ℕ) (a b : NodeId) → r ≡ Twice x a b → Enters img (enterName img n f) (f .table .words) r us vs
         → Enters img (enter img (treeAt img n) e) (e .table .words) (Twice x a b) us vs
 
-  pub enumEnter : {seen : List ℕ} {n : ℕ} {e f : Exit} → Is img (kindOf 7) n → Entering img seen (ent (treeAt img n)) e → f ≡ marked img n (e .scope) e → EnumEnter seen n e f
+  pub enumEnter : {seen : List ℕ} {n : ℕ} {e f : Walked} → Is img (kindOf 7) n → Entering img seen (ent (treeAt img n)) e → f ≡ marked img n (e .scope) e → EnumEnter seen n e f
   enumEnter {seen} {n} {e} {f} is p q =
       record {
         own = entering-less (omega arith) both;
-        ctors = λ {us} {vs} {r} w d h. let g = named-as w d h in entering-next both ((name-in img n f) .went (exitOf w vs) g) (h .stamps (exitOf w vs) g);
+        ctors = λ {us} {vs} {r} w d h. let g = named-as w d h in entering-next both ((name-in img n f) .went (walkedOf w vs) g) (h .stamps (walkedOf w vs) g);
         enters = λ {us} {vs} {qs} {ws} {r} {o} w d h k.
-            let z = whole ∙ and-done (exitOf w vs) (restEnter img n 2 (field img n 1) 0) _ (named-as w d h) in
+            let z = whole ∙ and-done (walkedOf w vs) (restEnter img n 2 (field img n 1) 0) _ (named-as w d h) in
             record { same = k .same ∙ sym z; stamps = λ g t. k .stamps g (sym z ∙ t); passed = k .passed ∙ h .passed ∙ past-marked n (e .scope) e q (is .below) };
         stop = λ {us} {vs} {r} x a b d h.
             let z = whole ∙ and-stop x (a .0) (b .0) (restEnter img n 2 (field img n 1) 0) _ (sym (h .same) ∙ ap (λ (o : Declared). listedOf o vs) d) in
@@ -348,9 +348,9 @@ module _ (img : List ℕ) where
       both = entering-marked q (is .below) (subst (λ (m : ℕ). Entering img seen m e) (enum-ent is) p)
 
       whole : enter img (treeAt img n) e ≡ andThen img (enterName img n f) (restEnter img n 2 (field img n 1) 0)
-      whole = enum-whole e is ∙ ap (λ (g : Exit). andThen img (enterName img n g) (restEnter img n 2 (field img n 1) 0)) (sym q)
+      whole = enum-whole e is ∙ ap (λ (g : Walked). andThen img (enterName img n g) (restEnter img n 2 (field img n 1) 0)) (sym q)
 
-      named-as : {us vs : List ℕ} {r : Declared} (w : Walked) → r ≡ Done w → Enters img (enterName img n f) (f .table .words) r us vs → enterName img n f ≡ done (exitOf w vs)
+      named-as : {us vs : List ℕ} {r : Declared} (w : InCode) → r ≡ Done w → Enters img (enterName img n f) (f .table .words) r us vs → enterName img n f ≡ done (walkedOf w vs)
       named-as {us} {vs} {r} w d h = sym (h .same) ∙ ap (λ (o : Declared). listedOf o vs) d
 
   -- a Decl: what its declaration is -----------------------------------------------------------------------------------------
@@ -379,14 +379,14 @@ module _ (img : List ℕ) where
       }
 
   module _ {k n d : ℕ} (o : DeclOf k n d) where
-    pub decl-entered : (e : Exit) → enter img (treeAt img n) e ≡ enter img (treeAt img d) (marked img n (e .scope) e)
+    pub decl-entered : (e : Walked) → enter img (treeAt img n) e ≡ enter img (treeAt img d) (marked img n (e .scope) e)
     unfolding enter declared recorded markAll
     decl-entered e =
         ap (λ (u : Tree). enter img u e) (o .tree)
         ∙ ap (λ (ds : List ℕ). enterNames img ds (markAll img (recorded (treeAt img d) ++ []) (marked img n (e .scope) e))) (append-nil (declared (treeAt img d)))
         ∙ ap (λ (ns : List ℕ). enterNames img (declared (treeAt img d)) (markAll img ns (marked img n (e .scope) e))) (append-nil (recorded (treeAt img d)))
 
-    pub decl-visited : (e : Exit) → visit img (treeAt img n) e ≡ visit img (treeAt img d) e
+    pub decl-visited : (e : Walked) → visit img (treeAt img n) e ≡ visit img (treeAt img d) e
     unfolding visit
     decl-visited e = ap (λ (u : Tree). visit img u e) (o .tree) ∙ and-nothing img (visit img (treeAt img d) e)
 
@@ -407,11 +407,11 @@ module _ (img : List ℕ) where
   decl-last is = case-last img (outer decl) declKinds is
 
   -- the declaration entered, after its Decl is marked
-  pub record DeclEnter (seen : List ℕ) (n d : ℕ) (e f : Exit) : Type 0 where
+  pub record DeclEnter (seen : List ℕ) (n d : ℕ) (e f : Walked) : Type 0 where
     pub entering : Entering img seen (ent (treeAt img d)) f
     pub enters : {us : List ℕ} {r : Declared} {vs : List ℕ} → Enters img (enter img (treeAt img d) f) (f .table .words) r us vs → Enters img (enter img (treeAt img n) e) (e .table .words) r us vs
 
-  pub declEnter : {seen : List ℕ} {k n d : ℕ} {e f : Exit} → DeclOf k n d → n < nodes img → Entering img seen (ent (treeAt img n)) e → f ≡ marked img n (e .scope) e → DeclEnter seen n d e f
+  pub declEnter : {seen : List ℕ} {k n d : ℕ} {e f : Walked} → DeclOf k n d → n < nodes img → Entering img seen (ent (treeAt img n)) e → f ≡ marked img n (e .scope) e → DeclEnter seen n d e f
   declEnter {seen} {k} {n} {d} {e} {f} o l p q =
       record {
         entering = entering-marked q l (entering-less (let z = decl-ent o in omega arith) p);

@@ -7,11 +7,11 @@ use native.Mathlib.Omega.{arith}
 use Rattle.ast.specs.Image.{nodes}
 use Rattle.ast.specs.Tests.{verdict}
 use Rattle.table.specs.Layout.{entryPlace, exitPlace, parentPlace, scopePlace, nodePlace}
-use Rattle.table.specs.Rows.{nodeAt, Sorted}
-use Rattle.table.specs.State.{Exit}
+use Rattle.table.specs.Rising.{nodeAt, Sorted}
+use Rattle.table.specs.State.{Walked}
 use Rattle.table.specs.Table.{Table, find, lookup, entryAt, exitAt}
 use Rattle.table.specs.Values.{tableOf}
-use Rattle.table.specs.declared.Walked.{Walked}
+use Rattle.table.specs.declared.Walked.{Walked as InCode}
 use Rattle.table.proofs.Frames.{from-same}
 use Rattle.scopes.specs.Walk.{done}
 use Rattle.scopes.specs.Resolve.{testTable, walked, headed, counted, Way, refuses, stops, fills, way}
@@ -59,7 +59,7 @@ pub record FilledTable (img : List ℕ) (t : Table) : Type 0 where
   pub symbols : (j : ℕ) → j < t .symbols → nodeAt (nodes img) (t .words) j < nodes img
 
 module _ (img tab : List ℕ) (passes : testTable img tab ≡ 0) where
-  pub counted-filled : {e : Exit} → walked img tab ≡ done e → FilledTable img (counted img (e .table))
+  pub counted-filled : {e : Walked} → walked img tab ≡ done e → FilledTable img (counted img (e .table))
   counted-filled {e} h =
       let d = walked-ended img tab passes e h in
       record {
@@ -68,7 +68,7 @@ module _ (img tab : List ℕ) (passes : testTable img tab ≡ 0) where
         symbols = λ j l. let a = headed-word img (e .table) (nodePlace (nodes img) j) (omega arith) in let b = symbol-below img _ (d .good .symbols j l) in omega arith;
       }
 
-  pub resolved-filled : {d : Declared} {ws : List ℕ} → Resolves img tab d ws → {w : Walked} → d ≡ Done w → FilledTable img (tableOf w ws)
+  pub resolved-filled : {d : Declared} {ws : List ℕ} → Resolves img tab d ws → {w : InCode} → d ≡ Done w → FilledTable img (tableOf w ws)
   resolved-filled {d} {ws} r {w} q = go (way img tab 0) (went img tab 0) (sym (r .way-is) ∙ ap (λ (x : Declared). declaredWay x ws) q)
     where
       go : (v : Way) → Went img tab 0 v → v ≡ fills (tableOf w ws) → FilledTable img (tableOf w ws)

@@ -15,9 +15,9 @@ use Rattle.ast.specs.Tree.{Tree, node, block, Trees, none, _◂_}
 use Rattle.ast.proofs.Unfold.{All, nil, cons}
 use Rattle.ast.proofs.Vars.{Everywhere, EverywhereAll}
 use Rattle.table.specs.Layout.{allOnes, parentPlace, scopePlace, nodePlace, tableLength}
-use Rattle.table.specs.Rows.{scopeOf, nodeAt, parentAt}
+use Rattle.table.specs.Rising.{scopeOf, nodeAt, parentAt}
 use Rattle.sound.specs.Sound.{isSymbol}
-use Rattle.table.specs.State.{Exit, childScope, ownSymbol, introduce, marked, back}
+use Rattle.table.specs.State.{Walked, childScope, ownSymbol, introduce, marked, back}
 use Rattle.table.specs.Table.{find, mark, newScope, newSymbol}
 use Rattle.table.proofs.Frames.{SameRows, mark-word, scope-word, symbol-word, symbol-same, symbol-scope, symbol-node}
 use Rattle.ordered.specs.Walk.{occurs, walkSeq}
@@ -29,17 +29,17 @@ use Rattle.scopes.proofs.Adds.{recordedAll-small, named, done-same, twi
 use Rattle.scopes.proofs.Namings.{Fit, Symbols, declaredAll-symbols, fit-smalls}
 
 module _ (img : List ℕ) where
-  pub data Moves : Exit → Exit → Type 0 where
-    stay : {e : Exit} → Moves e e
-    next : {e f g : Exit} → Moves e f → Moves f g → Moves e g
+  pub data Moves : Walked → Walked → Type 0 where
+    stay : {e : Walked} → Moves e e
+    next : {e f g : Walked} → Moves e f → Moves f g → Moves e g
     -- a node's two places
-    marks : {e : Exit} (n a b : ℕ) → n < nodes img → Moves e (record { scope = e .scope; table = mark img n a b (e .table) })
+    marks : {e : Walked} (n a b : ℕ) → n < nodes img → Moves e (record { scope = e .scope; table = mark img n a b (e .table) })
     -- a symbol of the scope
-    adds : {e : Exit} (n : ℕ) → isSymbol img n ≡ true → Moves e (ownSymbol img n e)
+    adds : {e : Walked} (n : ℕ) → isSymbol img n ≡ true → Moves e (ownSymbol img n e)
     -- a scope below the scope
-    opens : {e : Exit} → Moves e (childScope img e)
+    opens : {e : Walked} → Moves e (childScope img e)
     -- what is added is dropped
-    drops : {e f : Exit} → Moves e f → Moves e (back img (e .scope) f)
+    drops : {e f : Walked} → Moves e f → Moves e (back img (e .scope) f)
 
   -- the nodes that a walk may mark, and those that it may add as symbols
   abbrev Low : ℕ → Type 0
@@ -48,7 +48,7 @@ module _ (img : List ℕ) where
   abbrev Symbol : ℕ → Type 0
   Symbol n = isSymbol img n ≡ true
 
-  from-walk : {ns : List ℕ} {e f : Exit} → Walks img Low Symbol ns e f → Moves e f
+  from-walk : {ns : List ℕ} {e f : Walked} → Walks img Low Symbol ns e f → Moves e f
   unfolding introduce
   from-walk rests = stay
   from-walk (goes m n) = next (from-walk m) (from-walk n)
@@ -56,27 +56,27 @@ module _ (img : List ℕ) where
   from-walk (brings n h) = next opens (adds n h)
   from-walk (leaves m) = drops (from-walk m)
 
-  seq-moves : (us : Trees) → EverywhereAll (Fit img) us → (e : Exit) → Moves e (walkSeq img occurs us e)
+  seq-moves : (us : Trees) → EverywhereAll (Fit img) us → (e : Walked) → Moves e (walkSeq img occurs us e)
   unfolding Fit
   seq-moves us q e = from-walk (walks-seq img Low Symbol (Fit img) (λ n k c sh ts h. h) occurs us q e)
 
-  marked-moves : {n : ℕ} → n < nodes img → (cur : ℕ) {e f : Exit} → Moves e f → Moves e (marked img n cur f)
+  marked-moves : {n : ℕ} → n < nodes img → (cur : ℕ) {e f : Walked} → Moves e f → Moves e (marked img n cur f)
   unfolding marked
   marked-moves {n} l cur {e} {f} m = next m (marks n cur (f .scope) l)
 
   -- declarations, where the walk is not stopped
-  abbrev pub Ends : Exit → Listed → Type 0
-  Ends e l = (f : Exit) → l ≡ done f → Moves e f
+  abbrev pub Ends : Walked → Listed → Type 0
+  Ends e l = (f : Walked) → l ≡ done f → Moves e f
 
-  ends : {e f : Exit} → Moves e f → Ends e (done f)
+  ends : {e f : Walked} → Moves e f → Ends e (done f)
   ends {e} {f} m g q = subst (Moves e) (done-same f g q) m
 
-  pub ends-and : {e : Exit} (l : Listed) (g : Exit → Listed) → Ends e l → ((f : Exit) → Ends f (g f)) → Ends e (andThen img l g)
+  pub ends-and : {e : Walked} (l : Listed) (g : Walked → Listed) → Ends e l → ((f : Walked) → Ends f (g f)) → Ends e (andThen img l g)
   unfolding andThen
   ends-and (done h) g m n f q = next (m h refl) (n h f q)
   ends-and (twice x a b) g m n f q = absurd (twice-done x a b f q)
 
-  name-ends : (n : ℕ) (e : Exit) → isSymbol img n ≡ true → Ends e (enterName img n e)
+  name-ends : (n : ℕ) (e : Walked) → isSymbol img n ≡ true → Ends e (enterName img n e)
   unfolding enterName named
   name-ends n e h = go (find img (e .table) (e .scope) (nameOf img n))
     where
@@ -84,27 +84,27 @@ module _ (img : List ℕ) where
       go nothing = ends (adds n h)
       go (some first) = λ f q. absurd (twice-done (nameOf img n) first n f q)
 
-  after : {e f : Exit} {l : Listed} → Moves e f → Ends f l → Ends e l
+  after : {e f : Walked} {l : Listed} → Moves e f → Ends f l → Ends e l
   after m n g q = next m (n g q)
 
-  names-ends : {ns : List ℕ} → Symbols img ns → (e : Exit) → Ends e (enterNames img ns e)
+  names-ends : {ns : List ℕ} → Symbols img ns → (e : Walked) → Ends e (enterNames img ns e)
   unfolding enterNames
   names-ends nil e = ends stay
   names-ends (cons {c = n} {cs = ns} h q) e = ends-and (enterName img n e) (enterNames img ns) (name-ends n e h) (λ f. names-ends q f)
 
-  marks-moves : {ns : List ℕ} → All Low ns → (e : Exit) → Moves e (markAll img ns e)
+  marks-moves : {ns : List ℕ} → All Low ns → (e : Walked) → Moves e (markAll img ns e)
   unfolding markAll
   marks-moves nil e = stay
   marks-moves (cons {c = n} l q) e = next (marked-moves l (e .scope) stay) (marks-moves q (marked img n (e .scope) e))
 
-  pub enterAll-ends : (us : Trees) → EverywhereAll (Fit img) us → (e : Exit) → Ends e (enterAll img us e)
+  pub enterAll-ends : (us : Trees) → EverywhereAll (Fit img) us → (e : Walked) → Ends e (enterAll img us e)
   unfolding enterAll
   enterAll-ends us q e = after (marks-moves (recordedAll-small (nodes img) us (fit-smalls img us q)) e) (names-ends (declaredAll-symbols img us q) (markAll img (recordedAll us) e))
 
-  open-moves : {n : ℕ} → n < nodes img → (e : Exit) → Moves e (opened img n e)
+  open-moves : {n : ℕ} → n < nodes img → (e : Walked) → Moves e (opened img n e)
   open-moves {n} l e = marked-moves l (e .table .scopes) opens
 
-  back-ends : {e : Exit} (l : Listed) → Ends e l → Ends e (andThen img l (λ f. done (back img (e .scope) f)))
+  back-ends : {e : Walked} (l : Listed) → Ends e l → Ends e (andThen img l (λ f. done (back img (e .scope) f)))
   unfolding andThen
   back-ends (done h) m = ends (drops (m h refl))
   back-ends (twice x a b) m = λ f q. absurd (twice-done x a b f q)
@@ -112,7 +112,7 @@ module _ (img : List ℕ) where
   mutual
     unfolding visit Everywhere Fit
 
-    visit-ends : (u : Tree) → Everywhere (Fit img) u → (e : Exit) → Ends e (visit img u e)
+    visit-ends : (u : Tree) → Everywhere (Fit img) u → (e : Walked) → Ends e (visit img u e)
     visit-ends (block ts) q e = ends stay
     visit-ends (node n k (inner i) sh ts) q e = ends stay
     visit-ends (node n k (outer root) sh ts) q e = ends stay
@@ -124,11 +124,11 @@ module _ (img : List ℕ) where
         back-ends (andThen img (enterAll img ts (opened img n e)) (visitAll img ts))
         (after (open-moves (q .0 .0) e) (ends-and (enterAll img ts (opened img n e)) (visitAll img ts) (enterAll-ends ts (q .1) (opened img n e)) (λ f. visitAll-ends ts (q .1) f)))
 
-    pub visitAll-ends : (us : Trees) → EverywhereAll (Fit img) us → (e : Exit) → Ends e (visitAll img us e)
+    pub visitAll-ends : (us : Trees) → EverywhereAll (Fit img) us → (e : Walked) → Ends e (visitAll img us e)
     visitAll-ends none q e = ends stay
     visitAll-ends (u ◂ us) q e = ends-and (visit img u e) (visitAll img us) (visit-ends u (q .0) e) (λ f. visitAll-ends us (q .1) f)
 
-  pub rises : {e f : Exit} → Moves e f → (e .table .scopes ≤ f .table .scopes) × (e .table .symbols ≤ f .table .symbols)
+  pub rises : {e f : Walked} → Moves e f → (e .table .scopes ≤ f .table .scopes) × (e .table .symbols ≤ f .table .symbols)
   unfolding mark childScope ownSymbol newScope newSymbol
   rises stay = (omega arith, omega arith)
   rises (next m n) = let a = rises m in let b = rises n in (omega arith, omega arith)
@@ -138,7 +138,7 @@ module _ (img : List ℕ) where
   rises (drops m) = rises m
 
   -- what document 01 calls sound, of a table that a walk fills
-  pub record Good (e : Exit) : Type 0 where
+  pub record Good (e : Walked) : Type 0 where
     pub long : tableLength (nodes img) ≤ length (e .table .words)
     pub live : e .scope < e .table .scopes
     pub root : parentAt (nodes img) (e .table .words) 0 ≡ allOnes
@@ -146,7 +146,7 @@ module _ (img : List ℕ) where
     pub scopes : (j : ℕ) → j < e .table .symbols → scopeOf (nodes img) (e .table .words) j < e .table .scopes
     pub symbols : (j : ℕ) → j < e .table .symbols → isSymbol img (nodeAt (nodes img) (e .table .words) j) ≡ true
 
-  pub good-mark : (n a b : ℕ) (e : Exit) → n < nodes img → Good e → Good (record { scope = e .scope; table = mark img n a b (e .table) })
+  pub good-mark : (n a b : ℕ) (e : Walked) → n < nodes img → Good e → Good (record { scope = e .scope; table = mark img n a b (e .table) })
   unfolding mark
   good-mark n a b e l g =
       record {
@@ -158,7 +158,7 @@ module _ (img : List ℕ) where
         symbols = λ j k. ap (isSymbol img) (mark-word img n a b (e .table) (nodePlace (nodes img) j) (omega arith) (omega arith)) ∙ g .symbols j k;
       }
 
-  good-open : (e : Exit) → e .table .scopes < nodes img → e .table .symbols ≤ nodes img → Good e → Good (childScope img e)
+  good-open : (e : Walked) → e .table .scopes < nodes img → e .table .symbols ≤ nodes img → Good e → Good (childScope img e)
   unfolding childScope newScope
   good-open e h y g =
       record {
@@ -182,7 +182,7 @@ module _ (img : List ℕ) where
       old : (s : ℕ) → 1 ≤ s → s < e .table .scopes → parentAt (nodes img) vs s < s
       old s l k = let z = scope-word img (e .scope) (e .table) (parentPlace (nodes img) s) (λ q. omega arith) in let x = g .parents s l k in omega arith
 
-  good-add : (n : ℕ) (e : Exit) → isSymbol img n ≡ true → e .table .symbols < nodes img → e .table .scopes ≤ nodes img → Good e → Good (ownSymbol img n e)
+  good-add : (n : ℕ) (e : Walked) → isSymbol img n ≡ true → e .table .symbols < nodes img → e .table .scopes ≤ nodes img → Good e → Good (ownSymbol img n e)
   unfolding ownSymbol newSymbol
   good-add n e i h k g =
       record {
@@ -201,7 +201,7 @@ module _ (img : List ℕ) where
       same = symbol-same img (e .scope) n (e .table) h
 
   -- resolving keeps it, where the counts are within the arrays
-  pub moves-good : {e f : Exit} → Moves e f → Few img (f .table) → Good e → Good f
+  pub moves-good : {e f : Walked} → Moves e f → Few img (f .table) → Good e → Good f
   unfolding childScope ownSymbol newScope newSymbol
   moves-good stay h g = g
   moves-good (next m n) h g =

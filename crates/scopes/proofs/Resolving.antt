@@ -7,8 +7,8 @@ use Prim.Native.Nat.{ℕ, zero, suc, _+_, _*_, _-_, _<_, _≤_}
 use native.Mathlib.Omega.{arith}
 use native.Mathlib.Nat.{zero-add}
 use lib.Dec.{leb→le}
-use lib.ListN.{length, getD, set, drop, replicate, length-set, length-append, length-replicate}
-use lib.Seq.{getD-set-same, getD-set-other, drop-set-lt, drop-at}
+use lib.ListN.{length, getD, set, drop, length-set}
+use lib.Seq.{getD-set-same, getD-set-other, drop-set-lt}
 use Rattle.ast.specs.Answer.{twice as twiceAnswer, result}
 use Rattle.ast.specs.Image.{nodes, last, kindAt, nameOf}
 use Rattle.ast.specs.Declarations.{moduleLists}
@@ -23,7 +23,7 @@ use Rattle.ast.proofs.Small.{Small, tree-small}
 use Rattle.ast.proofs.Vars.{Everywhere}
 use Rattle.table.specs.Layout.{allOnes, nodesPlace, scopesPlace, symbolsPlace, parentPlace, scopePlace, nodePlace, tableLength}
 use Rattle.sound.specs.Sound.{isSymbol, scopesIn, symbolsIn, testSound}
-use Rattle.table.specs.State.{Exit, marked}
+use Rattle.table.specs.State.{Walked, marked}
 use Rattle.table.specs.Table.{Table, mark, newScope}
 use Rattle.sound.proofs.Sounds.{parent-low, row-yes, sound-rest}
 use Rattle.ordered.specs.Promises.{Few}
@@ -48,7 +48,7 @@ module _ (img ws : List ℕ) (n : ℕ) (below : n < nodes img) (long : tableLeng
   abbrev empty : Table
   empty = record { words = ws; scopes = 0; symbols = 0 }
 
-  abbrev pub begun : Exit
+  abbrev pub begun : Walked
   begun = marked img n 0 (record { scope = 0; table = newScope img allOnes empty })
 
   pub begun-counts : (begun .scope ≡ 0) × (begun .table .scopes ≡ 1) × (begun .table .symbols ≡ 0)
@@ -85,7 +85,7 @@ module _ (img ws : List ℕ) (n : ℕ) (below : n < nodes img) (long : tableLeng
       })
 
 -- what is done at the end of the module
-pub record Ended (img ws : List ℕ) (e : Exit) : Type 0 where
+pub record Ended (img ws : List ℕ) (e : Walked) : Type 0 where
   pub some : 1 ≤ e .table .scopes
   pub scopes : e .table .scopes ≤ nodes img
   pub symbols : e .table .symbols ≤ nodes img
@@ -96,7 +96,7 @@ pub record Ended (img ws : List ℕ) (e : Exit) : Type 0 where
 
 module _ (img ws : List ℕ) (long : tableLength (nodes img) ≤ length ws) where
   tree-ended : (n k : ℕ) (c : Class) (sh : List ℕ) (ts : Trees) → Small (nodes img) (node n k c sh ts) → Everywhere (Fit img) (node n k c sh ts) → size (node n k c sh ts) ≤ nodes img
-      → (e : Exit) → resolveTree img (node n k c sh ts) (record { words = ws; scopes = 0; symbols = 0 }) ≡ done e → Ended img ws e
+      → (e : Walked) → resolveTree img (node n k c sh ts) (record { words = ws; scopes = 0; symbols = 0 }) ≡ done e → Ended img ws e
   unfolding resolveTree Small Everywhere size
   tree-ended n k c sh ts q fit s e h =
       let m = begun img ws n (q .0) long in
@@ -151,7 +151,7 @@ module _ (img tab : List ℕ) where
     whole-size : size (treeAt img (last img)) ≡ nodes img
     whole-size = tree-size img accepted
 
-    pub walk-ended : (e : Exit) → walked img tab ≡ done e → Ended img (zeroed img tab) e
+    pub walk-ended : (e : Walked) → walked img tab ≡ done e → Ended img (zeroed img tab) e
     unfolding walked
     walk-ended e h =
         let n = last img in
@@ -167,7 +167,7 @@ module _ (img tab : List ℕ) where
     unfolding walked firstClash
     walk-shown = tree-shown img (zeroed img tab) zeroed-long (treeAt img (last img)) (tree-small img (last img)) (let z = whole-size in omega arith)
 
-  pub walked-ended : testTable img tab ≡ 0 → (e : Exit) → walked img tab ≡ done e → Ended img (zeroed img tab) e
+  pub walked-ended : testTable img tab ≡ 0 → (e : Walked) → walked img tab ≡ done e → Ended img (zeroed img tab) e
   walked-ended p e h = walk-ended (table-accepted p) e h
 
   pub walked-shown : testTable img tab ≡ 0 → shows (walked img tab) ≡ firstClash img
@@ -219,7 +219,7 @@ run-all f zero i h = refl
 run-all f (suc c) i h = skip _ _ (h i (omega arith) (omega arith)) ∙ run-all f c (i + 1) (λ j l k. h j (omega arith) (omega arith))
 
 -- 16 does not refuse it
-headed-sound : (img ws : List ℕ) (e : Exit) → tableLength (nodes img) ≤ length ws → Ended img ws e → testSound img (headed img (e .table)) ≡ 0
+headed-sound : (img ws : List ℕ) (e : Walked) → tableLength (nodes img) ≤ length ws → Ended img ws e → testSound img (headed img (e .table)) ≡ 0
 headed-sound img ws e long d =
     let t = e .table in
     let vs = headed img t in
@@ -263,7 +263,7 @@ module _ (img tab : List ℕ) {r : ℕ} (tested : r ≡ 0 → testTable img tab 
 module _ (img tab : List ℕ) where
   -- a result: what the walk ended with
   pub record Fills (k y : ℕ) (ws : List ℕ) : Type 0 where
-    pub end : Exit
+    pub end : Walked
     pub passes : testTable img tab ≡ 0
     pub is : walked img tab ≡ done end
     pub scopes-are : end .table .scopes ≡ k

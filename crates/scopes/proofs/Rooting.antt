@@ -17,9 +17,9 @@ use Rattle.ast.proofs.Count.{tree-size}
 use Rattle.ast.proofs.Row.{append, append-none, nodeOf}
 use Rattle.ast.proofs.Shapes.{tree-of, run-list}
 use Rattle.table.specs.Layout.{allOnes, tableLength}
-use Rattle.table.specs.State.{Exit, childScope, marked}
+use Rattle.table.specs.State.{Walked, childScope, marked}
 use Rattle.table.specs.Values.{tableOf}
-use Rattle.table.specs.declared.Walked.{Walked}
+use Rattle.table.specs.declared.Walked.{Walked as InCode}
 use Rattle.rows.specs.Rows.{cleared}
 use Rattle.scopes.specs.Walk.{andThen, enterAll, visitAll, resolveTree}
 use Rattle.scopes.specs.Resolve.{testTable, zeroed, walked, headed, fills, tableBy, Outcome, resolve}
@@ -47,17 +47,17 @@ module _ (img : List ℕ) where
       (sym (tree-of img is)) (refl, refl)
 
   -- the first scope, with the module's node marked
-  pub begun-is : (ws : List ℕ) (n : ℕ) (below : n < nodes img) (long : tableLength (nodes img) ≤ length ws) {f g : Exit}
+  pub begun-is : (ws : List ℕ) (n : ℕ) (below : n < nodes img) (long : tableLength (nodes img) ≤ length ws) {f g : Walked}
       → f ≡ childScope img (record { scope = allOnes; table = record { words = ws; scopes = 0; symbols = 0 } }) → g ≡ marked img n (f .scope) f → g ≡ begun img ws n below long
   unfolding childScope
-  begun-is ws n below long p q = q ∙ ap (λ (k : Exit). marked img n (k .scope) k) p
+  begun-is ws n below long p q = q ∙ ap (λ (k : Walked). marked img n (k .scope) k) p
 
-  pub record RootVisit (n count : ℕ) (ws : List ℕ) (g : Exit) : Type 0 where
+  pub record RootVisit (n count : ℕ) (ws : List ℕ) (g : Walked) : Type 0 where
     pub list : ListRun img n 1 count g
     pub visits : {r : Declared} {us vs : List ℕ} → Visits img (overList img n 1 count g) us r vs → us ≡ g .table .words
         → Visits img (resolveTree img (treeAt img (last img)) (record { words = ws; scopes = 0; symbols = 0 })) ws r vs
 
-  pub rootVisit : {n count : ℕ} {ws : List ℕ} {f g : Exit} → Lent img ws → n ≡ last img → count ≡ field img n 0
+  pub rootVisit : {n count : ℕ} {ws : List ℕ} {f g : Walked} → Lent img ws → n ≡ last img → count ≡ field img n 0
       → f ≡ childScope img (record { scope = allOnes; table = record { words = ws; scopes = 0; symbols = 0 } }) → g ≡ marked img n (f .scope) f → RootVisit n count ws g
   unfolding kindOf rootTrees
   rootVisit {n} {count} {ws} {f} {g} p q c h k =
@@ -86,7 +86,7 @@ module _ (img : List ℕ) where
       ts : Trees
       ts = items img n (field img n 0) 1
 
-      m : Exit
+      m : Walked
       m = begun img ws n low (p .long)
 
       counts : (m .scope ≡ 0) × (m .table .scopes ≡ 1) × (m .table .symbols ≡ 0)
@@ -117,7 +117,7 @@ module _ (img tab : List ℕ) (passes : testTable img tab ≡ 0) (us : List ℕ)
     walked-as = ap (λ (ws : List ℕ). resolveTree img (treeAt img (last img)) (record { words = ws; scopes = 0; symbols = 0 })) (sym as-zeroed) ∙ sym (h .same)
 
     -- K and Y, with the counts in front
-    pub resolved-done : {ws : List ℕ} (w : Walked) → r ≡ Done w → ws ≡ headed img (tableOf w vs) → Resolves img tab (Done w) ws
+    pub resolved-done : {ws : List ℕ} (w : InCode) → r ≡ Done w → ws ≡ headed img (tableOf w vs) → Resolves img tab (Done w) ws
     unfolding tableBy
     resolved-done w d q =
         let e = way-fills img tab refl (walked-as ∙ ap (λ (o : Declared). listedOf o vs) d) in
@@ -151,5 +151,5 @@ module _ (img tab : List ℕ) where
     pub resolve-twice : {x : ℕ} {a b : NodeId} → d ≡ Twice x a b → (twiceAnswer x (a .0) (b .0) ≡ (resolve img tab) .answer) × (ws ≡ (resolve img tab) .table)
     resolve-twice q = parts (unfold resolve in call-stopped img tab _ passes h q)
 
-    pub resolve-done : {w : Walked} → d ≡ Done w → (result (w .scopes) (w .symbols) ≡ (resolve img tab) .answer) × (ws ≡ (resolve img tab) .table)
+    pub resolve-done : {w : InCode} → d ≡ Done w → (result (w .scopes) (w .symbols) ≡ (resolve img tab) .answer) × (ws ≡ (resolve img tab) .table)
     resolve-done q = parts (unfold resolve in call-filled img tab _ passes h q)

@@ -14,8 +14,8 @@ use lib.Seq.{getD-set-same, getD-set-other}
 use borrow.Author.Tests.{eqb-true, eqb-false, ne-eqb}
 use Rattle.ast.specs.Image.{nodes, nameOf}
 use Rattle.table.specs.Layout.{tableLength}
-use Rattle.table.specs.Rows.{scopeOf, nodeAt}
-use Rattle.table.specs.State.{Exit, ownSymbol, marked}
+use Rattle.table.specs.Rising.{scopeOf, nodeAt}
+use Rattle.table.specs.State.{Walked, ownSymbol, marked}
 use Rattle.table.specs.Table.{rowIs, findFrom, mark, newSymbol}
 use Rattle.table.proofs.Finds.{row-out, row-in}
 use Rattle.table.proofs.Frames.{SameRows, mark-same, symbol-same, symbol-node}
@@ -45,11 +45,11 @@ module _ (img : List ℕ) where
   from-false (suc c) ws j s x h = rw (h j (omega arith), findFrom) (from-false c ws (j + 1) s x (λ i l. h i (omega arith)))
 
   -- a scope above all rows: whatever the stamps are
-  pub seen-start : (seen : List ℕ) (e : Exit) → ((j : ℕ) → j < e .table .symbols → scopeOf (nodes img) (e .table .words) j < e .scope) → Seen img seen e
+  pub seen-start : (seen : List ℕ) (e : Walked) → ((j : ℕ) → j < e .table .symbols → scopeOf (nodes img) (e .table .words) j < e .scope) → Seen img seen e
   seen-start seen e h = record { stamped = λ j l q k. absurd (let z = h j l in omega arith) }
 
   -- a name without the stamp is not in the scope
-  pub seen-none : {seen : List ℕ} {e : Exit} (x : ℕ) → Seen img seen e → x < length seen → (getD seen x 0 ≡ suc (e .scope) → ⊥)
+  pub seen-none : {seen : List ℕ} {e : Walked} (x : ℕ) → Seen img seen e → x < length seen → (getD seen x 0 ≡ suc (e .scope) → ⊥)
       → findFrom img (e .table .symbols) (e .table .words) 0 (e .scope) x ≡ none
   seen-none {seen} {e} x h l k = from-false (e .table .symbols) (e .table .words) 0 (e .scope) x (λ i b. go i (omega arith) (eqb (scopeOf (nodes img) (e .table .words) i) (e .scope)) refl)
     where
@@ -61,7 +61,7 @@ module _ (img : List ℕ) where
       go i b false q = row-out img (e .table .words) i (e .scope) x (eqb-false _ _ q)
 
   -- a stamp more for this scope breaks none
-  pub seen-stamp : {seen : List ℕ} {e : Exit} (x : ℕ) → Seen img seen e → Seen img (set seen x (suc (e .scope))) e
+  pub seen-stamp : {seen : List ℕ} {e : Walked} (x : ℕ) → Seen img seen e → Seen img (set seen x (suc (e .scope))) e
   seen-stamp {seen} {e} x h =
       record { stamped = λ j l q k. stamp (nameOf img (nodeAt (nodes img) (e .table .words) j)) (let z = length-set seen x (suc (e .scope)) in omega arith) (λ m. h .stamped j l q m) }
     where
@@ -73,7 +73,7 @@ module _ (img : List ℕ) where
           go false q = getD-set-other seen x y (suc (e .scope)) 0 (eqb-false _ _ q) ∙ f l
 
   -- a symbol more, whose name has its stamp
-  pub seen-symbol : {seen : List ℕ} (n : ℕ) (e : Exit) → e .table .symbols < nodes img → tableLength (nodes img) ≤ length (e .table .words)
+  pub seen-symbol : {seen : List ℕ} (n : ℕ) (e : Walked) → e .table .symbols < nodes img → tableLength (nodes img) ≤ length (e .table .words)
       → (nameOf img n < length seen → getD seen (nameOf img n) 0 ≡ suc (e .scope)) → Seen img seen e → Seen img seen (ownSymbol img n e)
   unfolding ownSymbol newSymbol
   seen-symbol {seen} n e few long f h = record { stamped = λ j l q k. ⊎-elim (λ r. new j r k) (λ m. old j m q k) (eq-or-lt-of-le (let z : j ≤ e .table .symbols = omega arith in z)) }
@@ -93,7 +93,7 @@ module _ (img : List ℕ) where
       old : (j : ℕ) → j < e .table .symbols → scopeOf (nodes img) vs j ≡ e .scope → Stamp (nodeAt (nodes img) vs j)
       old j m q = subst Stamp (sym (same .nodes j m)) (λ k. h .stamped j m (sym (same .scopes j m) ∙ q) k)
 
-  pub seen-marked : {seen : List ℕ} {n : ℕ} (cur : ℕ) (e : Exit) → n < nodes img → Seen img seen e → Seen img seen (marked img n cur e)
+  pub seen-marked : {seen : List ℕ} {n : ℕ} (cur : ℕ) (e : Walked) → n < nodes img → Seen img seen e → Seen img seen (marked img n cur e)
   unfolding marked mark
   seen-marked {seen} {n} cur e l h =
       record { stamped = λ j k q. subst Stamp (sym (same .nodes j k)) (λ m. h .stamped j k (sym (same .scopes j k) ∙ q) m) }

@@ -14,9 +14,9 @@ use Rattle.ast.proofs.Row.{append, append-none, Child, FormedFields, next, node
 use Rattle.ast.proofs.Shapes.{row, tree-of, child-is, items-more, run-item, run-tail}
 use Rattle.ast.proofs.Small.{Small, Smalls, tree-small, items-small}
 use Rattle.table.specs.Layout.{tableLength}
-use Rattle.table.specs.State.{Exit, childScope, marked, back}
-use Rattle.table.specs.Values.{exitOf}
-use Rattle.table.specs.declared.Walked.{Walked}
+use Rattle.table.specs.State.{Walked, childScope, marked, back}
+use Rattle.table.specs.Values.{walkedOf}
+use Rattle.table.specs.declared.Walked.{Walked as InCode}
 use Rattle.ast.specs.declared.NodeId.{NodeId}
 use Rattle.ordered.specs.Walk.{occurs, walk, walkSeq}
 use Rattle.ordered.specs.Promises.{over, inside, rest, Few, Room, Ready, ReadyRun}
@@ -35,15 +35,15 @@ use Rattle.scopes.proofs.Stamps.{seen-start}
 
 module _ (img : List ℕ) where
   -- a signature, and a rule: what is walked is dropped -----------------------------------------------------------------------
-  pub sig-visit : {fs : List Field} {n : ℕ} (e : Exit) → Is img (kindBy (outer signature) fs) n → visit img (treeAt img n) e ≡ done (back img (e .scope) (inside img occurs n e))
+  pub sig-visit : {fs : List Field} {n : ℕ} (e : Walked) → Is img (kindBy (outer signature) fs) n → visit img (treeAt img n) e ≡ done (back img (e .scope) (inside img occurs n e))
   unfolding visit nodeOf
   sig-visit {fs} {n} e is = subst (λ (u : Tree). visit img u e ≡ done (back img (e .scope) (walkSeq img occurs (below u) e))) (sym (tree-of img is)) refl
 
-  pub rule-visit : {n : ℕ} (e : Exit) → Is img (kindOf 6) n → visit img (treeAt img n) e ≡ done (back img (e .scope) (inside img occurs n e))
+  pub rule-visit : {n : ℕ} (e : Walked) → Is img (kindOf 6) n → visit img (treeAt img n) e ≡ done (back img (e .scope) (inside img occurs n e))
   unfolding visit nodeOf kindOf
   rule-visit {n} e is = subst (λ (u : Tree). visit img u e ≡ done (back img (e .scope) (walkSeq img occurs (below u) e))) (sym (tree-of img is)) refl
 
-  room-of : {a b : ℕ} {e f : Exit} → nodes img ≤ 2048 → Fits img a b e → Grows img e f → f .table .scopes ≤ e .table .scopes + a → f .table .symbols ≤ e .table .symbols + b → Room img f
+  room-of : {a b : ℕ} {e f : Walked} → nodes img ≤ 2048 → Fits img a b e → Grows img e f → f .table .scopes ≤ e .table .scopes + a → f .table .symbols ≤ e .table .symbols + b → Room img f
   room-of {a} {b} {e} {f} w p g x y =
       let h = p .scopes in
       let k = p .symbols in
@@ -55,7 +55,7 @@ module _ (img : List ℕ) where
   below-small (node i k c sh ts) h = h .1
   below-small (block ts) h = h
 
-  inside-grows : (n : ℕ) (e : Exit) → Grows img e (inside img occurs n e)
+  inside-grows : (n : ℕ) (e : Walked) → Grows img e (inside img occurs n e)
   inside-grows n e = seq-grows img occurs (below (treeAt img n)) (below-small (treeAt img n) (tree-small img n)) e
 
   Sizes : ℕ → Type 0
@@ -69,7 +69,7 @@ module _ (img : List ℕ) where
   unfolding Sizes vis size nodeOf kindOf
   rule-sizes {n} is = subst (λ (u : Tree). (size u ≡ suc (sizes (below u))) × (vis u ≡ sizes (below u))) (sym (tree-of img is)) (refl, refl)
 
-  inside-room : {kd : Kind} {n : ℕ} {e : Exit} → Is img kd n → Sizes n → Fits img (size (treeAt img n)) (vis (treeAt img n)) e → Inside img kd n e
+  inside-room : {kd : Kind} {n : ℕ} {e : Walked} → Is img kd n → Sizes n → Fits img (size (treeAt img n)) (vis (treeAt img n)) e → Inside img kd n e
   unfolding Sizes
   inside-room {kd} {n} {e} is s p =
       let w = seq-within img occurs (below (treeAt img n)) e in
@@ -77,42 +77,42 @@ module _ (img : List ℕ) where
       let y = w .symbols in
       record { is = is; room = room-of ((sized img (is .accepted)) .fewNodes) p (inside-grows n e) (omega arith) (omega arith) }
 
-  pub sig-inside : {fs : List Field} {n : ℕ} {e : Exit} → Is img (kindBy (outer signature) fs) n → Fits img (size (treeAt img n)) (vis (treeAt img n)) e → Inside img (kindBy (outer signature) fs) n e
+  pub sig-inside : {fs : List Field} {n : ℕ} {e : Walked} → Is img (kindBy (outer signature) fs) n → Fits img (size (treeAt img n)) (vis (treeAt img n)) e → Inside img (kindBy (outer signature) fs) n e
   sig-inside is p = inside-room is (sig-sizes is) p
 
-  pub rule-inside : {n : ℕ} {e : Exit} → Is img (kindOf 6) n → Fits img (size (treeAt img n)) (vis (treeAt img n)) e → Inside img (kindOf 6) n e
+  pub rule-inside : {n : ℕ} {e : Walked} → Is img (kindOf 6) n → Fits img (size (treeAt img n)) (vis (treeAt img n)) e → Inside img (kindOf 6) n e
   rule-inside is p = inside-room is (rule-sizes is) p
 
   -- a type has nothing inside
-  pub type-visit : {n : ℕ} (e : Exit) → Is img (kindOf 2) n → visit img (treeAt img n) e ≡ done e
+  pub type-visit : {n : ℕ} (e : Walked) → Is img (kindOf 2) n → visit img (treeAt img n) e ≡ done e
   unfolding walk nodeOf kindOf
-  type-visit {n} e is = sig-visit e is ∙ ap (λ (f : Exit). done (back img (e .scope) f)) (ap (λ (u : Tree). walkSeq img occurs (below u) e) (tree-of img is))
+  type-visit {n} e is = sig-visit e is ∙ ap (λ (f : Walked). done (back img (e .scope) f)) (ap (λ (u : Tree). walkSeq img occurs (below u) e) (tree-of img is))
 
-  pub record SigOne (k n d : ℕ) (e : Exit) : Type 0 where
+  pub record SigOne (k n d : ℕ) (e : Walked) : Type 0 where
     pub first : Ready img (kindOf k) d e
     pub inner : inside img occurs n e ≡ over img d e
 
-  sig-one-in : {k n : ℕ} (e : Exit) → Is img (kindBy (outer signature) (name ∷ child k ∷ [])) n → inside img occurs n e ≡ over img (field img n 1) e
+  sig-one-in : {k n : ℕ} (e : Walked) → Is img (kindBy (outer signature) (name ∷ child k ∷ [])) n → inside img occurs n e ≡ over img (field img n 1) e
   unfolding walk nodeOf
   sig-one-in e is = ap (λ (u : Tree). walkSeq img occurs (below u) e) (tree-of img is)
 
-  pub sigOne : {k n d : ℕ} {e : Exit} → Inside img (kindBy (outer signature) (name ∷ child k ∷ [])) n e → d ≡ field img n 1 → SigOne k n d e
+  pub sigOne : {k n d : ℕ} {e : Walked} → Inside img (kindBy (outer signature) (name ∷ child k ∷ [])) n e → d ≡ field img n 1 → SigOne k n d e
   unfolding FormedFields next
   sigOne {k} {n} {d} {e} p q =
       let h : Child img n k (field img n 1) = (row img (p .is)) .1 .0 in
       let w = sig-one-in e (p .is) in
       subst (λ (x : ℕ). SigOne k n x e) (sym q) (record { first = record { is = child-is img (p .is) h; room = subst (Room img) w (p .room) }; inner = w })
 
-  pub record SigTwo (n c d : ℕ) (e : Exit) : Type 0 where
+  pub record SigTwo (n c d : ℕ) (e : Walked) : Type 0 where
     pub first : Ready img (kindOf 11) c e
     pub second : Ready img (kindOf 23) d (over img c e)
     pub inner : inside img occurs n e ≡ over img d (over img c e)
 
-  sig-two-in : {n : ℕ} (e : Exit) → Is img (kindOf 4) n → inside img occurs n e ≡ over img (field img n 2) (over img (field img n 1) e)
+  sig-two-in : {n : ℕ} (e : Walked) → Is img (kindOf 4) n → inside img occurs n e ≡ over img (field img n 2) (over img (field img n 1) e)
   unfolding walk nodeOf kindOf
   sig-two-in e is = ap (λ (u : Tree). walkSeq img occurs (below u) e) (tree-of img is)
 
-  pub sigTwo : {n c d : ℕ} {e : Exit} → Inside img (kindOf 4) n e → c ≡ field img n 1 → d ≡ field img n 2 → SigTwo n c d e
+  pub sigTwo : {n c d : ℕ} {e : Walked} → Inside img (kindOf 4) n e → c ≡ field img n 1 → d ≡ field img n 2 → SigTwo n c d e
   unfolding FormedFields next kindOf
   sigTwo {n} {c} {d} {e} p q r =
       let h : Child img n 11 (field img n 1) = (row img (p .is)) .1 .0 in
@@ -125,15 +125,15 @@ module _ (img : List ℕ) where
         inner = w;
       }))
 
-  pub record RuleRun (n count : ℕ) (e : Exit) : Type 0 where
+  pub record RuleRun (n count : ℕ) (e : Walked) : Type 0 where
     pub run : ReadyRun img 36 n 2 count e
     pub inner : inside img occurs n e ≡ rest img occurs n 2 count 0 e
 
-  rule-in : {n : ℕ} (e : Exit) → Is img (kindOf 6) n → inside img occurs n e ≡ walkSeq img occurs (items img n (field img n 1) 2) e
+  rule-in : {n : ℕ} (e : Walked) → Is img (kindOf 6) n → inside img occurs n e ≡ walkSeq img occurs (items img n (field img n 1) 2) e
   unfolding nodeOf kindOf
   rule-in {n} e is = ap (λ (u : Tree). walkSeq img occurs (below u) e) (tree-of img is) ∙ ap (λ (us : Trees). walkSeq img occurs us e) (append-none (items img n (field img n 1) 2))
 
-  pub ruleRun : {n count : ℕ} {e : Exit} → Inside img (kindOf 6) n e → count ≡ field img n 1 → RuleRun n count e
+  pub ruleRun : {n count : ℕ} {e : Walked} → Inside img (kindOf 6) n e → count ≡ field img n 1 → RuleRun n count e
   unfolding next kindOf
   ruleRun {n} {count} {e} p q =
       let w = rule-in e (p .is) ∙ rest-start img occurs n 2 (field img n 1) e in
@@ -141,14 +141,14 @@ module _ (img : List ℕ) where
       (record { run = record { run = run-tail img (p .is) refl refl; room = subst (Room img) w (p .room) }; inner = w })
 
   -- the walk back in the scope of `at`
-  pub dropped-is : (r at w : Walked) (ws : List ℕ) → (r .scope ≡ at .scope) × (r .scopes ≡ w .scopes) × (r .symbols ≡ w .symbols) → exitOf r ws ≡ back img (at .scope .0) (exitOf w ws)
+  pub dropped-is : (r at w : InCode) (ws : List ℕ) → (r .scope ≡ at .scope) × (r .scopes ≡ w .scopes) × (r .symbols ≡ w .symbols) → walkedOf r ws ≡ back img (at .scope .0) (walkedOf w ws)
   dropped-is r at w ws h = λ i. record { scope = (h .0 i) .0; table = record { words = ws; scopes = h .1 i; symbols = h .2 i } }
 
   -- a walk that is done hands this back
-  pub done-visits : (n : ℕ) {e : Exit} {vs : List ℕ} (w : Walked) → Fits img (size (treeAt img n)) (vis (treeAt img n)) e → done (exitOf w vs) ≡ visit img (treeAt img n) e
+  pub done-visits : (n : ℕ) {e : Walked} {vs : List ℕ} (w : InCode) → Fits img (size (treeAt img n)) (vis (treeAt img n)) e → done (walkedOf w vs) ≡ visit img (treeAt img n) e
       → Visits img (visit img (treeAt img n) e) (e .table .words) (Done w) vs
   done-visits n {e} {vs} w p q =
-      let t = (visit-in img (treeAt img n) (tree-small img n) e) .went (exitOf w vs) (sym q) in
+      let t = (visit-in img (treeAt img n) (tree-small img n) e) .went (walkedOf w vs) (sym q) in
       let x = t .scopes in
       let y = t .symbols in
       let u = p .scopes in
@@ -160,15 +160,15 @@ module _ (img : List ℕ) where
   visits-as q h = record { same = h .same ∙ q; passed = h .passed }
 
   -- what is left of a list ---------------------------------------------------------------------------------------------------
-  pub visit-start : (n j count : ℕ) (e : Exit) → visitAll img (items img n count j) e ≡ restVisit img n j count 0 e
+  pub visit-start : (n j count : ℕ) (e : Walked) → visitAll img (items img n count j) e ≡ restVisit img n j count 0 e
   unfolding restVisit
   visit-start n j count e = ap (λ (us : Trees). visitAll img us e) (same-items img n j count)
 
-  visit-more : (n j count i : ℕ) (e : Exit) → i < count → restVisit img n j count i e ≡ andThen img (visit img (treeAt img (field img n (j + i))) e) (restVisit img n j count (i + 1))
+  visit-more : (n j count i : ℕ) (e : Walked) → i < count → restVisit img n j count i e ≡ andThen img (visit img (treeAt img (field img n (j + i))) e) (restVisit img n j count (i + 1))
   unfolding restVisit visit
   visit-more n j count i e h = ap (λ (us : Trees). visitAll img us e) (items-more img n j count i h)
 
-  visit-end : (n j count i : ℕ) (e : Exit) → count ≤ i → restVisit img n j count i e ≡ done e
+  visit-end : (n j count i : ℕ) (e : Walked) → count ≤ i → restVisit img n j count i e ≡ done e
   unfolding restVisit visit items
   visit-end n j count i e h = let z : count - i ≡ 0 = omega arith in ap (λ (c : ℕ). visitAll img (items img n c (j + i)) e) z
 
@@ -178,25 +178,25 @@ module _ (img : List ℕ) where
   unfolding size vis
   sizes-more n j count i h = (ap sizes (items-more img n j count i h), ap viss (items-more img n j count i h))
 
-  pub record VisitLeft (n j count i : ℕ) (e f : Exit) : Type 0 where
+  pub record VisitLeft (n j count i : ℕ) (e f : Walked) : Type 0 where
     pub within : i ≤ count
     pub long : length (f .table .words) ≡ length (e .table .words)
     pub fits : Fits img (sizes (items img n (count - i) (j + i))) (viss (items img n (count - i) (j + i))) f
     pub passed : past img (f .table) ≡ past img (e .table)
     pub left : restVisit img n j count 0 e ≡ restVisit img n j count i f
 
-  pub visit-begin : {k n j count : ℕ} {e : Exit} → VisitRun img k n j count e → VisitLeft n j count 0 e e
+  pub visit-begin : {k n j count : ℕ} {e : Walked} → VisitRun img k n j count e → VisitLeft n j count 0 e e
   visit-begin {k} {n} {j} {count} {e} p =
       record { within = omega arith; long = refl; fits = subst (λ (us : Trees). Fits img (sizes us) (viss us) e) (same-items img n j count) (p .fits); passed = refl; left = refl }
 
-  pub record VisitItem (k n j count i c : ℕ) (e f : Exit) : Type 0 where
+  pub record VisitItem (k n j count i c : ℕ) (e f : Walked) : Type 0 where
     pub low : c < n
     pub ready : Visit img (kindOf k) c f
-    pub more : {r : Declared} {vs : List ℕ} (w : Walked) → r ≡ Done w → Visits img (visit img (treeAt img c) f) (f .table .words) r vs → VisitLeft n j count (i + 1) e (exitOf w vs)
+    pub more : {r : Declared} {vs : List ℕ} (w : InCode) → r ≡ Done w → Visits img (visit img (treeAt img c) f) (f .table .words) r vs → VisitLeft n j count (i + 1) e (walkedOf w vs)
     pub stop : {r : Declared} {vs : List ℕ} (x : ℕ) (a b : NodeId) → r ≡ Twice x a b → Visits img (visit img (treeAt img c) f) (f .table .words) r vs
         → Visits img (restVisit img n j count 0 e) (e .table .words) (Twice x a b) vs
 
-  pub visitItem : {k n j count i c : ℕ} {e f : Exit} → VisitRun img k n j count e → VisitLeft n j count i e f → i < count → c ≡ field img n (j + i) → VisitItem k n j count i c e f
+  pub visitItem : {k n j count i c : ℕ} {e f : Walked} → VisitRun img k n j count e → VisitLeft n j count i e f → i < count → c ≡ field img n (j + i) → VisitItem k n j count i c e f
   visitItem {k} {n} {j} {count} {i} {c} {e} {f} p b l q = subst (λ (x : ℕ). VisitItem k n j count i x e f) (sym q) item
     where
       m : ℕ
@@ -207,16 +207,16 @@ module _ (img : List ℕ) where
           let s = sizes-more n j count i l in
           record { scopes = (let r = b .fits .scopes in omega arith); symbols = (let r = b .fits .symbols in omega arith); kept = b .fits .kept }
 
-      after : {r : Declared} {vs : List ℕ} (w : Walked) → r ≡ Done w → Visits img (visit img (treeAt img m) f) (f .table .words) r vs → VisitLeft n j count (i + 1) e (exitOf w vs)
+      after : {r : Declared} {vs : List ℕ} (w : InCode) → r ≡ Done w → Visits img (visit img (treeAt img m) f) (f .table .words) r vs → VisitLeft n j count (i + 1) e (walkedOf w vs)
       after {r} {vs} w d h =
-          let g : visit img (treeAt img m) f ≡ done (exitOf w vs) = sym (h .same) ∙ ap (λ (o : Declared). listedOf o vs) d in
-          let t = (visit-in img (treeAt img m) (tree-small img m) f) .went (exitOf w vs) g in
+          let g : visit img (treeAt img m) f ≡ done (walkedOf w vs) = sym (h .same) ∙ ap (λ (o : Declared). listedOf o vs) d in
+          let t = (visit-in img (treeAt img m) (tree-small img m) f) .went (walkedOf w vs) g in
           record {
             within = omega arith;
             long = t .long ∙ b .long;
             fits = fits-next img more-fits t;
             passed = h .passed ∙ b .passed;
-            left = b .left ∙ visit-more n j count i f l ∙ and-done img (exitOf w vs) (restVisit img n j count (i + 1)) _ g;
+            left = b .left ∙ visit-more n j count i f l ∙ and-done img (walkedOf w vs) (restVisit img n j count (i + 1)) _ g;
           }
 
       h : Child img n k m × Is img (kindOf k) m
@@ -239,23 +239,23 @@ module _ (img : List ℕ) where
                 };
           }
 
-  pub visit-ended : {n j count i : ℕ} {e : Exit} {vs : List ℕ} (w : Walked) → VisitLeft n j count i e (exitOf w vs) → count ≤ i
+  pub visit-ended : {n j count i : ℕ} {e : Walked} {vs : List ℕ} (w : InCode) → VisitLeft n j count i e (walkedOf w vs) → count ≤ i
       → Visits img (restVisit img n j count 0 e) (e .table .words) (Done w) vs
-  visit-ended {n} {j} {count} {i} {e} {vs} w b l = record { same = sym (b .left ∙ visit-end n j count i (exitOf w vs) l); passed = b .passed }
+  visit-ended {n} {j} {count} {i} {e} {vs} w b l = record { same = sym (b .left ∙ visit-end n j count i (walkedOf w vs) l); passed = b .passed }
 
   -- the lists of an enum and of a model ---------------------------------------------------------------------------------------
   abbrev listTrees : ℕ → Trees
   listTrees n = append (items img n (field img n 1) 2) none
 
-  pub record EnumVisit (n count : ℕ) (e : Exit) : Type 0 where
+  pub record EnumVisit (n count : ℕ) (e : Walked) : Type 0 where
     pub run : VisitRun img 9 n 2 count e
     pub whole : visit img (treeAt img n) e ≡ restVisit img n 2 count 0 e
 
-  enum-visit : {n : ℕ} (e : Exit) → Is img (kindOf 7) n → (visit img (treeAt img n) e ≡ visitAll img (listTrees n) e) × (size (treeAt img n) ≡ suc (sizes (listTrees n))) × (vis (treeAt img n) ≡ viss (listTrees n))
+  enum-visit : {n : ℕ} (e : Walked) → Is img (kindOf 7) n → (visit img (treeAt img n) e ≡ visitAll img (listTrees n) e) × (size (treeAt img n) ≡ suc (sizes (listTrees n))) × (vis (treeAt img n) ≡ viss (listTrees n))
   unfolding visit vis size nodeOf kindOf
   enum-visit {n} e is = subst (λ (u : Tree). (visit img u e ≡ visitAll img (listTrees n) e) × (size u ≡ suc (sizes (listTrees n))) × (vis u ≡ viss (listTrees n))) (sym (tree-of img is)) (refl, refl, refl)
 
-  pub enumVisit : {n count : ℕ} {e : Exit} → Visit img (kindOf 7) n e → count ≡ field img n 1 → EnumVisit n count e
+  pub enumVisit : {n count : ℕ} {e : Walked} → Visit img (kindOf 7) n e → count ≡ field img n 1 → EnumVisit n count e
   unfolding next kindOf
   enumVisit {n} {count} {e} p q =
       let a = append-none (items img n (field img n 1) 2) in
@@ -272,12 +272,12 @@ module _ (img : List ℕ) where
       })
 
   -- a list: its names, then its declarations
-  pub over-start : (n j count : ℕ) (e : Exit) → andThen img (enterAll img (items img n count j) e) (visitAll img (items img n count j)) ≡ overList img n j count e
+  pub over-start : (n j count : ℕ) (e : Walked) → andThen img (enterAll img (items img n count j) e) (visitAll img (items img n count j)) ≡ overList img n j count e
   over-start n j count e =
       ap (λ (l : Listed). andThen img l (visitAll img (items img n count j))) (enter-start img n j count e)
-      ∙ ap (λ (k : Exit → Listed). andThen img (restEnter img n j count 0 e) k) (fun-ext (λ f. visit-start n j count f))
+      ∙ ap (λ (k : Walked → Listed). andThen img (restEnter img n j count 0 e) k) (fun-ext (λ f. visit-start n j count f))
 
-  model-visit : {n : ℕ} (e : Exit) → Is img (kindOf 8) n
+  model-visit : {n : ℕ} (e : Walked) → Is img (kindOf 8) n
       → (visit img (treeAt img n) e ≡ andThen img (andThen img (enterAll img (listTrees n) (opened img n e)) (λ f. visitAll img (listTrees n) f)) (λ f. done (back img (e .scope) f)))
       × (size (treeAt img n) ≡ suc (sizes (listTrees n))) × (vis (treeAt img n) ≡ ents (listTrees n) + viss (listTrees n))
   unfolding visit vis size nodeOf kindOf
@@ -287,21 +287,21 @@ module _ (img : List ℕ) where
       (sym (tree-of img is)) (refl, refl, refl)
 
   -- its own scope, with its node marked
-  pub opened-is : (n : ℕ) (e : Exit) {f g : Exit} → f ≡ childScope img e → g ≡ marked img n (f .scope) f → g ≡ opened img n e
+  pub opened-is : (n : ℕ) (e : Walked) {f g : Walked} → f ≡ childScope img e → g ≡ marked img n (f .scope) f → g ≡ opened img n e
   unfolding childScope
-  opened-is n e {f} {g} p q = q ∙ ap (λ (k : Exit). marked img n (k .scope) k) p
+  opened-is n e {f} {g} p q = q ∙ ap (λ (k : Walked). marked img n (k .scope) k) p
 
-  pub record ModelVisit (n count : ℕ) (e g : Exit) : Type 0 where
+  pub record ModelVisit (n count : ℕ) (e g : Walked) : Type 0 where
     pub list : ListRun img n 2 count g
-    pub back-in : {r : Declared} {us vs : List ℕ} (v w : Walked) → r ≡ Done w → Visits img (overList img n 2 count g) us r vs → us ≡ g .table .words
-        → exitOf v vs ≡ back img (e .scope) (exitOf w vs) → Visits img (visit img (treeAt img n) e) (e .table .words) (Done v) vs
+    pub back-in : {r : Declared} {us vs : List ℕ} (v w : InCode) → r ≡ Done w → Visits img (overList img n 2 count g) us r vs → us ≡ g .table .words
+        → walkedOf v vs ≡ back img (e .scope) (walkedOf w vs) → Visits img (visit img (treeAt img n) e) (e .table .words) (Done v) vs
     pub stop : {r : Declared} {us vs : List ℕ} (x : ℕ) (a b : NodeId) → r ≡ Twice x a b → Visits img (overList img n 2 count g) us r vs → us ≡ g .table .words
         → Visits img (visit img (treeAt img n) e) (e .table .words) (Twice x a b) vs
 
-  pub model-room : {n : ℕ} {e : Exit} → Visit img (kindOf 8) n e → e .table .scopes + 1 < 2 ^ 32
+  pub model-room : {n : ℕ} {e : Walked} → Visit img (kindOf 8) n e → e .table .scopes + 1 < 2 ^ 32
   model-room {n} {e} p = let z = (model-visit e (p .is)) .1 in let f = p .fits .scopes in let w = (sized img (p .is .accepted)) .fewNodes in omega arith
 
-  pub modelVisit : {n count : ℕ} {e g : Exit} → Visit img (kindOf 8) n e → count ≡ field img n 1 → g ≡ opened img n e → ModelVisit n count e g
+  pub modelVisit : {n count : ℕ} {e g : Walked} → Visit img (kindOf 8) n e → count ≡ field img n 1 → g ≡ opened img n e → ModelVisit n count e g
   unfolding next kindOf
   modelVisit {n} {count} {e} {g} p q o =
       subst (λ (x : ℕ). ModelVisit n x e g) (sym q) (subst (ModelVisit n (field img n 1) e) (sym o)
@@ -313,8 +313,8 @@ module _ (img : List ℕ) where
           fresh = child-empty img e (p .is .below) small (p .fits .kept);
         };
         back-in = λ {r} {us} {vs} v w d h u k.
-            let t : overList img n 2 (field img n 1) m ≡ done (exitOf w vs) = sym (h .same) ∙ ap (λ (x : Declared). listedOf x vs) d in
-            record { same = ap done k ∙ sym (whole ∙ and-done img (exitOf w vs) (λ f. done (back img (e .scope) f)) _ t); passed = h .passed ∙ ap (drop (tableLength (nodes img))) u ∙ child-past img e (p .is .below) small };
+            let t : overList img n 2 (field img n 1) m ≡ done (walkedOf w vs) = sym (h .same) ∙ ap (λ (x : Declared). listedOf x vs) d in
+            record { same = ap done k ∙ sym (whole ∙ and-done img (walkedOf w vs) (λ f. done (back img (e .scope) f)) _ t); passed = h .passed ∙ ap (drop (tableLength (nodes img))) u ∙ child-past img e (p .is .below) small };
         stop = λ {r} {us} {vs} x a b d h u.
             let t : overList img n 2 (field img n 1) m ≡ twice x (a .0) (b .0) = sym (h .same) ∙ ap (λ (y : Declared). listedOf y vs) d in
             record { same = sym (whole ∙ and-stop img x (a .0) (b .0) (λ f. done (back img (e .scope) f)) _ t); passed = h .passed ∙ ap (drop (tableLength (nodes img))) u ∙ child-past img e (p .is .below) small };
@@ -323,7 +323,7 @@ module _ (img : List ℕ) where
       ts : Trees
       ts = items img n (field img n 1) 2
 
-      m : Exit
+      m : Walked
       m = opened img n e
 
       a : listTrees n ≡ ts
@@ -347,7 +347,7 @@ module _ (img : List ℕ) where
           ∙ ap (λ (l : Listed). andThen img l (λ f. done (back img (e .scope) f))) (over-start n 2 (field img n 1) m)
 
   -- the names of a list
-  pub list-enter : {n j count : ℕ} {e : Exit} (seen : List ℕ) → ListRun img n j count e → EnterRun img seen n j count e
+  pub list-enter : {n j count : ℕ} {e : Walked} (seen : List ℕ) → ListRun img n j count e → EnterRun img seen n j count e
   list-enter {n} {j} {count} {e} seen p =
       record {
         run = p .run;
@@ -361,15 +361,15 @@ module _ (img : List ℕ) where
       }
 
   -- then its declarations
-  pub record ListVisit (n j count : ℕ) (e : Exit) (us : List ℕ) (w : Walked) (ws : List ℕ) : Type 0 where
-    pub run : VisitRun img 1 n j count (exitOf w ws)
-    pub visits : {r : Declared} {vs : List ℕ} → Visits img (restVisit img n j count 0 (exitOf w ws)) ws r vs → Visits img (overList img n j count e) us r vs
+  pub record ListVisit (n j count : ℕ) (e : Walked) (us : List ℕ) (w : InCode) (ws : List ℕ) : Type 0 where
+    pub run : VisitRun img 1 n j count (walkedOf w ws)
+    pub visits : {r : Declared} {vs : List ℕ} → Visits img (restVisit img n j count 0 (walkedOf w ws)) ws r vs → Visits img (overList img n j count e) us r vs
 
-  pub listVisit : {n j count : ℕ} {e : Exit} {seen ws : List ℕ} {r : Declared} (w : Walked) → ListRun img n j count e → r ≡ Done w → Enters img (restEnter img n j count 0 e) (e .table .words) r seen ws
+  pub listVisit : {n j count : ℕ} {e : Walked} {seen ws : List ℕ} {r : Declared} (w : InCode) → ListRun img n j count e → r ≡ Done w → Enters img (restEnter img n j count 0 e) (e .table .words) r seen ws
       → ListVisit n j count e (e .table .words) w ws
   listVisit {n} {j} {count} {e} {seen} {ws} {r} w p d h =
-      let g : restEnter img n j count 0 e ≡ done (exitOf w ws) = sym (h .same) ∙ ap (λ (o : Declared). listedOf o ws) d in
-      let t = (enterAll-in img (items img n count j) (items-small img n count j) e) .went (exitOf w ws) (enter-start img n j count e ∙ g) in
+      let g : restEnter img n j count 0 e ≡ done (walkedOf w ws) = sym (h .same) ∙ ap (λ (o : Declared). listedOf o ws) d in
+      let t = (enterAll-in img (items img n count j) (items-small img n count j) e) .went (walkedOf w ws) (enter-start img n j count e ∙ g) in
       let x = t .scopes in
       let y = t .symbols in
       let u = p .fits .scopes in
@@ -379,15 +379,15 @@ module _ (img : List ℕ) where
           run = p .run;
           fits = record { scopes = omega arith; symbols = omega arith; kept = (t .keeps (record { scopes = omega arith; symbols = omega arith }) (record { kept = p .fits .kept; last = p .newest })) .kept };
         };
-        visits = λ k. record { same = k .same ∙ sym (and-done img (exitOf w ws) (restVisit img n j count 0) _ g); passed = k .passed ∙ h .passed };
+        visits = λ k. record { same = k .same ∙ sym (and-done img (walkedOf w ws) (restVisit img n j count 0) _ g); passed = k .passed ∙ h .passed };
       }
 
-  pub list-stop : (n j count : ℕ) (e : Exit) {us seen ws : List ℕ} {r : Declared} (x : ℕ) (a b : NodeId) → r ≡ Twice x a b → Enters img (restEnter img n j count 0 e) us r seen ws
+  pub list-stop : (n j count : ℕ) (e : Walked) {us seen ws : List ℕ} {r : Declared} (x : ℕ) (a b : NodeId) → r ≡ Twice x a b → Enters img (restEnter img n j count 0 e) us r seen ws
       → Visits img (overList img n j count e) us (Twice x a b) ws
   list-stop n j count e {us} {seen} {ws} {r} x a b d h =
       let g : restEnter img n j count 0 e ≡ twice x (a .0) (b .0) = sym (h .same) ∙ ap (λ (o : Declared). listedOf o ws) d in
       record { same = sym (and-stop img x (a .0) (b .0) (restVisit img n j count 0) _ g); passed = h .passed }
 
   -- a Decl that is visited: what is asked of its declaration
-  pub decl-fits : {k n d : ℕ} {e : Exit} → DeclOf img k n d → Fits img (size (treeAt img n)) (vis (treeAt img n)) e → Fits img (size (treeAt img d)) (vis (treeAt img d)) e
+  pub decl-fits : {k n d : ℕ} {e : Walked} → DeclOf img k n d → Fits img (size (treeAt img n)) (vis (treeAt img n)) e → Fits img (size (treeAt img d)) (vis (treeAt img d)) e
   decl-fits o p = record { scopes = (let s = decl-size img o in let f = p .scopes in omega arith); symbols = (let s = decl-vis img o in let f = p .symbols in omega arith); kept = p .kept }

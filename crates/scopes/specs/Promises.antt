@@ -13,19 +13,19 @@ use Rattle.ast.specs.Kinds.{outer, inner, root, decl, signature, rule, enum, mo
 use Rattle.ast.specs.Tests.{verdict}
 use Rattle.ast.specs.Tree.{Tree, node, block, Trees, none, _◂_, treeAt, size, sizes}
 use Rattle.table.specs.Layout.{tableLength}
-use Rattle.table.specs.Rows.{scopeOf, nodeAt}
-use Rattle.table.specs.State.{Exit}
-use Rattle.table.specs.Values.{exitOf}
+use Rattle.table.specs.Rising.{scopeOf, nodeAt}
+use Rattle.table.specs.State.{Walked}
+use Rattle.table.specs.Values.{walkedOf}
 use Rattle.ordered.specs.Walk.{occurs}
 use Rattle.ordered.specs.Promises.{inside, Room}
 use Rattle.ordered.specs.Kept.{Kept}
-use Rattle.scopes.specs.Walk.{Listed, done, twice, andThen, enterAll, visitAll}
+use Rattle.scopes.specs.Walk.{Listed, done, twice, recorded, andThen, enterNames, markAll, enterAll, visitAll}
 use Rattle.scopes.specs.declared.Declared.{Declared}
 use Rattle.scopes.specs.declared.Declared.the-variants.{Done, Twice}
 
 -- the code's value as the definition's; what stands in the table after a clash is not told
 abbrev pub listedOf : Declared → List ℕ → Listed
-listedOf (Done w) ws = done (exitOf w ws)
+listedOf (Done w) ws = done (walkedOf w ws)
 listedOf (Twice x a b) ws = twice x (a .0) (b .0)
 
 -- how many symbols entering a declaration, or a list of them, may add
@@ -54,27 +54,31 @@ unfoldable mutual
   viss (t ◂ ts) = vis t + viss ts
 
 module _ (img : List ℕ) where
+  -- what entering one declaration of a list gives
+  unfoldable pub enter : Tree → Walked → Listed
+  enter u e = enterNames img (declared u) (markAll img (recorded u) e)
+
   -- what entering and visiting those of the count items from place j of n's row on give that are left after i of them
-  unfoldable pub restEnter : (n j count i : ℕ) → Exit → Listed
+  unfoldable pub restEnter : (n j count i : ℕ) → Walked → Listed
   unfolding items
   restEnter n j count i e = enterAll img (items img n (count - i) (j + i)) e
 
-  unfoldable pub restVisit : (n j count i : ℕ) → Exit → Listed
+  unfoldable pub restVisit : (n j count i : ℕ) → Walked → Listed
   unfolding items
   restVisit n j count i e = visitAll img (items img n (count - i) (j + i)) e
 
   -- the whole list: its names first, then its declarations
-  abbrev pub overList : (n j count : ℕ) → Exit → Listed
+  abbrev pub overList : (n j count : ℕ) → Walked → Listed
   overList n j count e = andThen img (restEnter n j count 0 e) (restVisit n j count 0)
 
   -- each row of the scope that the walk stands in has its name stamped with the scope's number plus 1
-  pub record Seen (seen : List ℕ) (e : Exit) : Type 0 where
+  pub record Seen (seen : List ℕ) (e : Walked) : Type 0 where
     pub stamped : (j : ℕ) → j < e .table .symbols → scopeOf (nodes img) (e .table .words) j ≡ e .scope
         → nameOf img (nodeAt (nodes img) (e .table .words) j) < length seen
         → getD seen (nameOf img (nodeAt (nodes img) (e .table .words) j)) 0 ≡ suc (e .scope)
 
   -- names may be entered, m more at most
-  pub record Entering (seen : List ℕ) (m : ℕ) (e : Exit) : Type 0 where
+  pub record Entering (seen : List ℕ) (m : ℕ) (e : Walked) : Type 0 where
     pub accepted : verdict img ≡ 0
     pub live : e .scope < nodes img
     pub room : e .table .symbols + m ≤ nodes img
@@ -84,7 +88,7 @@ module _ (img : List ℕ) where
   -- what entering hands back: the definition's, with the stamps of what was entered, and the words past the table as they were
   pub record Enters (l : Listed) (ws : List ℕ) (r : Declared) (seen vs : List ℕ) : Type 0 where
     pub same : listedOf r vs ≡ l
-    pub stamps : (f : Exit) → l ≡ done f → Seen seen f
+    pub stamps : (f : Walked) → l ≡ done f → Seen seen f
     pub passed : drop (tableLength (nodes img)) vs ≡ drop (tableLength (nodes img)) ws
 
   -- what visiting hands back
@@ -99,33 +103,33 @@ module _ (img : List ℕ) where
     pub class : (kindOf (kindAt img n)) .class ≡ outer signature
 
   -- a declaration whose trees are walked and dropped
-  pub record Inside (kd : Kind) (n : ℕ) (e : Exit) : Type 0 where
+  pub record Inside (kd : Kind) (n : ℕ) (e : Walked) : Type 0 where
     pub is : Is img kd n
     pub room : Room img (inside img occurs n e)
 
   -- a scopes and b symbols more fit
-  pub record Fits (a b : ℕ) (e : Exit) : Type 0 where
+  pub record Fits (a b : ℕ) (e : Walked) : Type 0 where
     pub scopes : e .table .scopes + a ≤ nodes img
     pub symbols : e .table .symbols + b ≤ nodes img
     pub kept : Kept img (e .table)
 
   -- what visiting a declaration asks
-  pub record Visit (kd : Kind) (n : ℕ) (e : Exit) : Type 0 where
+  pub record Visit (kd : Kind) (n : ℕ) (e : Walked) : Type 0 where
     pub is : Is img kd n
     pub fits : Fits (size (treeAt img n)) (vis (treeAt img n)) e
 
   -- what entering the names of a list asks
-  pub record EnterRun (seen : List ℕ) (n j count : ℕ) (e : Exit) : Type 0 where
+  pub record EnterRun (seen : List ℕ) (n j count : ℕ) (e : Walked) : Type 0 where
     pub run : Run img 1 n j count
     pub entering : Entering seen (ents (items img n count j)) e
 
   -- what visiting the declarations of a list asks
-  pub record VisitRun (k n j count : ℕ) (e : Exit) : Type 0 where
+  pub record VisitRun (k n j count : ℕ) (e : Walked) : Type 0 where
     pub run : Run img k n j count
     pub fits : Fits (sizes (items img n count j)) (viss (items img n count j)) e
 
   -- what the whole list asks: the walk stands in the newest scope, which has no row yet
-  pub record ListRun (n j count : ℕ) (e : Exit) : Type 0 where
+  pub record ListRun (n j count : ℕ) (e : Walked) : Type 0 where
     pub run : Run img 1 n j count
     pub fits : Fits (sizes (items img n count j)) (ents (items img n count j) + viss (items img n count j)) e
     pub newest : suc (e .scope) ≡ e .table .scopes

@@ -10,11 +10,11 @@ ghost use Rattle.ast.specs.Is.{Is, kindBy};
 ghost use Rattle.ast.specs.Kinds.{outer, signature, name, child, kindOf};
 ghost use Rattle.ast.specs.Tree.{treeAt};
 ghost use Rattle.table.specs.State.{marked, back};
-ghost use Rattle.table.specs.Values.{tableOf, exitOf, optionOf};
+ghost use Rattle.table.specs.Values.{tableOf, walkedOf, optionOf};
 ghost use Rattle.ordered.specs.Walk.{occurs};
 ghost use Rattle.ordered.specs.Promises.{inside};
-ghost use Rattle.scopes.specs.Walk.{done, enterName, enter, visit, resolveTree};
-ghost use Rattle.scopes.specs.Promises.{ent, restEnter, restVisit, overList, Entering, Enters, Visits, Signature, Inside, Visit, EnterRun, VisitRun, ListRun, Lent, Stamped};
+ghost use Rattle.scopes.specs.Walk.{done, enterName, visit, resolveTree};
+ghost use Rattle.scopes.specs.Promises.{enter, ent, restEnter, restVisit, overList, Entering, Enters, Visits, Signature, Inside, Visit, EnterRun, VisitRun, ListRun, Lent, Stamped};
 ghost use Rattle.scopes.specs.Resolve.{testTable, headed, resolve};
 ghost use Rattle.scopes.specs.Calls.{testRows};
 ghost use Rattle.scopes.specs.Lookup as «lookup-spec»;
@@ -33,7 +33,7 @@ pub enum Declared {
 
 // The node's unordered scope, in both places.
 fn insert_unordered(image: &[u8], table: &mut [u32], at: Walked, node: NodeId)
-    ensures { λ _. ⌜ exitOf at (now (table .exit)) ≡ marked (now (image .entry)) (node .0) (at .scope .0) (exitOf at (now (table .entry))) ⌝ }
+    ensures { λ _. ⌜ walkedOf at (now (table .exit)) ≡ marked (now (image .entry)) (node .0) (at .scope .0) (walkedOf at (now (table .entry))) ⌝ }
 {
     let scope = at.scope;
     table::insert_ordered(image, table, node, scope, scope);
@@ -63,8 +63,8 @@ fn insert_decl_symbol(
     at: Walked,
     node: NodeId,
 ) -> Declared
-    requires { ⌜ Entering (now image) (now seen) 1 (exitOf at (now table)) ⌝ }
-    ensures { λ r. ⌜ Enters (now (image .entry)) (enterName (now (image .entry)) (node .0) (exitOf at (now (table .entry)))) (now (table .entry)) r (now (seen .exit)) (now (table .exit)) ⌝ }
+    requires { ⌜ Entering (now image) (now seen) 1 (walkedOf at (now table)) ⌝ }
+    ensures { λ r. ⌜ Enters (now (image .entry)) (enterName (now (image .entry)) (node .0) (walkedOf at (now (table .entry)))) (now (table .entry)) r (now (seen .exit)) (now (table .exit)) ⌝ }
 {
     let name = ast::name_of(image, node);
     let scope = at.scope;
@@ -86,8 +86,8 @@ fn enter_signature(
     at: Walked,
     id: NodeId,
 ) -> Declared
-    requires { ⌜ (Signature (now image) (id .0)) × (Entering (now image) (now seen) 1 (exitOf at (now table))) ⌝ }
-    ensures { λ r. ⌜ Enters (now (image .entry)) (enter (now (image .entry)) (treeAt (now (image .entry)) (id .0)) (exitOf at (now (table .entry)))) (now (table .entry)) r (now (seen .exit)) (now (table .exit)) ⌝ }
+    requires { ⌜ (Signature (now image) (id .0)) × (Entering (now image) (now seen) 1 (walkedOf at (now table))) ⌝ }
+    ensures { λ r. ⌜ Enters (now (image .entry)) (enter (now (image .entry)) (treeAt (now (image .entry)) (id .0)) (walkedOf at (now (table .entry)))) (now (table .entry)) r (now (seen .exit)) (now (table .exit)) ⌝ }
 {
     insert_unordered(image, table, at, id);
     insert_decl_symbol(image, table, seen, at, id)
@@ -100,8 +100,8 @@ fn enter_ctors(
     at: Walked,
     id: NodeId,
 ) -> Declared
-    requires { ⌜ (Is (now image) (kindOf 7) (id .0)) × (Entering (now image) (now seen) («image-spec».field (now image) (id .0) 1) (exitOf at (now table))) ⌝ }
-    ensures { λ r. ⌜ Enters (now (image .entry)) (restEnter (now (image .entry)) (id .0) 2 («image-spec».field (now (image .entry)) (id .0) 1) 0 (exitOf at (now (table .entry)))) (now (table .entry)) r (now (seen .exit)) (now (table .exit)) ⌝ }
+    requires { ⌜ (Is (now image) (kindOf 7) (id .0)) × (Entering (now image) (now seen) («image-spec».field (now image) (id .0) 1) (walkedOf at (now table))) ⌝ }
+    ensures { λ r. ⌜ Enters (now (image .entry)) (restEnter (now (image .entry)) (id .0) 2 («image-spec».field (now (image .entry)) (id .0) 1) 0 (walkedOf at (now (table .entry)))) (now (table .entry)) r (now (seen .exit)) (now (table .exit)) ⌝ }
 {
     let count = ast::wide(ast::field(image, id, 1));
     let mut i = 0;
@@ -123,8 +123,8 @@ fn enter_ctors(
 
 // An unnamed rule is not entered.
 fn enter_rule(image: &[u8], table: &mut [u32], seen: &mut [u32], at: Walked, id: NodeId) -> Declared
-    requires { ⌜ (Is (now image) (kindOf 6) (id .0)) × (Entering (now image) (now seen) (ent (treeAt (now image) (id .0))) (exitOf at (now table))) ⌝ }
-    ensures { λ r. ⌜ Enters (now (image .entry)) (enter (now (image .entry)) (treeAt (now (image .entry)) (id .0)) (exitOf at (now (table .entry)))) (now (table .entry)) r (now (seen .exit)) (now (table .exit)) ⌝ }
+    requires { ⌜ (Is (now image) (kindOf 6) (id .0)) × (Entering (now image) (now seen) (ent (treeAt (now image) (id .0))) (walkedOf at (now table))) ⌝ }
+    ensures { λ r. ⌜ Enters (now (image .entry)) (enter (now (image .entry)) (treeAt (now (image .entry)) (id .0)) (walkedOf at (now (table .entry)))) (now (table .entry)) r (now (seen .exit)) (now (table .exit)) ⌝ }
 {
     let name = ast::field(image, id, 0);
     insert_unordered(image, table, at, id);
@@ -136,8 +136,8 @@ fn enter_rule(image: &[u8], table: &mut [u32], seen: &mut [u32], at: Walked, id:
 
 // An enum's own name, then its constructors'.
 fn enter_enum(image: &[u8], table: &mut [u32], seen: &mut [u32], at: Walked, id: NodeId) -> Declared
-    requires { ⌜ (Is (now image) (kindOf 7) (id .0)) × (Entering (now image) (now seen) (ent (treeAt (now image) (id .0))) (exitOf at (now table))) ⌝ }
-    ensures { λ r. ⌜ Enters (now (image .entry)) (enter (now (image .entry)) (treeAt (now (image .entry)) (id .0)) (exitOf at (now (table .entry)))) (now (table .entry)) r (now (seen .exit)) (now (table .exit)) ⌝ }
+    requires { ⌜ (Is (now image) (kindOf 7) (id .0)) × (Entering (now image) (now seen) (ent (treeAt (now image) (id .0))) (walkedOf at (now table))) ⌝ }
+    ensures { λ r. ⌜ Enters (now (image .entry)) (enter (now (image .entry)) (treeAt (now (image .entry)) (id .0)) (walkedOf at (now (table .entry)))) (now (table .entry)) r (now (seen .exit)) (now (table .exit)) ⌝ }
 {
     insert_unordered(image, table, at, id);
     match insert_decl_symbol(image, table, seen, at, id) {
@@ -154,8 +154,8 @@ fn enter_decl(
     at: Walked,
     decl: NodeId,
 ) -> Declared
-    requires { ⌜ (Is (now image) (kindOf 1) (decl .0)) × (Entering (now image) (now seen) (ent (treeAt (now image) (decl .0))) (exitOf at (now table))) ⌝ }
-    ensures { λ r. ⌜ Enters (now (image .entry)) (enter (now (image .entry)) (treeAt (now (image .entry)) (decl .0)) (exitOf at (now (table .entry)))) (now (table .entry)) r (now (seen .exit)) (now (table .exit)) ⌝ }
+    requires { ⌜ (Is (now image) (kindOf 1) (decl .0)) × (Entering (now image) (now seen) (ent (treeAt (now image) (decl .0))) (walkedOf at (now table))) ⌝ }
+    ensures { λ r. ⌜ Enters (now (image .entry)) (enter (now (image .entry)) (treeAt (now (image .entry)) (decl .0)) (walkedOf at (now (table .entry)))) (now (table .entry)) r (now (seen .exit)) (now (table .exit)) ⌝ }
 {
     let case = ast::field(image, decl, 0);
     let id = NodeId(ast::field(image, decl, 1));
@@ -178,8 +178,8 @@ fn enter_decls(
     first: usize,
     count: usize,
 ) -> Declared
-    requires { ⌜ EnterRun (now image) (now seen) (node .0) first count (exitOf at (now table)) ⌝ }
-    ensures { λ r. ⌜ Enters (now (image .entry)) (restEnter (now (image .entry)) (node .0) first count 0 (exitOf at (now (table .entry)))) (now (table .entry)) r (now (seen .exit)) (now (table .exit)) ⌝ }
+    requires { ⌜ EnterRun (now image) (now seen) (node .0) first count (walkedOf at (now table)) ⌝ }
+    ensures { λ r. ⌜ Enters (now (image .entry)) (restEnter (now (image .entry)) (node .0) first count 0 (walkedOf at (now (table .entry)))) (now (table .entry)) r (now (seen .exit)) (now (table .exit)) ⌝ }
 {
     let mut i = 0;
     let mut w = at;
@@ -212,8 +212,8 @@ fn dropped(at: Walked, w: Walked) -> Walked
 
 // A pred or a constructor: its arguments.
 fn walk_pred_decl(image: &[u8], table: &mut [u32], at: Walked, id: NodeId) -> Walked
-    requires { ⌜ Inside (now image) (kindBy (outer signature) (name ∷ child 11 ∷ [])) (id .0) (exitOf at (now table)) ⌝ }
-    ensures { λ r. ⌜ exitOf r (now (table .exit)) ≡ back (now (image .entry)) (at .scope .0) (inside (now (image .entry)) occurs (id .0) (exitOf at (now (table .entry)))) ⌝ }
+    requires { ⌜ Inside (now image) (kindBy (outer signature) (name ∷ child 11 ∷ [])) (id .0) (walkedOf at (now table)) ⌝ }
+    ensures { λ r. ⌜ walkedOf r (now (table .exit)) ≡ back (now (image .entry)) (at .scope .0) (inside (now (image .entry)) occurs (id .0) (walkedOf at (now (table .entry)))) ⌝ }
 {
     let args = NodeId(ast::field(image, id, 1));
     let w = ordered::walk_arg_decl_list(image, table, at, args);
@@ -221,8 +221,8 @@ fn walk_pred_decl(image: &[u8], table: &mut [u32], at: Walked, id: NodeId) -> Wa
 }
 
 fn walk_const_decl(image: &[u8], table: &mut [u32], at: Walked, id: NodeId) -> Walked
-    requires { ⌜ Inside (now image) (kindBy (outer signature) (name ∷ child 23 ∷ [])) (id .0) (exitOf at (now table)) ⌝ }
-    ensures { λ r. ⌜ exitOf r (now (table .exit)) ≡ back (now (image .entry)) (at .scope .0) (inside (now (image .entry)) occurs (id .0) (exitOf at (now (table .entry)))) ⌝ }
+    requires { ⌜ Inside (now image) (kindBy (outer signature) (name ∷ child 23 ∷ [])) (id .0) (walkedOf at (now table)) ⌝ }
+    ensures { λ r. ⌜ walkedOf r (now (table .exit)) ≡ back (now (image .entry)) (at .scope .0) (inside (now (image .entry)) occurs (id .0) (walkedOf at (now (table .entry)))) ⌝ }
 {
     let result = NodeId(ast::field(image, id, 1));
     let w = ordered::walk_type_expr(image, table, at, result);
@@ -230,8 +230,8 @@ fn walk_const_decl(image: &[u8], table: &mut [u32], at: Walked, id: NodeId) -> W
 }
 
 fn walk_func_decl(image: &[u8], table: &mut [u32], at: Walked, id: NodeId) -> Walked
-    requires { ⌜ Inside (now image) (kindOf 4) (id .0) (exitOf at (now table)) ⌝ }
-    ensures { λ r. ⌜ exitOf r (now (table .exit)) ≡ back (now (image .entry)) (at .scope .0) (inside (now (image .entry)) occurs (id .0) (exitOf at (now (table .entry)))) ⌝ }
+    requires { ⌜ Inside (now image) (kindOf 4) (id .0) (walkedOf at (now table)) ⌝ }
+    ensures { λ r. ⌜ walkedOf r (now (table .exit)) ≡ back (now (image .entry)) (at .scope .0) (inside (now (image .entry)) occurs (id .0) (walkedOf at (now (table .entry)))) ⌝ }
 {
     let args = NodeId(ast::field(image, id, 1));
     let result = NodeId(ast::field(image, id, 2));
@@ -241,8 +241,8 @@ fn walk_func_decl(image: &[u8], table: &mut [u32], at: Walked, id: NodeId) -> Wa
 }
 
 fn walk_rule_decl(image: &[u8], table: &mut [u32], at: Walked, id: NodeId) -> Walked
-    requires { ⌜ Inside (now image) (kindOf 6) (id .0) (exitOf at (now table)) ⌝ }
-    ensures { λ r. ⌜ exitOf r (now (table .exit)) ≡ back (now (image .entry)) (at .scope .0) (inside (now (image .entry)) occurs (id .0) (exitOf at (now (table .entry)))) ⌝ }
+    requires { ⌜ Inside (now image) (kindOf 6) (id .0) (walkedOf at (now table)) ⌝ }
+    ensures { λ r. ⌜ walkedOf r (now (table .exit)) ≡ back (now (image .entry)) (at .scope .0) (inside (now (image .entry)) occurs (id .0) (walkedOf at (now (table .entry)))) ⌝ }
 {
     let count = ast::wide(ast::field(image, id, 1));
     let w = ordered::walk_stmt_block(image, table, at, id, 2, count);
@@ -251,8 +251,8 @@ fn walk_rule_decl(image: &[u8], table: &mut [u32], at: Walked, id: NodeId) -> Wa
 
 // The constructors of an enum.
 fn walk_enum_decl(image: &[u8], table: &mut [u32], at: Walked, id: NodeId) -> Walked
-    requires { ⌜ Visit (now image) (kindOf 7) (id .0) (exitOf at (now table)) ⌝ }
-    ensures { λ r. ⌜ done (exitOf r (now (table .exit))) ≡ visit (now (image .entry)) (treeAt (now (image .entry)) (id .0)) (exitOf at (now (table .entry))) ⌝ }
+    requires { ⌜ Visit (now image) (kindOf 7) (id .0) (walkedOf at (now table)) ⌝ }
+    ensures { λ r. ⌜ done (walkedOf r (now (table .exit))) ≡ visit (now (image .entry)) (treeAt (now (image .entry)) (id .0)) (walkedOf at (now (table .entry))) ⌝ }
 {
     let count = ast::wide(ast::field(image, id, 1));
     let mut i = 0;
@@ -273,8 +273,8 @@ fn walk_decl(
     at: Walked,
     decl: NodeId,
 ) -> Declared
-    requires { ⌜ Visit (now image) (kindOf 1) (decl .0) (exitOf at (now table)) ⌝ }
-    ensures { λ r. ⌜ Visits (now (image .entry)) (visit (now (image .entry)) (treeAt (now (image .entry)) (decl .0)) (exitOf at (now (table .entry)))) (now (table .entry)) r (now (table .exit)) ⌝ }
+    requires { ⌜ Visit (now image) (kindOf 1) (decl .0) (walkedOf at (now table)) ⌝ }
+    ensures { λ r. ⌜ Visits (now (image .entry)) (visit (now (image .entry)) (treeAt (now (image .entry)) (decl .0)) (walkedOf at (now (table .entry)))) (now (table .entry)) r (now (table .exit)) ⌝ }
 {
     let case = ast::field(image, decl, 0);
     let id = NodeId(ast::field(image, decl, 1));
@@ -297,8 +297,8 @@ fn walk_model_decl(
     at: Walked,
     id: NodeId,
 ) -> Declared
-    requires { ⌜ Visit (now image) (kindOf 8) (id .0) (exitOf at (now table)) ⌝ }
-    ensures { λ r. ⌜ Visits (now (image .entry)) (visit (now (image .entry)) (treeAt (now (image .entry)) (id .0)) (exitOf at (now (table .entry)))) (now (table .entry)) r (now (table .exit)) ⌝ }
+    requires { ⌜ Visit (now image) (kindOf 8) (id .0) (walkedOf at (now table)) ⌝ }
+    ensures { λ r. ⌜ Visits (now (image .entry)) (visit (now (image .entry)) (treeAt (now (image .entry)) (id .0)) (walkedOf at (now (table .entry)))) (now (table .entry)) r (now (table .exit)) ⌝ }
 {
     let count = ast::wide(ast::field(image, id, 1));
     let inner = table::new_scope(image, table, at);
@@ -319,8 +319,8 @@ fn visit_decls(
     first: usize,
     count: usize,
 ) -> Declared
-    requires { ⌜ VisitRun (now image) 1 (node .0) first count (exitOf at (now table)) ⌝ }
-    ensures { λ r. ⌜ Visits (now (image .entry)) (restVisit (now (image .entry)) (node .0) first count 0 (exitOf at (now (table .entry)))) (now (table .entry)) r (now (table .exit)) ⌝ }
+    requires { ⌜ VisitRun (now image) 1 (node .0) first count (walkedOf at (now table)) ⌝ }
+    ensures { λ r. ⌜ Visits (now (image .entry)) (restVisit (now (image .entry)) (node .0) first count 0 (walkedOf at (now (table .entry)))) (now (table .entry)) r (now (table .exit)) ⌝ }
 {
     let mut i = 0;
     let mut w = at;
@@ -349,8 +349,8 @@ fn walk_decls(
     first: usize,
     count: usize,
 ) -> Declared
-    requires { ⌜ ListRun (now image) (node .0) first count (exitOf at (now table)) ⌝ }
-    ensures { λ r. ⌜ Visits (now (image .entry)) (overList (now (image .entry)) (node .0) first count (exitOf at (now (table .entry)))) (now (table .entry)) r (now (table .exit)) ⌝ }
+    requires { ⌜ ListRun (now image) (node .0) first count (walkedOf at (now table)) ⌝ }
+    ensures { λ r. ⌜ Visits (now (image .entry)) (overList (now (image .entry)) (node .0) first count (walkedOf at (now (table .entry)))) (now (table .entry)) r (now (table .exit)) ⌝ }
 {
     match enter_decls(image, table, seen, at, node, first, count) {
         Declared::Done(w) => visit_decls(image, table, seen, w, node, first, count),
@@ -427,7 +427,7 @@ pub fn test_rows(image: &[u8], table: &[u32], rows: &[u32]) -> u32
     if code != 0 {
         return code;
     }
-    if rows.len() < rows::words(ast::node_count(image)) {
+    if rows.len() < rows::words_for(ast::node_count(image)) {
         return 14;
     }
     0

@@ -21,7 +21,7 @@ use Rattle.scopes.specs.Twice.{declaredTwice}
 use Rattle.scopes.specs.Walk.{done}
 use Rattle.scopes.proofs.Calls.{rows-table}
 use Rattle.scopes.proofs.Single.{single-done}
-use Rattle.table.specs.State.{Exit}
+use Rattle.table.specs.State.{Walked}
 use Rattle.table.specs.Table.{lookup, exitAt}
 use Rattle.occurrences.specs.Occurrences.{occurrences}
 use Rattle.sight.specs.Sight.{Place, In, outerConst, Same}
@@ -46,7 +46,7 @@ module _ (img tab rows : List ℕ) where
 
   module _ (unrefused : testRows img tab rows ≡ 0) (once : declaredTwice img ≡ false) where
     -- the walk comes to its end
-    ended : (e : Exit) × (walked img tab ≡ done e)
+    ended : (e : Walked) × (walked img tab ≡ done e)
     ended = single-done img tab (rows-table img tab rows unrefused) once
 
     -- the call hands back how long the list is; there is room for all of it

@@ -15,8 +15,8 @@ use Rattle.ast.specs.Declarations.{orElse, earliest}
 use Rattle.ast.specs.Image.{nodes, nameOf}
 use Rattle.ast.proofs.Declarations.{orElse-none}
 use Rattle.table.specs.Layout.{entryPlace, exitPlace, parentPlace}
-use Rattle.table.specs.Rows.{parentAt}
-use Rattle.table.specs.State.{Exit, introduce}
+use Rattle.table.specs.Rising.{parentAt}
+use Rattle.table.specs.State.{Walked, introduce}
 use Rattle.table.specs.Table.{Table, mark, newScope, newSymbol, rowIs, findFrom, find, climb, lookup, entryAt, exitAt}
 use Rattle.table.proofs.Finds.{row-out}
 use Rattle.table.proofs.Frames.{mark-word, scope-word, symbol-word, find-same, find-none, find-mark, find-scope, symbol-same, symbol-scope, find-symbol}
@@ -153,7 +153,7 @@ module _ (img : List ℕ) where
     name-entry m h = symbol-word img s n t (entryPlace N m) (omega arith) (omega arith)
 
   -- a new scope, below the one that the walk stands in, with one symbol
-  module _ (n : ℕ) (e : Exit) (sane : Kept img (e .table)) (inside : e .scope < e .table .scopes) (K<N : e .table .scopes < N) (Y<N : e .table .symbols < N) where
+  module _ (n : ℕ) (e : Walked) (sane : Kept img (e .table)) (inside : e .scope < e .table .scopes) (K<N : e .table .scopes < N) (Y<N : e .table .symbols < N) where
     abbrev K : ℕ
     K = e .table .scopes
 

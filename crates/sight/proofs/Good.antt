@@ -13,7 +13,7 @@ use borrow.Author.Tests.{eq-eqb, ne-eqb}
 use Rattle.ast.specs.Declarations.{orElse, earliest}
 use Rattle.ast.specs.Image.{nodes, nameOf, kindAt}
 use Rattle.ordered.specs.Walk.{Role, defines, walkIdent}
-use Rattle.table.specs.State.{Exit, introduce}
+use Rattle.table.specs.State.{Walked, introduce}
 use Rattle.table.specs.Table.{Table, lookup, isKind, mark, exitAt}
 use Rattle.ordered.specs.Kept.{Kept as KeptTable}
 use Rattle.ordered.proofs.Kept.{mark-kept}
@@ -66,7 +66,7 @@ module _ (img : List ℕ) (outer : ℕ → Option ℕ) where
     abbrev asks : Option ℕ
     asks = bound img outer (limitOf σ (st .met .next)) ps b (nameOf img i)
 
-    record Did (e : Exit) : Type 0 where
+    record Did (e : Walked) : Type 0 where
       sane : KeptTable img (e .table)
       inside : e .scope < e .table .scopes
       rise : st .now .table .scopes ≤ e .table .scopes
@@ -119,13 +119,13 @@ module _ (img : List ℕ) (outer : ℕ → Option ℕ) where
         go x (no f) = ap (pickBy x) (ne-eqb (nameOf img i) x f) ∙ passed x (λ h. f (h .1 .0))
 
     did : Choice img outer σ r i (st .now) asks → Bounds img ((walkIdent img r i (st .now)) .table) → Did (walkIdent img r i (st .now))
-    did (inl h) l = subst Did (sym (h .0)) (did-introduce (h .1) (subst (λ (e : Exit). Bounds img (e .table)) (h .0) l))
+    did (inl h) l = subst Did (sym (h .0)) (did-introduce (h .1) (subst (λ (e : Walked). Bounds img (e .table)) (h .0) l))
     did (inr h) l = subst Did (sym (h .0)) (did-keep (h .1))
 
     abbrev result : State
     result = placing img b σ r n i st
 
-    abbrev exit : Exit
+    abbrev exit : Walked
     exit = walkIdent img r i (st .now)
 
     placed : Choice img outer σ r i (st .now) asks → kindAt img i ≡ 13 → i < nodes img → n < nodes img

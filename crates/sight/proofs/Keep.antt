@@ -7,7 +7,7 @@ use mathlib.Core.Option.{Option, some}
 use Prim.Native.Nat.{ℕ, _≤_}
 use native.Mathlib.Omega.{arith}
 use Rattle.ast.specs.Image.{nameOf}
-use Rattle.table.specs.State.{Exit, introduce}
+use Rattle.table.specs.State.{Walked, introduce}
 use Rattle.table.specs.Table.{lookup, isKind, isValue, mark}
 use Rattle.ordered.specs.Walk.{Role, defines, walkIdent}
 use Rattle.ast.proofs.Bools.{true-not-false}
@@ -40,25 +40,25 @@ module _ (img : List ℕ) (outer : ℕ → Option ℕ) where
   bound-cong = bind-cong (nameOf img) (isKind img 13) (isKind img 5) outer
 
   -- an ident introduces or not, by what lookup gives
-  abbrev pub Choice : Sort → Role → ℕ → Exit → Option ℕ → Type 0
+  abbrev pub Choice : Sort → Role → ℕ → Walked → Option ℕ → Type 0
   Choice σ r i e o = ((walkIdent img r i e ≡ introduce img i e) × adds σ o) ⊎ ((walkIdent img r i e ≡ e) × (adds σ o → ⊥))
 
   -- what introduces unless a test holds
-  abbrev unless : ℕ → Exit → Bool → Exit
+  abbrev unless : ℕ → Walked → Bool → Walked
   unless i e c = elim c [ true ↦ e | false ↦ introduce img i e ]
 
-  chosen : (i : ℕ) (e : Exit) (c : Bool) → ((unless i e c ≡ introduce img i e) × (c ≡ false)) ⊎ ((unless i e c ≡ e) × (c ≡ false → ⊥))
+  chosen : (i : ℕ) (e : Walked) (c : Bool) → ((unless i e c ≡ introduce img i e) × (c ≡ false)) ⊎ ((unless i e c ≡ e) × (c ≡ false → ⊥))
   chosen i e true = inr (refl, λ h. true-not-false refl h)
   chosen i e false = inl (refl, refl)
 
-  pub choice : (c : Simple) (i : ℕ) (e : Exit) → Choice (sort c) (role c) i e (lookup img (e .table) (e .scope) (nameOf img i))
+  pub choice : (c : Simple) (i : ℕ) (e : Walked) → Choice (sort c) (role c) i e (lookup img (e .table) (e .scope) (nameOf img i))
   unfolding walkIdent isValue
   choice occur i e = go (isKind img 13 o) (isKind img 5 o) refl refl
     where
       o : Option ℕ
       o = lookup img (e .table) (e .scope) (nameOf img i)
 
-      result : Bool → Bool → Exit
+      result : Bool → Bool → Walked
       result a b = unless i e (elim a [ true ↦ true | false ↦ b ])
 
       go : (a b : Bool) → isKind img 13 o ≡ a → isKind img 5 o ≡ b
@@ -70,14 +70,14 @@ module _ (img : List ℕ) (outer : ℕ → Option ℕ) where
   choice declare i e = chosen i e (isKind img 13 (lookup img (e .table) (e .scope) (nameOf img i)))
   choice apply i e = inr (refl, λ h. h)
 
-  pub choice-defined : (k before i : ℕ) (e : Exit) → Choice (defined k) (defines before) i e (lookup img (e .table) before (nameOf img i))
+  pub choice-defined : (k before i : ℕ) (e : Walked) → Choice (defined k) (defines before) i e (lookup img (e .table) before (nameOf img i))
   unfolding walkIdent
   choice-defined k before i e = chosen i e (isKind img 13 (lookup img (e .table) before (nameOf img i)))
 
-  abbrev Counts : Exit → Exit → Type 0
+  abbrev Counts : Walked → Walked → Type 0
   Counts e f = (e .table .scopes ≤ f .table .scopes) × (e .table .symbols ≤ f .table .symbols)
 
-  counts : (σ : Sort) (r : Role) (i : ℕ) (e : Exit) (o : Option ℕ) → Choice σ r i e o → Counts e (walkIdent img r i e)
+  counts : (σ : Sort) (r : Role) (i : ℕ) (e : Walked) (o : Option ℕ) → Choice σ r i e o → Counts e (walkIdent img r i e)
   unfolding introduce
   counts σ r i e o (inl h) = subst (Counts e) (sym (h .0)) (omega arith, omega arith)
   counts σ r i e o (inr h) = subst (Counts e) (sym (h .0)) (omega arith, omega arith)

@@ -13,7 +13,7 @@ use Rattle.rows.specs.Rows.{Row, row, lefts, held}
 use Rattle.scopes.specs.Resolve.{walked, headed, counted}
 use Rattle.scopes.specs.Calls.{testRows, RowsOutcome}
 use Rattle.scopes.specs.Walk.{done}
-use Rattle.table.specs.State.{Exit}
+use Rattle.table.specs.State.{Walked}
 use Rattle.table.specs.Table.{Table, lookup, isKind, exitAt}
 use Rattle.scopes.proofs.Calls.{rows-table, rowed-done, rowed-held, rowed-count}
 use Rattle.scopes.proofs.Resolving.{table-accepted}
@@ -28,7 +28,7 @@ use Rattle.sight.proofs.RowLaws.{bindingOf, RowAt, all-only, all-all, o
 use Rattle.sight.proofs.Spots.{ownerKind, ordered}
 use Rattle.sight.proofs.WholeModule.{WalkOf, var-is-occurrence, equal-is-same}
 
-module _ (img tab rows : List ℕ) (accepted : testRows img tab rows ≡ 0) (e : Exit) (single : walked img tab ≡ done e) where
+module _ (img tab rows : List ℕ) (accepted : testRows img tab rows ≡ 0) (e : Walked) (single : walked img tab ≡ done e) where
   pub image-accepted : verdict img ≡ 0
   image-accepted = table-accepted img tab (rows-table img tab rows accepted)
 

@@ -13,8 +13,8 @@ use Rattle.ast.specs.Kinds.{outer, inner, root, decl, signature, rule, enum, mo
 use Rattle.ast.specs.Tree.{Tree, node, block, Trees, none, _◂_}
 use Rattle.ast.proofs.Declarations.{orElse-none, orElse-assoc, earliest-append}
 use Rattle.ast.proofs.Unfold.{All, nil, cons, All-append}
-use Rattle.table.specs.Rows.{parentAt}
-use Rattle.table.specs.State.{Exit, childScope, ownSymbol, marked, back}
+use Rattle.table.specs.Rising.{parentAt}
+use Rattle.table.specs.State.{Walked, childScope, ownSymbol, marked, back}
 use Rattle.table.specs.Table.{Table, find, isKind, entryAt, exitAt}
 use Rattle.table.proofs.Frames.{find-mark}
 use Rattle.ordered.specs.Walk.{occurs, walkSeq}
@@ -73,12 +73,12 @@ module _ (img : List ℕ) where
     Decls (u ◂ us) = Decl u × Decls us
 
   -- entering a list, with the nodes marked and those declared
-  pub data Enters : List ℕ → List ℕ → Exit → Exit → Type 0 where
-    stay : {e : Exit} → Enters [] [] e e
-    marks : {ns ds : List ℕ} {e e′ : Exit} (n : ℕ) → Enters ns ds (marked img n (e .scope) e) e′ → Enters (n ∷ ns) ds e e′
-    names : {ns ds : List ℕ} {e e′ : Exit} (n : ℕ) → NoVar n → Enters ns ds (ownSymbol img n e) e′ → Enters ns (n ∷ ds) e e′
+  pub data Enters : List ℕ → List ℕ → Walked → Walked → Type 0 where
+    stay : {e : Walked} → Enters [] [] e e
+    marks : {ns ds : List ℕ} {e e′ : Walked} (n : ℕ) → Enters ns ds (marked img n (e .scope) e) e′ → Enters (n ∷ ns) ds e e′
+    names : {ns ds : List ℕ} {e e′ : Walked} (n : ℕ) → NoVar n → Enters ns ds (ownSymbol img n e) e′ → Enters ns (n ∷ ds) e e′
 
-  name-done : (n : ℕ) (e e′ : Exit) → enterName img n e ≡ done e′ → ownSymbol img n e ≡ e′
+  name-done : (n : ℕ) (e e′ : Walked) → enterName img n e ≡ done e′ → ownSymbol img n e ≡ e′
   unfolding enterName named
   name-done n e e′ q = go (find img (e .table) (e .scope) (nameOf img n)) q
     where
@@ -86,14 +86,14 @@ module _ (img : List ℕ) where
       go nothing h = done-same (ownSymbol img n e) e′ h
       go (some first) h = absurd (twice-done (nameOf img n) first n e′ h)
 
-  enters-names : {ds : List ℕ} → All NoVar ds → (e e′ : Exit) → enterNames img ds e ≡ done e′ → Enters [] ds e e′
+  enters-names : {ds : List ℕ} → All NoVar ds → (e e′ : Walked) → enterNames img ds e ≡ done e′ → Enters [] ds e e′
   unfolding enterNames
   enters-names nil e e′ q = subst (Enters [] [] e) (done-same e e′ q) stay
   enters-names (cons {c = n} {cs = ds} v h) e e′ q =
       let f = and-inv img (enterName img n e) (λ g. enterNames img ds g) e′ q in
-      names n v (subst (λ (g : Exit). Enters [] ds g e′) (sym (name-done n e (f .0) (f .1))) (enters-names h (f .0) e′ (f .2)))
+      names n v (subst (λ (g : Walked). Enters [] ds g e′) (sym (name-done n e (f .0) (f .1))) (enters-names h (f .0) e′ (f .2)))
 
-  enters-marks : (ns : List ℕ) {ds : List ℕ} (e e′ : Exit) → Enters [] ds (markAll img ns e) e′ → Enters ns ds e e′
+  enters-marks : (ns : List ℕ) {ds : List ℕ} (e e′ : Walked) → Enters [] ds (markAll img ns e) e′ → Enters ns ds e e′
   unfolding markAll
   enters-marks [] e e′ v = v
   enters-marks (n ∷ ns) e e′ v = marks n (enters-marks ns (marked img n (e .scope) e) e′ v)
@@ -121,17 +121,17 @@ module _ (img : List ℕ) where
     decls-novar none d = nil
     decls-novar (u ◂ us) d = All-append (decl-novar u (d .0)) (decls-novar us (d .1))
 
-  pub entersAll : (us : Trees) → Decls us → (e e′ : Exit) → enterAll img us e ≡ done e′ → Enters (recordedAll us) (declaredAll us) e e′
+  pub entersAll : (us : Trees) → Decls us → (e e′ : Walked) → enterAll img us e ≡ done e′ → Enters (recordedAll us) (declaredAll us) e e′
   unfolding enterAll
   entersAll us d e e′ q = enters-marks (recordedAll us) e e′ (enters-names (decls-novar us d) (markAll img (recordedAll us) e) e′ q)
 
   -- entering keeps the scope, and makes none
-  pub record Stays (e e′ : Exit) : Type 0 where
+  pub record Stays (e e′ : Walked) : Type 0 where
     pub scope : e′ .scope ≡ e .scope
     pub scopes : e′ .table .scopes ≡ e .table .scopes
     pub symbols : e .table .symbols ≤ e′ .table .symbols
 
-  pub stays : {ns ds : List ℕ} {e e′ : Exit} → Enters ns ds e e′ → Stays e e′
+  pub stays : {ns ds : List ℕ} {e e′ : Walked} → Enters ns ds e e′ → Stays e e′
   unfolding marked ownSymbol
   stays stay = record { scope = refl; scopes = refl; symbols = omega arith }
   stays (marks n v) = let f = stays v in record { scope = f .scope; scopes = f .scopes; symbols = f .symbols }
@@ -158,7 +158,7 @@ module _ (img : List ℕ) where
     pub entries : (m : ℕ) → m < nodes img → (In m ns → ⊥) → entryAt img (t′ .words) m ≡ entryAt img (t .words) m
     pub novar : (x : ℕ) → isKind img 13 (earliest (nameOf img) ds x) ≡ false
 
-  pub entering : {ns ds : List ℕ} {e e′ : Exit} → Enters ns ds e e′ → e′ .table .symbols ≤ nodes img → ((n : ℕ) → In n ns → n < nodes img)
+  pub entering : {ns ds : List ℕ} {e e′ : Walked} → Enters ns ds e e′ → e′ .table .symbols ≤ nodes img → ((n : ℕ) → In n ns → n < nodes img)
       → Kept img (e .table) → suc (e .scope) ≡ e .table .scopes → Entered (e .scope) ns ds (e .table) (e′ .table)
   unfolding marked ownSymbol isKind earliest
   entering (stay {e = e}) b sm so i =
@@ -204,24 +204,24 @@ module _ (img : List ℕ) where
       }
 
   -- visiting a list where names mean m, with the nodes marked and the rules met
-  pub data Visits : List ℕ → List Rule → (ℕ → Option ℕ) → Exit → Exit → Type 0 where
-    idle : {m : ℕ → Option ℕ} {e : Exit} → Visits [] [] m e e
-    after : {ns ms : List ℕ} {rs qs : List Rule} {m : ℕ → Option ℕ} {e e′ e″ : Exit}
+  pub data Visits : List ℕ → List Rule → (ℕ → Option ℕ) → Walked → Walked → Type 0 where
+    idle : {m : ℕ → Option ℕ} {e : Walked} → Visits [] [] m e e
+    after : {ns ms : List ℕ} {rs qs : List Rule} {m : ℕ → Option ℕ} {e e′ e″ : Walked}
         → Visits ns rs m e e′ → Visits ms qs m e′ e″ → Visits (ns ++ ms) (rs ++ qs) m e e″
-    walks : {m : ℕ → Option ℕ} {e : Exit} (ts : Trees) → Visits (numbersSeq ts) [] m e (back img (e .scope) (walkSeq img occurs ts e))
-    ruled : {m : ℕ → Option ℕ} {e : Exit} (ts : Trees) → Bodies img ts
+    walks : {m : ℕ → Option ℕ} {e : Walked} (ts : Trees) → Visits (numbersSeq ts) [] m e (back img (e .scope) (walkSeq img occurs ts e))
+    ruled : {m : ℕ → Option ℕ} {e : Walked} (ts : Trees) → Bodies img ts
         → Visits (numbersSeq ts) (record { statements = ts; meaning = m } ∷ []) m e (back img (e .scope) (walkSeq img occurs ts e))
-    nested : {es ds ns : List ℕ} {rs : List Rule} {m : ℕ → Option ℕ} {e e′ e″ : Exit} (n : ℕ)
+    nested : {es ds ns : List ℕ} {rs : List Rule} {m : ℕ → Option ℕ} {e e′ e″ : Walked} (n : ℕ)
         → Enters es ds (marked img n (e .table .scopes) (childScope img e)) e′
         → Visits ns rs (λ x. orElse (earliest (nameOf img) ds x) (m x)) e′ e″ → Visits (n ∷ (es ++ ns)) rs m e (back img (e .scope) e″)
 
-  same-end : {ns : List ℕ} {rs : List Rule} {m : ℕ → Option ℕ} (e f g : Exit) → Visits ns rs m e f → done f ≡ done g → Visits ns rs m e g
+  same-end : {ns : List ℕ} {rs : List Rule} {m : ℕ → Option ℕ} (e f g : Walked) → Visits ns rs m e f → done f ≡ done g → Visits ns rs m e g
   same-end {ns} {rs} {m} e f g h q = subst (Visits ns rs m e) (done-same f g q) h
 
   mutual
     unfolding visit visited rules Decl
 
-    pub visits : (u : Tree) → Decl u → (m : ℕ → Option ℕ) (e e′ : Exit) → visit img u e ≡ done e′ → Visits (visited u) (rules img m u) m e e′
+    pub visits : (u : Tree) → Decl u → (m : ℕ → Option ℕ) (e e′ : Walked) → visit img u e ≡ done e′ → Visits (visited u) (rules img m u) m e e′
     visits (block ts) d m e e′ q = same-end e e e′ idle q
     visits (node n k (inner i) sh ts) d m e e′ q = same-end e e e′ idle q
     visits (node n k (outer root) sh ts) d m e e′ q = same-end e e e′ idle q
@@ -237,7 +237,7 @@ module _ (img : List ℕ) where
         (nested n (entersAll ts (d .1) b (h .0) (h .1)) (visitsAll ts (d .1) (λ x. orElse (saysAll img ts x) (m x)) (h .0) (g .0) (h .2)))
         (g .2)
 
-    pub visitsAll : (us : Trees) → Decls us → (m : ℕ → Option ℕ) (e e′ : Exit) → visitAll img us e ≡ done e′ → Visits (visitedAll us) (rulesAll img m us) m e e′
+    pub visitsAll : (us : Trees) → Decls us → (m : ℕ → Option ℕ) (e e′ : Walked) → visitAll img us e ≡ done e′ → Visits (visitedAll us) (rulesAll img m us) m e e′
     visitsAll none d m e e′ q = same-end e e e′ idle q
     visitsAll (u ◂ us) d m e e′ q =
         let h = and-inv img (visit img u e) (λ f. visitAll img us f) e′ q in

@@ -7,7 +7,7 @@ use native.Mathlib.Omega.{arith}
 use Rattle.ast.specs.Image.{nodes}
 use Rattle.ast.specs.Tree.{Tree, node, block, Trees, none, _◂_}
 use Rattle.ast.proofs.Vars.{Everywhere, EverywhereAll}
-use Rattle.table.specs.State.{Exit, introduce}
+use Rattle.table.specs.State.{Walked, introduce}
 use Rattle.table.specs.Table.{mark, entryAt}
 use Rattle.ordered.specs.Kept.{Kept}
 use Rattle.ordered.specs.Walk.{Role, occurs, walk, walkSeq}
@@ -32,26 +32,26 @@ mutual
   anywhereAll (u ◂ us) = (anywhere u, anywhereAll us)
 
 module _ (img : List ℕ) where
-  abbrev pub Walks : List ℕ → Exit → Exit → Type 0
+  abbrev pub Walks : List ℕ → Walked → Walked → Type 0
   Walks ns e f = Moves img Any Any ns e f
 
   -- the steps of a walk
-  pub walks-over : (r : Role) (u : Tree) (e : Exit) → Walks (numbers u) e (walk img r u e)
+  pub walks-over : (r : Role) (u : Tree) (e : Walked) → Walks (numbers u) e (walk img r u e)
   walks-over r u e = walk-moves img Any Any Any (λ n k c sh us h. (tt, λ q. tt)) r u (anywhere u) e
 
-  pub walks-along : (r : Role) (us : Trees) (e : Exit) → Walks (numbersSeq us) e (walkSeq img r us e)
+  pub walks-along : (r : Role) (us : Trees) (e : Walked) → Walks (numbersSeq us) e (walkSeq img r us e)
   walks-along r us e = seq-moves img Any Any Any (λ n k c sh us h. (tt, λ q. tt)) r us (anywhereAll us) e
 
-  pub walks-seq : (ts : Trees) (e : Exit) → Walks (numbersSeq ts) e (walkSeq img occurs ts e)
+  pub walks-seq : (ts : Trees) (e : Walked) → Walks (numbersSeq ts) e (walkSeq img occurs ts e)
   walks-seq ts e = walks-along occurs ts e
 
-  pub record Framed (ns : List ℕ) (e e′ : Exit) : Type 0 where
+  pub record Framed (ns : List ℕ) (e e′ : Walked) : Type 0 where
     pub sane : Kept img (e′ .table)
     pub inside : e′ .scope < e′ .table .scopes
     pub later : Later img (e .table) (e′ .table) ns
     pub entries : (m : ℕ) → m < nodes img → (In m ns → ⊥) → entryAt img (e′ .table .words) m ≡ entryAt img (e .table .words) m
 
-  pub framed : {ns : List ℕ} {e e′ : Exit} → Walks ns e e′ → Bounds img (e′ .table) → ((n : ℕ) → In n ns → n < nodes img)
+  pub framed : {ns : List ℕ} {e e′ : Walked} → Walks ns e e′ → Bounds img (e′ .table) → ((n : ℕ) → In n ns → n < nodes img)
       → Kept img (e .table) → e .scope < e .table .scopes → Framed ns e e′
   unfolding mark introduce
   framed stay b sm s i = record { sane = s; inside = i; later = record { lookups = λ r x l. refl; exits = λ m l f. refl }; entries = λ m l f. refl }

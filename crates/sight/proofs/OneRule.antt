@@ -9,7 +9,7 @@ use Prim.Native.Nat.{ℕ, suc, _≤_, _<_}
 use Rattle.ast.specs.Image.{nodes, nameOf}
 use Rattle.ast.specs.Tree.{Trees}
 use Rattle.ordered.specs.Walk.{occurs, walkSeq}
-use Rattle.table.specs.State.{Exit}
+use Rattle.table.specs.State.{Walked}
 use Rattle.table.specs.Table.{Table, lookup, isKind, exitAt}
 use Rattle.ordered.specs.Kept.{Kept}
 use Rattle.ordered.proofs.Moves.{numbersSeq}
@@ -21,7 +21,7 @@ use Rattle.sight.proofs.Members.{Distinct}
 use Rattle.sight.proofs.Steps.{Bodies, State, occur, stepsSeq}
 
 -- a walk of the statements ts that starts at e, and a table T that keeps what it wrote
-pub record Walked (img : List ℕ) (ts : Trees) (e : Exit) (T : Table) : Type 0 where
+pub record RuleWalk (img : List ℕ) (ts : Trees) (e : Walked) (T : Table) : Type 0 where
   pub body : Bodies img ts
   pub small : (n : ℕ) → In n (numbersSeq ts) → n < nodes img
   pub distinct : Distinct (numbersSeq ts)
@@ -34,7 +34,7 @@ pub record Walked (img : List ℕ) (ts : Trees) (e : Exit) (T : Table) : Type 0 
   pub exits : (p : Place) → In p (rulePlaces ts) → exitAt img (T .words) (p .node) ≡ exitAt img ((walkSeq img occurs ts e) .table .words) (p .node)
 
 -- a rule's places stand at its nodes
-module _ (img : List ℕ) (ts : Trees) (body : Bodies img ts) (e : Exit) where
+module _ (img : List ℕ) (ts : Trees) (body : Bodies img ts) (e : Walked) where
   abbrev begin : State
   begin = record { now = e; met = record { next = 0; places = [] } }
 
@@ -42,7 +42,7 @@ module _ (img : List ℕ) (ts : Trees) (body : Bodies img ts) (e : Exit) where
   unfolding rulePlaces
   place-node p i = elim ((kept img (λ x. nothing) (stepsSeq img occur 0 [] ts body begin)) .new p i) [ inl j ↦ absurd j | inr h ↦ h .2 ]
 
-module _ (img : List ℕ) (ts : Trees) (e : Exit) (T : Table) (w : Walked img ts e T) where
+module _ (img : List ℕ) (ts : Trees) (e : Walked) (T : Table) (w : RuleWalk img ts e T) where
   -- whether a name's outer meaning is Const
   abbrev pub constant : ℕ → Bool
   constant x = isKind img 5 (lookup img (e .table) (e .scope) x)

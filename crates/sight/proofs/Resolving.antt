@@ -8,7 +8,7 @@ use Rattle.ast.specs.Image.{last}
 use Rattle.ast.specs.Tests.{verdict}
 use Rattle.ast.specs.Tree.{Tree}
 use Rattle.sound.specs.Sound.{scopesIn, symbolsIn}
-use Rattle.table.specs.State.{Exit}
+use Rattle.table.specs.State.{Walked}
 use Rattle.table.specs.Table.{Table, climb, lookup}
 use Rattle.scopes.specs.Resolve.{zeroed, walked, headed, counted}
 use Rattle.scopes.specs.Walk.{done, resolveTree}
@@ -22,7 +22,7 @@ use Rattle.sight.proofs.Counting.{module-small, module-distinct, rules-
 abbrev pub tableOf : List ℕ → List ℕ → Table
 tableOf img ws = record { words = ws; scopes = scopesIn img ws; symbols = symbolsIn img ws }
 
-module _ (img tab : List ℕ) (e : Exit) (accepted : verdict img ≡ 0) (done-e : walked img tab ≡ done e) where
+module _ (img tab : List ℕ) (e : Walked) (accepted : verdict img ≡ 0) (done-e : walked img tab ≡ done e) where
   ended : Ended img (zeroed img tab) e
   ended = walk-ended img tab accepted e done-e
 

@@ -7,7 +7,7 @@ use Rattle.ast.specs.Image.{kindAt}
 use Rattle.ast.specs.Kinds.{Class, outer, inner, plain, term, ident, head, headMember, member, case, ifVar, definedThen, arg}
 use Rattle.ast.specs.Tree.{Tree, node, block, Trees, none, _◂_}
 use Rattle.table.specs.Layout.{allOnes}
-use Rattle.table.specs.State.{Exit, back}
+use Rattle.table.specs.State.{Walked, back}
 use Rattle.table.specs.Table.{mark}
 use Rattle.ordered.specs.Walk.{Role, occurs, declares, names, defines, walkIdent, walk, walkSeq, walkFirst}
 use Rattle.ordered.proofs.Moves.{numbers, numbersSeq}
@@ -15,7 +15,7 @@ use Rattle.sight.specs.Sight.{Sort, ordinary, declared, applied, defined
 
 -- where the walk stands, and the places met so far
 pub record State : Type 0 where
-  pub now : Exit
+  pub now : Walked
   pub met : Met
 
 -- the roles of the walk beside the sorts of places, but for the defined-then variable

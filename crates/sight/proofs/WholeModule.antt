@@ -14,8 +14,8 @@ use Rattle.ast.specs.Image.{nodes, nameOf, kindAt}
 use Rattle.ast.specs.Kinds.{Class}
 use Rattle.ast.specs.Tree.{node, Trees}
 use Rattle.table.specs.Layout.{allOnes, tableLength}
-use Rattle.table.specs.Rows.{parentAt}
-use Rattle.table.specs.State.{Exit, childScope, marked}
+use Rattle.table.specs.Rising.{parentAt}
+use Rattle.table.specs.State.{Walked, childScope, marked}
 use Rattle.table.specs.Table.{Table, mark, newScope, find, lookup, isKind, entryAt, exitAt}
 use Rattle.table.proofs.Frames.{find-mark, find-scope}
 use Rattle.ordered.specs.Walk.{occurs, walkSeq}
@@ -35,16 +35,16 @@ use Rattle.sight.proofs.Frame.{Bounds, Later, later-next, lookup-child,
 use Rattle.sight.proofs.Steps.{Bodies}
 use Rattle.sight.proofs.Moves.{walks-seq, framed}
 use Rattle.sight.proofs.Lists.{visitedAll, moduleNumbers, Decls, stays, Entered, entering, entersAll, Visits, idle, after, walks, ruled, nested, visitsAll, kind-orElse}
-use Rattle.sight.proofs.OneRule.{Walked, place-node, occurrences, bindings, introducing}
+use Rattle.sight.proofs.OneRule.{RuleWalk, place-node, occurrences, bindings, introducing}
 
 module _ (img : List ℕ) where
   -- visiting makes scopes and symbols, and comes back to its scope
-  record Returns (e e′ : Exit) : Type 0 where
+  record Returns (e e′ : Walked) : Type 0 where
     scope : e′ .scope ≡ e .scope
     scopes : e .table .scopes ≤ e′ .table .scopes
     symbols : e .table .symbols ≤ e′ .table .symbols
 
-  returns : {ns : List ℕ} {rs : List Rule} {m : ℕ → Option ℕ} {e e′ : Exit} → Visits img ns rs m e e′ → Returns e e′
+  returns : {ns : List ℕ} {rs : List Rule} {m : ℕ → Option ℕ} {e e′ : Walked} → Visits img ns rs m e e′ → Returns e e′
   unfolding marked childScope
   returns idle = record { scope = refl; scopes = omega arith; symbols = omega arith }
   returns (after v u) =
@@ -71,8 +71,8 @@ module _ (img : List ℕ) where
   -- the walk of a rule, from a scope where names have their outer meaning
   abbrev pub WalkOf : Rule → Table → Type 0
   WalkOf r T =
-      (e : Exit)
-      × Walked img (r .statements) e T
+      (e : Walked)
+      × RuleWalk img (r .statements) e T
       × ((x : ℕ) → lookup img (e .table) (e .scope) x ≡ r .meaning x)
       × Keeps (numbersSeq (r .statements)) ((walkSeq img occurs (r .statements) e) .table) T
 
@@ -103,7 +103,7 @@ module _ (img : List ℕ) where
           r i
       go T k r (inr i) = g .walked T (record { lookups = k .lookups; entries = λ m l j. k .entries m l (in-right m ns ms j); exits = λ m l j. k .exits m l (in-right m ns ms j) }) r i
 
-  held-rule : (ts : Trees) (body : Bodies img ts) (m : ℕ → Option ℕ) (e : Exit) → Bounds img ((walkSeq img occurs ts e) .table)
+  held-rule : (ts : Trees) (body : Bodies img ts) (m : ℕ → Option ℕ) (e : Walked) → Bounds img ((walkSeq img occurs ts e) .table)
       → ((n : ℕ) → In n (numbersSeq ts) → n < nodes img) → Distinct (numbersSeq ts) → Kept img (e .table) → e .scope < e .table .scopes
       → ((x : ℕ) → lookup img (e .table) (e .scope) x ≡ m x) → ((x : ℕ) → isKind img 13 (m x) ≡ false)
       → Held (numbersSeq ts) (record { statements = ts; meaning = m } ∷ []) (e .table) ((walkSeq img occurs ts e) .table)
@@ -133,7 +133,7 @@ module _ (img : List ℕ) where
           )
 
   -- a new list, its scope below the one of e
-  module _ (n : ℕ) (es ds : List ℕ) (m : ℕ → Option ℕ) (e : Exit) (t′ : Table) (so : Kept img (e .table)) (inside : e .scope < e .table .scopes)
+  module _ (n : ℕ) (es ds : List ℕ) (m : ℕ → Option ℕ) (e : Walked) (t′ : Table) (so : Kept img (e .table)) (inside : e .scope < e .table .scopes)
       (K<N : e .table .scopes < nodes img) (n<N : n < nodes img)
       (en : Entered img (e .table .scopes) es ds (mark img n (e .table .scopes) (e .table .scopes) (newScope img (e .scope) (e .table))) t′)
       (reads : (x : ℕ) → lookup img (e .table) (e .scope) x ≡ m x) where
@@ -184,7 +184,7 @@ module _ (img : List ℕ) where
     list-entries : (k : ℕ) → k < nodes img → (In k (n ∷ es) → ⊥) → entryAt img (t′ .words) k ≡ entryAt img (t .words) k
     list-entries k l f = en .entries k l (λ j. f (inr j)) ∙ mark-entry img n K K t₀ n<N k l (λ q. f (inl q)) ∙ child-entry img s t so K<N k l
 
-  holds : {ns : List ℕ} {rs : List Rule} {m : ℕ → Option ℕ} {e e′ : Exit} → Visits img ns rs m e e′ → Bounds img (e′ .table) → ((n : ℕ) → In n ns → n < nodes img)
+  holds : {ns : List ℕ} {rs : List Rule} {m : ℕ → Option ℕ} {e e′ : Walked} → Visits img ns rs m e e′ → Bounds img (e′ .table) → ((n : ℕ) → In n ns → n < nodes img)
       → Distinct ns → Kept img (e .table) → e .scope < e .table .scopes → ((x : ℕ) → lookup img (e .table) (e .scope) x ≡ m x)
       → ((x : ℕ) → isKind img 13 (m x) ≡ false) → Held ns rs (e .table) (e′ .table)
   unfolding marked childScope
@@ -226,12 +226,12 @@ module _ (img : List ℕ) where
       held-after (n ∷ es) ns [] rs (e .table) (e′ .table) (e″ .table) (omega arith) q₀ di f g
 
   -- what resolving leaves for the rules rs: their walks, told by the table with its counts in front
-  pub record Resolved (rs : List Rule) (e : Exit) : Type 0 where
+  pub record Resolved (rs : List Rule) (e : Walked) : Type 0 where
     pub bounds : Bounds img (e .table)
     pub sane : Kept img (e .table)
     pub walks : (r : Rule) → In r rs → WalkOf r (counted img (e .table))
 
-  pub resolves : (n k : ℕ) (c : Class) (sh : List ℕ) (ts : Trees) (ws : List ℕ) (e : Exit)
+  pub resolves : (n k : ℕ) (c : Class) (sh : List ℕ) (ts : Trees) (ws : List ℕ) (e : Walked)
       → resolveTree img (node n k c sh ts) (record { words = ws; scopes = 0; symbols = 0 }) ≡ done e → tableLength (nodes img) ≤ length ws → Bounds img (e .table)
       → Decls img ts → ((m : ℕ) → In m (moduleNumbers n ts) → m < nodes img) → Distinct (moduleNumbers n ts)
       → Resolved (rulesAll img (saysAll img ts) ts) e
@@ -244,7 +244,7 @@ module _ (img : List ℕ) where
       let ns = visitedAll ts in
       let D = saysAll img ts in
       let n<N = sm n (inl refl) in
-      let e₁ : Exit = marked img n 0 (record { scope = 0; table = t₁ }) in
+      let e₁ : Walked = marked img n 0 (record { scope = 0; table = t₁ }) in
       let h = and-inv img (enterAll img ts e₁) (λ f. visitAll img ts f) e q in
       let E = entersAll img ts d e₁ (h .0) (h .1) in
       let v = visitsAll img ts d D (h .0) e (h .2) in
@@ -266,11 +266,11 @@ module _ (img : List ℕ) where
         bounds = b;
         sane = held .sane;
         walks = held .walked (counted img (e .table))
-        (record {
-          lookups = λ s x l. sym (headed-lookup img (e .table) s x);
-          entries = λ m l i. sym (headed-entry img (e .table) m);
-          exits = λ m l i. sym (headed-exit img (e .table) m);
-        });
+            (record {
+              lookups = λ s x l. sym (headed-lookup img (e .table) s x);
+              entries = λ m l i. sym (headed-entry img (e .table) m);
+              exits = λ m l i. sym (headed-exit img (e .table) m);
+            });
       }
 
   -- the third demand for a rule that was walked

@@ -8,7 +8,7 @@ use native.Mathlib.Omega.{arith}
 use lib.Dec.{ltb}
 use borrow.Author.Tests.{ltb-true}
 use Rattle.ast.specs.Image.{nodes, nameOf}
-use Rattle.table.specs.Rows.{parentAt}
+use Rattle.table.specs.Rising.{parentAt}
 use Rattle.table.specs.Table.{Table, find, climb, lookup}
 
 -- lookup from a scope, by what a search gives

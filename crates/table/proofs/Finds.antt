@@ -9,7 +9,7 @@ use lib.Dec.{ltb, eqb}
 use borrow.Author.Tests.{ltb-true, lt-ltb, le-ltb, eq-eqb, ne-eqb}
 use Rattle.ast.specs.Image.{nodes, kindAt, nameOf}
 use Rattle.ast.proofs.Shapes.{one-more}
-use Rattle.table.specs.Rows.{scopeOf, nodeAt, parentAt}
+use Rattle.table.specs.Rising.{scopeOf, nodeAt, parentAt}
 use Rattle.table.specs.Table.{rowIs, findFrom, climb, isKind, isValue}
 
 -- o, or else what climbing on gives, where b

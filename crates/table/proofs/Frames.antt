@@ -15,7 +15,7 @@ use borrow.Author.Tests.{eq-eqb}
 use Rattle.ast.specs.Declarations.{orElse, earliest}
 use Rattle.ast.specs.Image.{nodes, nameOf}
 use Rattle.table.specs.Layout.{entryPlace, exitPlace, parentPlace, scopePlace, nodePlace, tableLength}
-use Rattle.table.specs.Rows.{scopeOf, nodeAt}
+use Rattle.table.specs.Rising.{scopeOf, nodeAt}
 use Rattle.table.specs.Table.{Table, rowIs, findFrom, find, mark, newScope, newSymbol}
 use Rattle.table.proofs.Finds.{row-out}
 use Rattle.table.proofs.Rising.{hit, find-snoc}

@@ -14,7 +14,7 @@ use mir.Syntax.{w64}
 use Rattle.ast.specs.Image.{nodes, kindAt, startAt, opAt, field, nameOf, word}
 use Rattle.ast.proofs.Words.{word-in}
 use Rattle.table.specs.Layout.{tableLength}
-use Rattle.table.specs.Rows.{scopeOf, nodeAt, parentAt, Sorted, Cut, Before, Rising, Block}
+use Rattle.table.specs.Rising.{scopeOf, nodeAt, parentAt, Sorted, Cut, Before, Rising, Block}
 use Rattle.table.specs.Table.{findFrom, climb}
 use Rattle.table.proofs.Rising.{Among, among-start, among-hit, among-miss, among-end, rising-less, Climbs, climbs-start, climbs-cut, climbs-hit, climbs-end, climbs-up}
 

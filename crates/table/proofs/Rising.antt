@@ -14,7 +14,7 @@ use Rattle.ast.specs.Declarations.{orElse}
 use Rattle.ast.specs.Image.{nodes, nameOf}
 use Rattle.ast.proofs.Declarations.{orElse-none}
 use Rattle.table.specs.Layout.{scopePlace}
-use Rattle.table.specs.Rows.{scopeOf, nodeAt, parentAt, Sorted, Cut, Before, Rising, Block}
+use Rattle.table.specs.Rising.{scopeOf, nodeAt, parentAt, Sorted, Cut, Before, Rising, Block}
 use Rattle.table.specs.Table.{rowIs, findFrom, climb}
 use Rattle.table.proofs.Finds.{row-out, row-in, find-hit, find-miss, find-end, orClimb, orClimb-same, climb-hit, climb-end, climb-up}
 

@@ -5,11 +5,11 @@ use Prim.Native.Nat.{ℕ, _+_}
 use lib.ListN.{getD, set}
 use Rattle.ast.specs.Image.{nodes}
 use Rattle.table.specs.Layout.{allOnes, place, entries, exits, parents, symbolScopes, symbolNodes}
-use Rattle.table.specs.State.{Exit, childScope, ownSymbol, marked, unmarked}
+use Rattle.table.specs.State.{Walked, childScope, ownSymbol, marked, unmarked}
 use Rattle.table.specs.Table.{markWords, mark, newScope, newSymbol}
 
 -- where a walk stands, by its numbers
-abbrev standing : ℕ → ℕ → ℕ → List ℕ → Exit
+abbrev standing : ℕ → ℕ → ℕ → List ℕ → Walked
 standing k y s ws = record { scope = s; table = record { words = ws; scopes = k; symbols = y } }
 
 -- the code's n nodes are those of the image

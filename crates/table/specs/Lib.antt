@@ -1,5 +1,5 @@
 pub mod Layout
 pub mod Table
 pub mod State
-pub mod Rows
+pub mod Rising
 pub mod Values

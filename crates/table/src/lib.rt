@@ -9,8 +9,8 @@ ghost use Rattle.table.specs.Layout as «layout-spec»;
 ghost use Rattle.table.specs.Layout.{parentPlace, scopePlace, nodePlace, arrays, tableLength};
 ghost use Rattle.table.specs.Table as «table-spec»;
 ghost use Rattle.table.specs.State.{childScope, ownSymbol, introduce, marked, unmarked};
-ghost use Rattle.table.specs.Rows.{scopeOf, nodeAt, parentAt, Sorted, Cut, Before, Rising, Block};
-ghost use Rattle.table.specs.Values.{tableOf, sought, exitOf, optionOf};
+ghost use Rattle.table.specs.Rising.{scopeOf, nodeAt, parentAt, Sorted, Cut, Before, Rising, Block};
+ghost use Rattle.table.specs.Values.{tableOf, sought, walkedOf, optionOf};
 use ast::NodeId;
 
 pub struct ScopeId(pub u32);
@@ -89,7 +89,7 @@ pub fn insert_ordered(image: &[u8], table: &mut [u32], node: NodeId, entry: Scop
 // A new scope, whose parent is the one that the walk stands in.
 pub fn new_scope(image: &[u8], table: &mut [u32], at: Walked) -> Walked
     requires { ⌜ at .scopes + 1 < 2 ^ 32 ⌝ }
-    ensures { λ r. ⌜ exitOf r (now (table .exit)) ≡ childScope (now (image .entry)) (exitOf at (now (table .entry))) ⌝ }
+    ensures { λ r. ⌜ walkedOf r (now (table .exit)) ≡ childScope (now (image .entry)) (walkedOf at (now (table .entry))) ⌝ }
 {
     let n = ast::node_count(image);
     put(table, place(PARENTS, n, at.scopes), at.scope.0);
@@ -103,7 +103,7 @@ pub fn new_scope(image: &[u8], table: &mut [u32], at: Walked) -> Walked
 // The node as a symbol of the scope that the walk stands in.
 pub fn insert_symbol(image: &[u8], table: &mut [u32], at: Walked, node: NodeId) -> Walked
     requires { ⌜ at .symbols + 1 < 2 ^ 32 ⌝ }
-    ensures { λ r. ⌜ exitOf r (now (table .exit)) ≡ ownSymbol (now (image .entry)) (node .0) (exitOf at (now (table .entry))) ⌝ }
+    ensures { λ r. ⌜ walkedOf r (now (table .exit)) ≡ ownSymbol (now (image .entry)) (node .0) (walkedOf at (now (table .entry))) ⌝ }
 {
     let n = ast::node_count(image);
     put(table, place(SYMBOL_SCOPES, n, at.symbols), at.scope.0);
@@ -118,7 +118,7 @@ pub fn insert_symbol(image: &[u8], table: &mut [u32], at: Walked, node: NodeId) 
 
 pub fn insert_var_symbol(image: &[u8], table: &mut [u32], at: Walked, ident: NodeId) -> Walked
     requires { ⌜ (at .scopes + 1 < 2 ^ 32) × (at .symbols + 1 < 2 ^ 32) ⌝ }
-    ensures { λ r. ⌜ exitOf r (now (table .exit)) ≡ introduce (now (image .entry)) (ident .0) (exitOf at (now (table .entry))) ⌝ }
+    ensures { λ r. ⌜ walkedOf r (now (table .exit)) ≡ introduce (now (image .entry)) (ident .0) (walkedOf at (now (table .entry))) ⌝ }
 {
     let inner = new_scope(image, table, at);
     insert_symbol(image, table, inner, ident)
@@ -126,7 +126,7 @@ pub fn insert_var_symbol(image: &[u8], table: &mut [u32], at: Walked, ident: Nod
 
 // The node left: its entry scope is the one of `at`, its exit the one of `w`.
 pub fn leave(image: &[u8], table: &mut [u32], node: NodeId, at: Walked, w: Walked) -> Walked
-    ensures { λ r. ⌜ exitOf r (now (table .exit)) ≡ marked (now (image .entry)) (node .0) (at .scope .0) (exitOf w (now (table .entry))) ⌝ }
+    ensures { λ r. ⌜ walkedOf r (now (table .exit)) ≡ marked (now (image .entry)) (node .0) (at .scope .0) (walkedOf w (now (table .entry))) ⌝ }
 {
     let entry = at.scope;
     let exit = w.scope;
@@ -136,7 +136,7 @@ pub fn leave(image: &[u8], table: &mut [u32], node: NodeId, at: Walked, w: Walke
 
 // The node left as an AppHeadMember is: all ones in both places.
 pub fn leave_bare(image: &[u8], table: &mut [u32], node: NodeId, w: Walked) -> Walked
-    ensures { λ r. ⌜ exitOf r (now (table .exit)) ≡ unmarked (now (image .entry)) (node .0) (exitOf w (now (table .entry))) ⌝ }
+    ensures { λ r. ⌜ walkedOf r (now (table .exit)) ≡ unmarked (now (image .entry)) (node .0) (walkedOf w (now (table .entry))) ⌝ }
 {
     insert_ordered(image, table, node, ScopeId(4294967295), ScopeId(4294967295));
     w

@@ -3,8 +3,8 @@ use mathlib.Core.Path.{refl, sym, ap, subst, _∙_}
 use native.Mathlib.Omega.{arith}
 use Rattle.ast.specs.Image.{field}
 use Rattle.ast.specs.Kinds.{kindOf}
-use Rattle.table.specs.State.{Exit, marked, unmarked}
-use Rattle.table.specs.Values.{exitOf}
+use Rattle.table.specs.State.{Walked, marked, unmarked}
+use Rattle.table.specs.Values.{walkedOf}
 use Rattle.ast.proofs.Shapes.{term-last, head-last}
 use Rattle.ordered.specs.Walk.{occurs, names}
 use Rattle.ordered.specs.Promises.{Ready, over, rest}
@@ -480,10 +480,10 @@ walk-term-member-same-length : (t : ℕ) → walk-term-member-lts.Need-same-leng
 walk-term-member-same-length t c = search needs
 
 walk-term-member-returns : (t : ℕ) → walk-term-member-lts.Need-returns (walk-term-member-claims t) (walk-term-member-at t) walk-term-member.Post
-walk-term-member-returns t c = c .before .before .leave2 .ensures ∙ ap (marked _ _ _) (c .before .before .before .before .before .before .leave .ensures ∙ ap (λ (f : Exit). marked (c .before .before .before .before .before .before .before .before .before .before .before .before .before .before .before .before .args .image .now) (c .before .before .before .before .before .before .before .before .before .before .before .before .field2 .result) (f .scope) f) (c .before .before .before .before .before .before .before .before .before .before .walk-term .ensures)) ∙ sym ((memberOf _ (c .before .before .before .before .before .before .before .before .before .before .before .before .before .before .before .before .pre .1) (c .before .before .before .before .before .before .before .before .before .before .before .before .before .field .ensures) (c .before .before .before .before .before .before .before .before .before .before .before .before .field2 .ensures)) .whole)
+walk-term-member-returns t c = c .before .before .leave2 .ensures ∙ ap (marked _ _ _) (c .before .before .before .before .before .before .leave .ensures ∙ ap (λ (f : Walked). marked (c .before .before .before .before .before .before .before .before .before .before .before .before .before .before .before .before .args .image .now) (c .before .before .before .before .before .before .before .before .before .before .before .before .field2 .result) (f .scope) f) (c .before .before .before .before .before .before .before .before .before .before .walk-term .ensures)) ∙ sym ((memberOf _ (c .before .before .before .before .before .before .before .before .before .before .before .before .before .before .before .before .pre .1) (c .before .before .before .before .before .before .before .before .before .before .before .before .before .field .ensures) (c .before .before .before .before .before .before .before .before .before .before .before .before .field2 .ensures)) .whole)
 
 abbrev walk-terms-Inv-loop : walk-terms-lts.InvT-loop
-walk-terms-Inv-loop image table₀ list count i₀ w₀ table i w = Left image occurs (list .0) 1 (field image (list .0) 0) i (exitOf w₀ table₀) (exitOf w table)
+walk-terms-Inv-loop image table₀ list count i₀ w₀ table i w = Left image occurs (list .0) 1 (field image (list .0) 0) i (walkedOf w₀ table₀) (walkedOf w table)
 
 abbrev walk-terms-μ-loop : walk-terms-lts.MeasureT-loop
 walk-terms-μ-loop image table₀ list count i₀ w₀ table i w = count - i

@@ -3,8 +3,8 @@ use mathlib.Core.Path.{refl, sym, ap, subst, _∙_}
 use native.Mathlib.Omega.{arith}
 use Rattle.ast.specs.Image.{field}
 use Rattle.ast.specs.Kinds.{kindOf}
-use Rattle.table.specs.State.{Exit, marked, back}
-use Rattle.table.specs.Values.{exitOf}
+use Rattle.table.specs.State.{Walked, marked, back}
+use Rattle.table.specs.Values.{walkedOf}
 use Rattle.ordered.specs.Walk.{occurs}
 use Rattle.ordered.specs.Promises.{rest, ReadyRun}
 use Rattle.ordered.proofs.Atoms.{plain-wrapped, plain-last}
@@ -165,7 +165,7 @@ walk-stmt-case-below t =
     walk-stmt-case.Pre
 
 abbrev walk-blocks-Inv-loop : walk-blocks-lts.InvT-loop
-walk-blocks-Inv-loop image table₀ id count i₀ j₀ w₀ table i j w = BlocksLeft image (id .0) i j (exitOf w₀ table₀) (exitOf w table)
+walk-blocks-Inv-loop image table₀ id count i₀ j₀ w₀ table i j w = BlocksLeft image (id .0) i j (walkedOf w₀ table₀) (walkedOf w table)
 
 abbrev walk-blocks-μ-loop : walk-blocks-lts.MeasureT-loop
 walk-blocks-μ-loop image table₀ id count i₀ j₀ w₀ table i j w = count - i
@@ -249,7 +249,7 @@ walk-branch-returns : (t : ℕ) → walk-branch-lts.Need-returns (walk-branch-cl
 walk-branch-returns t c = c .before .before .leave .ensures ∙ ap (marked _ _ _) (c .before .before .before .before .before .before .walk-blocks .ensures) ∙ sym (branch-whole _ _ (c .before .before .before .before .before .before .before .before .before .before .pre .1 .is))
 
 abbrev walk-cases-Inv-loop : walk-cases-lts.InvT-loop
-walk-cases-Inv-loop image table₀ id count i₀ w₀ table i w = Left image occurs (id .0) 2 (field image (id .0) 1) i (exitOf w₀ table₀) (exitOf w table)
+walk-cases-Inv-loop image table₀ id count i₀ w₀ table i w = Left image occurs (id .0) 2 (field image (id .0) 1) i (walkedOf w₀ table₀) (walkedOf w table)
 
 abbrev walk-cases-μ-loop : walk-cases-lts.MeasureT-loop
 walk-cases-μ-loop image table₀ id count i₀ w₀ table i w = count - i
@@ -328,7 +328,7 @@ walk-match-case-same-length : (t : ℕ) → walk-match-case-lts.Need-same-length
 walk-match-case-same-length t c = search needs
 
 walk-match-case-returns : (t : ℕ) → walk-match-case-lts.Need-returns (walk-match-case-claims t) (walk-match-case-at t) walk-match-case.Post
-walk-match-case-returns t c = c .before .before .leave .ensures ∙ ap (λ (f : Exit). marked (c .before .before .before .before .before .before .before .before .before .before .before .before .before .before .before .before .before .before .args .image .now) (c .before .before .before .before .before .before .before .before .before .before .before .before .before .before .before .before .before .before .args .id .0) (c .before .before .before .before .before .before .before .before .before .before .before .before .before .before .before .before .before .before .args .at .scope .0) (back (c .before .before .before .before .before .before .before .before .before .before .before .before .before .before .before .before .before .before .args .image .now) (c .before .before .before .before .before .before .before .before .before .before .before .before .before .before .before .before .before .before .args .at .scope .0) f)) (c .before .before .before .before .before .before .before .walk-stmt-block .ensures ∙ ap (rest _ occurs _ 2 _ 0) (c .before .before .before .before .before .before .before .before .before .before .before .walk-term .ensures)) ∙ sym ((matchCase _ (c .before .before .before .before .before .before .before .before .before .before .before .before .before .before .before .before .before .before .pre .1) (c .before .before .before .before .before .before .before .before .before .before .before .before .before .before .before .field .ensures) (c .before .before .before .before .before .before .before .before .before .before .before .before .before .wide .ensures ∙ c .before .before .before .before .before .before .before .before .before .before .before .before .before .before .field2 .ensures)) .whole)
+walk-match-case-returns t c = c .before .before .leave .ensures ∙ ap (λ (f : Walked). marked (c .before .before .before .before .before .before .before .before .before .before .before .before .before .before .before .before .before .before .args .image .now) (c .before .before .before .before .before .before .before .before .before .before .before .before .before .before .before .before .before .before .args .id .0) (c .before .before .before .before .before .before .before .before .before .before .before .before .before .before .before .before .before .before .args .at .scope .0) (back (c .before .before .before .before .before .before .before .before .before .before .before .before .before .before .before .before .before .before .args .image .now) (c .before .before .before .before .before .before .before .before .before .before .before .before .before .before .before .before .before .before .args .at .scope .0) f)) (c .before .before .before .before .before .before .before .walk-stmt-block .ensures ∙ ap (rest _ occurs _ 2 _ 0) (c .before .before .before .before .before .before .before .before .before .before .before .walk-term .ensures)) ∙ sym ((matchCase _ (c .before .before .before .before .before .before .before .before .before .before .before .before .before .before .before .before .before .before .pre .1) (c .before .before .before .before .before .before .before .before .before .before .before .before .before .before .before .field .ensures) (c .before .before .before .before .before .before .before .before .before .before .before .before .before .wide .ensures ∙ c .before .before .before .before .before .before .before .before .before .before .before .before .before .before .field2 .ensures)) .whole)
 
 walk-stmt-walk-stmt-case-requires : (t : ℕ) → walk-stmt-lts.Need-walk-stmt-case-requires (walk-stmt-claims t) (walk-stmt-at t) walk-stmt.Post
 walk-stmt-walk-stmt-case-requires t c κs = (omega arith, c .before .before .before .pre .1)
@@ -344,7 +344,7 @@ unfolding kindOf
 walk-stmt-returns t c = c .before .before .leave .ensures ∙ ap (marked _ _ _) (c .before .before .before .before .before .before .walk-stmt-case .ensures) ∙ sym (plain-whole _ _ (c .before .before .before .before .before .before .before .before .before .before .pre .1 .is))
 
 abbrev walk-stmt-block-Inv-loop : walk-stmt-block-lts.InvT-loop
-walk-stmt-block-Inv-loop image table₀ node first count done₀ w₀ table done w = Left image occurs (node .0) first count done (exitOf w₀ table₀) (exitOf w table)
+walk-stmt-block-Inv-loop image table₀ node first count done₀ w₀ table done w = Left image occurs (node .0) first count done (walkedOf w₀ table₀) (walkedOf w table)
 
 abbrev walk-stmt-block-μ-loop : walk-stmt-block-lts.MeasureT-loop
 walk-stmt-block-μ-loop image table₀ node first count done₀ w₀ table done w = count - done

@@ -2,7 +2,7 @@ use mathlib.Core.Path.{sym, subst, _∙_}
 use native.Mathlib.Omega.{arith}
 use Rattle.table.specs.State.{introduce, childScope, ownSymbol}
 use Rattle.table.specs.Table.{newScope, newSymbol}
-use Rattle.table.specs.Values.{exitOf}
+use Rattle.table.specs.Values.{walkedOf}
 use Rattle.ordered.specs.Promises.{Room}
 use Rattle.ordered.proofs.Steps.{ident-rising, ident-known, ident-new}
 use borrow.Author.Needs.{needs}
@@ -26,13 +26,13 @@ returns c = sym (ident-known _ _ _ _ _ (c .before .before .before .before .befor
 
 insert-var-symbol-requires : tie.Need-insert-var-symbol-requires
 unfolding introduce childScope ownSymbol newScope newSymbol
-insert-var-symbol-requires c κs = let r = subst (Room (c .before .before .before .before .before .before .before .before .before .args .image .now)) (ident-new _ _ (exitOf (c .before .before .before .before .before .before .before .before .before .args .at) (c .before .before .before .before .before .before .before .before .before .args .table .now)) _ _ (c .before .before .before .before .before .before .name-of .ensures) (c .before .before .before .seek .ensures) (sym (c .before .before .is-value .ensures) ∙ c .before .if1 .left)) (c .before .before .before .before .before .before .before .before .before .pre) in omega arith
+insert-var-symbol-requires c κs = let r = subst (Room (c .before .before .before .before .before .before .before .before .before .args .image .now)) (ident-new _ _ (walkedOf (c .before .before .before .before .before .before .before .before .before .args .at) (c .before .before .before .before .before .before .before .before .before .args .table .now)) _ _ (c .before .before .before .before .before .before .name-of .ensures) (c .before .before .before .seek .ensures) (sym (c .before .before .is-value .ensures) ∙ c .before .if1 .left)) (c .before .before .before .before .before .before .before .before .before .pre) in omega arith
 
 same-length-2 : tie.Need-same-length-2
 same-length-2 c = search needs
 
 returns-2 : tie.Need-returns-2
-returns-2 c = c .before .before .insert-var-symbol .ensures ∙ sym (ident-new _ _ (exitOf (c .before .before .before .before .before .before .before .before .before .before .before .before .args .at) (c .before .before .before .before .before .before .before .before .before .before .before .before .args .table .now)) _ _ (c .before .before .before .before .before .before .before .before .before .name-of .ensures) (c .before .before .before .before .before .before .seek .ensures) (sym (c .before .before .before .before .before .is-value .ensures) ∙ c .before .before .before .before .if1 .left))
+returns-2 c = c .before .before .insert-var-symbol .ensures ∙ sym (ident-new _ _ (walkedOf (c .before .before .before .before .before .before .before .before .before .before .before .before .args .at) (c .before .before .before .before .before .before .before .before .before .before .before .before .args .table .now)) _ _ (c .before .before .before .before .before .before .before .before .before .name-of .ensures) (c .before .before .before .before .before .before .seek .ensures) (sym (c .before .before .before .before .before .is-value .ensures) ∙ c .before .before .before .before .if1 .left))
 
 pub bind-ident-spec : {M : Type 1} → statement M
 bind-ident-spec =

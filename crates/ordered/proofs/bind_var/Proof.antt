@@ -3,7 +3,7 @@ use native.Mathlib.Omega.{arith}
 use borrow.Author.Needs.{needs}
 use Rattle.table.specs.State.{introduce, childScope, ownSymbol}
 use Rattle.table.specs.Table.{newScope, newSymbol}
-use Rattle.table.specs.Values.{exitOf}
+use Rattle.table.specs.Values.{walkedOf}
 use Rattle.ordered.specs.Promises.{Room}
 use Rattle.ordered.proofs.Steps.{ident-rising}
 use Rattle.ordered.proofs.Atoms.{var-known, var-new}
@@ -24,13 +24,13 @@ returns c = sym (var-known _ _ _ _ _ (c .before .before .before .name-of .ensure
 
 insert-var-symbol-requires : tie.Need-insert-var-symbol-requires
 unfolding introduce childScope ownSymbol newScope newSymbol
-insert-var-symbol-requires c κs = let r = subst (Room (c .before .before .before .before .before .before .before .args .image .now)) (var-new _ _ _ (exitOf (c .before .before .before .before .before .before .before .args .at) (c .before .before .before .before .before .before .before .args .table .now)) _ (c .before .before .before .before .name-of .ensures) (sym (c .before .before .lookup-var .ensures) ∙ c .before .if1 .left)) (c .before .before .before .before .before .before .before .pre) in omega arith
+insert-var-symbol-requires c κs = let r = subst (Room (c .before .before .before .before .before .before .before .args .image .now)) (var-new _ _ _ (walkedOf (c .before .before .before .before .before .before .before .args .at) (c .before .before .before .before .before .before .before .args .table .now)) _ (c .before .before .before .before .name-of .ensures) (sym (c .before .before .lookup-var .ensures) ∙ c .before .if1 .left)) (c .before .before .before .before .before .before .before .pre) in omega arith
 
 same-length-2 : tie.Need-same-length-2
 same-length-2 c = search needs
 
 returns-2 : tie.Need-returns-2
-returns-2 c = c .before .before .insert-var-symbol .ensures ∙ sym (var-new _ _ _ (exitOf (c .before .before .before .before .before .before .before .before .before .before .args .at) (c .before .before .before .before .before .before .before .before .before .before .args .table .now)) _ (c .before .before .before .before .before .before .before .name-of .ensures) (sym (c .before .before .before .before .before .lookup-var .ensures) ∙ c .before .before .before .before .if1 .left))
+returns-2 c = c .before .before .insert-var-symbol .ensures ∙ sym (var-new _ _ _ (walkedOf (c .before .before .before .before .before .before .before .before .before .before .args .at) (c .before .before .before .before .before .before .before .before .before .before .args .table .now)) _ (c .before .before .before .before .before .before .before .name-of .ensures) (sym (c .before .before .before .before .before .lookup-var .ensures) ∙ c .before .before .before .before .if1 .left))
 
 pub bind-var-spec : {M : Type 1} → statement M
 bind-var-spec =

@@ -1,6 +1,6 @@
 use mathlib.Core.Path.{sym, ap, subst, _∙_}
 use native.Mathlib.Omega.{arith}
-use Rattle.table.specs.State.{Exit, introduce, childScope, ownSymbol, marked}
+use Rattle.table.specs.State.{Walked, introduce, childScope, ownSymbol, marked}
 use Rattle.table.specs.Table.{newScope, newSymbol}
 use Rattle.ordered.specs.Promises.{Room}
 use Rattle.ordered.proofs.Args.{argOf}
@@ -28,7 +28,7 @@ returns c = c .before .before .leave .ensures ∙ ap (marked _ _ _) (c .before .
 
 insert-var-symbol-requires : tie.Need-insert-var-symbol-requires
 unfolding introduce childScope ownSymbol newScope newSymbol
-insert-var-symbol-requires c κs = let r = subst (λ (f : Exit). Room (c .before .before .before .before .before .before .before .before .before .before .args .image .now) (introduce (c .before .before .before .before .before .before .before .before .before .before .args .image .now) (c .before .before .before .before .before .before .before .before .before .before .args .id .0) f)) (sym (c .before .before .before .before .walk-type-expr .ensures)) ((argOf _ (c .before .before .before .before .before .before .before .before .before .before .pre) (c .before .before .before .before .before .before .field2 .ensures)) .room (λ z. c .before .if1 .left (c .before .before .before .before .before .before .before .field .ensures ∙ z))) in omega arith
+insert-var-symbol-requires c κs = let r = subst (λ (f : Walked). Room (c .before .before .before .before .before .before .before .before .before .before .args .image .now) (introduce (c .before .before .before .before .before .before .before .before .before .before .args .image .now) (c .before .before .before .before .before .before .before .before .before .before .args .id .0) f)) (sym (c .before .before .before .before .walk-type-expr .ensures)) ((argOf _ (c .before .before .before .before .before .before .before .before .before .before .pre) (c .before .before .before .before .before .before .field2 .ensures)) .room (λ z. c .before .if1 .left (c .before .before .before .before .before .before .before .field .ensures ∙ z))) in omega arith
 
 leave-requires-2 : tie.Need-leave-requires-2
 leave-requires-2 c κs = search needs

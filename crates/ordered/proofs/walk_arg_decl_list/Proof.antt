@@ -1,7 +1,7 @@
 use mathlib.Core.Path.{sym, ap, _∙_}
 use Rattle.ast.specs.Kinds.{kindOf}
 use Rattle.table.specs.State.{marked}
-use Rattle.table.specs.Values.{exitOf}
+use Rattle.table.specs.Values.{walkedOf}
 use Rattle.ordered.specs.Walk.{occurs}
 use Rattle.ordered.specs.Promises.{rest}
 use Rattle.ordered.proofs.Lists.{list-whole, list-run}
@@ -27,7 +27,7 @@ same-length c = search needs
 
 returns : tie.Need-returns
 unfolding kindOf
-returns c = c .before .before .leave .ensures ∙ ap (marked _ _ _) (c .before .before .before .before .before .before .walk-args .ensures ∙ ap (λ x. rest (c .before .before .before .before .before .before .before .before .before .before .before .before .args .image .now) occurs (c .before .before .before .before .before .before .before .before .before .before .before .before .args .id .0) 1 x 0 (exitOf (c .before .before .before .before .before .before .before .before .before .before .before .before .args .at) (c .before .before .before .before .before .before .before .before .before .before .before .before .args .table .now))) (c .before .before .before .before .before .before .before .before .wide .ensures ∙ c .before .before .before .before .before .before .before .before .before .field .ensures)) ∙ sym (list-whole _ _ (c .before .before .before .before .before .before .before .before .before .before .before .before .pre .is))
+returns c = c .before .before .leave .ensures ∙ ap (marked _ _ _) (c .before .before .before .before .before .before .walk-args .ensures ∙ ap (λ x. rest (c .before .before .before .before .before .before .before .before .before .before .before .before .args .image .now) occurs (c .before .before .before .before .before .before .before .before .before .before .before .before .args .id .0) 1 x 0 (walkedOf (c .before .before .before .before .before .before .before .before .before .before .before .before .args .at) (c .before .before .before .before .before .before .before .before .before .before .before .before .args .table .now))) (c .before .before .before .before .before .before .before .before .wide .ensures ∙ c .before .before .before .before .before .before .before .before .before .field .ensures)) ∙ sym (list-whole _ _ (c .before .before .before .before .before .before .before .before .before .before .before .before .pre .is))
 
 pub walk-arg-decl-list-spec : {M : Type 1} → statement M
 walk-arg-decl-list-spec =

@@ -1,7 +1,7 @@
 use borrow.Author.Needs.{needs}
 use mathlib.Core.Path.{refl, sym, ap, _∙_}
 use native.Mathlib.Omega.{arith}
-use Rattle.table.specs.Values.{exitOf}
+use Rattle.table.specs.Values.{walkedOf}
 use Rattle.ordered.specs.Walk.{occurs}
 use Rattle.ordered.specs.Promises.{rest}
 use Rattle.ordered.proofs.Lists.{Left, rest-end, runItem}
@@ -10,7 +10,7 @@ use Rattle.ordered.proofs.walk_args.Statement.{statement}
 use Rattle.ordered.proofs.walk_args.Tie as tie
 
 abbrev Inv-loop : tie.InvT-loop
-Inv-loop image table₀ node count i₀ w₀ table i w = Left image occurs (node .0) 1 count i (exitOf w₀ table₀) (exitOf w table)
+Inv-loop image table₀ node count i₀ w₀ table i w = Left image occurs (node .0) 1 count i (walkedOf w₀ table₀) (walkedOf w table)
 
 abbrev μ-loop : tie.MeasureT-loop
 μ-loop image table₀ node count i₀ w₀ table i w = count - i

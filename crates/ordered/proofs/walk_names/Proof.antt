@@ -2,7 +2,7 @@ use borrow.Author.Needs.{needs}
 use mathlib.Core.Path.{refl, sym, ap, _∙_}
 use native.Mathlib.Omega.{arith}
 use Rattle.ast.specs.Image.{field}
-use Rattle.table.specs.Values.{exitOf}
+use Rattle.table.specs.Values.{walkedOf}
 use Rattle.ordered.specs.Walk.{names}
 use Rattle.ordered.specs.Promises.{rest}
 use Rattle.ordered.proofs.Lists.{Left, rest-end, name-more}
@@ -11,7 +11,7 @@ use Rattle.ordered.proofs.walk_names.Statement.{statement}
 use Rattle.ordered.proofs.walk_names.Tie as tie
 
 abbrev Inv-loop : tie.InvT-loop
-Inv-loop image table₀ node count i₀ w₀ table i w = Left image names (node .0) 2 (field image (node .0) 1) i (exitOf w₀ table₀) (exitOf w table)
+Inv-loop image table₀ node count i₀ w₀ table i w = Left image names (node .0) 2 (field image (node .0) 1) i (walkedOf w₀ table₀) (walkedOf w table)
 
 abbrev μ-loop : tie.MeasureT-loop
 μ-loop image table₀ node count i₀ w₀ table i w = count - i

@@ -1,6 +1,6 @@
 use mathlib.Core.Path.{sym, ap, subst, _∙_}
 use borrow.Author.Needs.{needs}
-use Rattle.table.specs.State.{Exit, marked}
+use Rattle.table.specs.State.{Walked, marked}
 use Rattle.ordered.specs.Walk.{declares, walk}
 use Rattle.ordered.specs.Promises.{Variable}
 use Rattle.ordered.proofs.Atoms.{ifVarOf}
@@ -17,7 +17,7 @@ walk-type-expr-requires : tie.Need-walk-type-expr-requires
 walk-type-expr-requires c κs = (ifVarOf _ (c .before .before .before .before .before .pre) (c .before .before .field .ensures) (c .before .field2 .ensures)) .first
 
 walk-var-term-requires : tie.Need-walk-var-term-requires
-walk-var-term-requires c κs = subst (λ (f : Exit). Variable (c .before .before .before .before .before .before .before .before .before .args .image .now) (f .scope) (c .before .before .before .before .before .before .field .result) f) (sym (c .before .before .before .walk-type-expr .ensures)) ((ifVarOf _ (c .before .before .before .before .before .before .before .before .before .pre) (c .before .before .before .before .before .before .field .ensures) (c .before .before .before .before .before .field2 .ensures)) .second)
+walk-var-term-requires c κs = subst (λ (f : Walked). Variable (c .before .before .before .before .before .before .before .before .before .args .image .now) (f .scope) (c .before .before .before .before .before .before .field .result) f) (sym (c .before .before .before .walk-type-expr .ensures)) ((ifVarOf _ (c .before .before .before .before .before .before .before .before .before .pre) (c .before .before .before .before .before .before .field .ensures) (c .before .before .before .before .before .field2 .ensures)) .second)
 
 leave-requires : tie.Need-leave-requires
 leave-requires c κs = search needs

@@ -5,7 +5,7 @@ use borrow.Author.Needs.{needs}
 use lib.ListN.{length}
 use Rattle.ast.specs.Image.{field}
 use Rattle.ast.specs.Kinds.{kindOf}
-use Rattle.table.specs.Values.{exitOf}
+use Rattle.table.specs.Values.{walkedOf}
 use Rattle.scopes.specs.Walk.{done}
 use Rattle.scopes.proofs.Entries.{declOf, decl-last, last-case, decl-visited}
 use Rattle.scopes.proofs.Visiting.{VisitLeft, visit-begin, visitItem, visit-ended, decl-fits, sig-inside, rule-inside, type-visit, sig-visit, rule-visit, done-visits, visits-as, list-enter, listVisit, list-stop, model-room, modelVisit, opened-is, dropped-is}
@@ -89,7 +89,7 @@ walk-model-decl-below t =
     walk-model-decl.Pre
 
 abbrev visit-decls-Inv-loop : visit-decls-lts.InvT-loop
-visit-decls-Inv-loop image table₀ seen₀ node first count i₀ w₀ table seen i w = (length seen ≡ length seen₀) × VisitLeft image (node .0) first count i (exitOf w₀ table₀) (exitOf w table)
+visit-decls-Inv-loop image table₀ seen₀ node first count i₀ w₀ table seen i w = (length seen ≡ length seen₀) × VisitLeft image (node .0) first count i (walkedOf w₀ table₀) (walkedOf w table)
 
 abbrev visit-decls-μ-loop : visit-decls-lts.MeasureT-loop
 visit-decls-μ-loop image table₀ seen₀ node first count i₀ w₀ table seen i w = count - i

@@ -3,14 +3,14 @@ use native.Mathlib.Omega.{arith}
 use Prim.Native.Nat.{_-_}
 use lib.ListN.{length}
 use Rattle.ast.specs.Image.{field}
-use Rattle.table.specs.Values.{exitOf}
+use Rattle.table.specs.Values.{walkedOf}
 use Rattle.scopes.proofs.Entries.{EnterLeft, ctor-begin, ctor-is, signed, sig-entering, enterItem, enter-ended}
 use Rattle.scopes.proofs.enter_ctors.Statement.{statement}
 use Rattle.scopes.proofs.enter_ctors.Tie as tie
 use borrow.Author.Needs.{needs}
 
 abbrev Inv-loop : tie.InvT-loop
-Inv-loop image table₀ seen₀ id count i₀ w₀ table seen i w = (length seen ≡ length seen₀) × EnterLeft image seen (id .0) 2 (field image (id .0) 1) i (exitOf w₀ table₀) (exitOf w table)
+Inv-loop image table₀ seen₀ id count i₀ w₀ table seen i w = (length seen ≡ length seen₀) × EnterLeft image seen (id .0) 2 (field image (id .0) 1) i (walkedOf w₀ table₀) (walkedOf w table)
 
 abbrev μ-loop : tie.MeasureT-loop
 μ-loop image table₀ seen₀ id count i₀ w₀ table seen i w = count - i

@@ -2,7 +2,7 @@ use mathlib.Core.Path.{_≡_, refl, _∙_}
 use native.Mathlib.Omega.{arith}
 use Prim.Native.Nat.{_-_}
 use lib.ListN.{length}
-use Rattle.table.specs.Values.{exitOf}
+use Rattle.table.specs.Values.{walkedOf}
 use Rattle.ast.proofs.Shapes.{run-item}
 use Rattle.scopes.proofs.Entries.{EnterLeft, enter-begin, enterItem, enter-ended}
 use Rattle.scopes.proofs.enter_decls.Statement.{statement}
@@ -10,7 +10,7 @@ use Rattle.scopes.proofs.enter_decls.Tie as tie
 use borrow.Author.Needs.{needs}
 
 abbrev Inv-loop : tie.InvT-loop
-Inv-loop image table₀ seen₀ node first count i₀ w₀ table seen i w = (length seen ≡ length seen₀) × EnterLeft image seen (node .0) first count i (exitOf w₀ table₀) (exitOf w table)
+Inv-loop image table₀ seen₀ node first count i₀ w₀ table seen i w = (length seen ≡ length seen₀) × EnterLeft image seen (node .0) first count i (walkedOf w₀ table₀) (walkedOf w table)
 
 abbrev μ-loop : tie.MeasureT-loop
 μ-loop image table₀ seen₀ node first count i₀ w₀ table seen i w = count - i

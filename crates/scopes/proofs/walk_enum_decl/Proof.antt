@@ -1,6 +1,6 @@
 use mathlib.Core.Path.{refl, sym, ap, _∙_}
 use Prim.Native.Nat.{_-_}
-use Rattle.table.specs.Values.{exitOf}
+use Rattle.table.specs.Values.{walkedOf}
 use Rattle.ast.specs.Kinds.{kindOf}
 use Rattle.scopes.specs.Walk.{done}
 use Rattle.scopes.proofs.Visiting.{VisitLeft, visit-begin, visitItem, enumVisit, sig-inside, sig-visit, done-visits, visit-ended}
@@ -9,7 +9,7 @@ use Rattle.scopes.proofs.walk_enum_decl.Tie as tie
 use borrow.Author.Needs.{needs}
 
 abbrev Inv-loop : tie.InvT-loop
-Inv-loop image table₀ id count i₀ w₀ table i w = VisitLeft image (id .0) 2 count i (exitOf w₀ table₀) (exitOf w table)
+Inv-loop image table₀ id count i₀ w₀ table i w = VisitLeft image (id .0) 2 count i (walkedOf w₀ table₀) (walkedOf w table)
 
 abbrev μ-loop : tie.MeasureT-loop
 μ-loop image table₀ id count i₀ w₀ table i w = count - i

@@ -1,7 +1,7 @@
 use borrow.Author.Needs.{needs}
 use mathlib.Core.Path.{ap, _∙_}
 use native.Mathlib.Omega.{arith}
-use Rattle.table.specs.State.{Exit, introduce, childScope, ownSymbol}
+use Rattle.table.specs.State.{Walked, introduce, childScope, ownSymbol}
 use Rattle.table.specs.Table.{newSymbol, newScope}
 use Rattle.table.proofs.insert_var_symbol.Statement.{statement}
 use Rattle.table.proofs.insert_var_symbol.Tie as tie
@@ -11,7 +11,7 @@ new-scope-requires c κs = search needs
 
 insert-symbol-requires : tie.Need-insert-symbol-requires
 unfolding childScope newScope
-insert-symbol-requires c κs = omega (arith, ap (λ (e : Exit). e .table .symbols) (c .before .before .before .new-scope .ensures))
+insert-symbol-requires c κs = omega (arith, ap (λ (e : Walked). e .table .symbols) (c .before .before .before .new-scope .ensures))
 
 same-length : tie.Need-same-length
 same-length c = search needs
