@@ -1,4 +1,4 @@
--- The table's layout: three counts, then arrays of N words each. Where a word stands is said here alone.
+-- The table's layout: three counts, then arrays of N words each, by their ranks.
 use Prim.Native.Nat.{ℕ, _+_, _*_}
 
 -- the all-ones word: the parent of the first scope, and both places of an AppHeadMember
