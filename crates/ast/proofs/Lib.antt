@@ -16,3 +16,4 @@ pub mod Kids
 pub mod ByKind
 pub mod Declarations
 pub mod Bools
+pub mod Refusals

@@ -1,5 +1,5 @@
 -- What a call of document 01 hands back. Each call's own enum is mapped to it by a definition `answerOf`.
-use Prim.Native.Nat.{ℕ}
+use Prim.Native.Nat.{ℕ, _<_}
 
 pub data Answer : Type 0 where
   -- a refusal, by its number in document 01's table
@@ -10,3 +10,14 @@ pub data Answer : Type 0 where
   result : (a b : ℕ) → Answer
   -- the other answer. Lookup: none, 0 and 0; Once: the lone occurrence and its binding
   other : (a b : ℕ) → Answer
+
+-- a number of 16 bits
+abbrev pub Short : ℕ → Type 0
+Short x = x < 65536
+
+-- every number of the answer is one, so that a packed answer has room for each
+unfoldable pub Fits : Answer → Type 0
+Fits (refused number) = Short number
+Fits (twice name first second) = Short name × Short first × Short second
+Fits (result a b) = Short a × Short b
+Fits (other a b) = Short a × Short b

@@ -6,3 +6,4 @@ pub mod Bodies
 pub mod Marking
 pub mod Bound
 pub mod Calls
+pub mod Fitting

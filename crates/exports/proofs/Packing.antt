@@ -3,10 +3,10 @@ use mathlib.Core.Path.{_≡_, sym, ap, subst, _∙_}
 use mathlib.Core.List.{List}
 use Prim.Native.Nat.{ℕ, _≤_}
 use native.Mathlib.Omega.{arith}
-use Rattle.ast.specs.Answer.{Answer, refused, twice, result, other}
+use Rattle.ast.specs.Answer.{Answer, refused, twice, result, other, Short, Fits}
 use Rattle.scopes.specs.Resolve.{Outcome}
 use Rattle.scopes.specs.Calls.{RowsOutcome}
-use Rattle.exports.specs.Packed.{packed, Short, Fits, Leaves, LeavesRows}
+use Rattle.exports.specs.Packed.{packed, Leaves, LeavesRows}
 
 -- what `pack` asks
 abbrev Room : ℕ → ℕ → ℕ → ℕ → Type 0

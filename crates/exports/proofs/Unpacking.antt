@@ -1,8 +1,8 @@
 -- A packed number stands for one answer only: the tag and the three fields give the answer back.
 use mathlib.Core.Path.{_≡_, ap}
 use native.Mathlib.Omega.{arith}
-use Rattle.ast.specs.Answer.{Answer, refused, twice, result, other}
-use Rattle.exports.specs.Packed.{packed, Fits}
+use Rattle.ast.specs.Answer.{Answer, refused, twice, result, other, Fits}
+use Rattle.exports.specs.Packed.{packed}
 
 pub one-answer : (x y : Answer) → Fits x → Fits y → packed x ≡ packed y → x ≡ y
 unfolding packed Fits

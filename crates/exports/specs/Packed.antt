@@ -1,8 +1,8 @@
 -- The answers of the C interface, each packed in one 64-bit number.
 use mathlib.Core.Path.{_≡_}
 use mathlib.Core.List.{List}
-use Prim.Native.Nat.{ℕ, _+_, _*_, _<_}
-use Rattle.ast.specs.Answer.{Answer, refused, twice, result, other}
+use Prim.Native.Nat.{ℕ, _+_, _*_}
+use Rattle.ast.specs.Answer.{Answer, refused, twice, result, other, Fits}
 use Rattle.names.specs.declared.NamePlace.{NamePlace}
 use Rattle.scopes.specs.Resolve.{Outcome}
 use Rattle.scopes.specs.Calls.{RowsOutcome}
@@ -17,17 +17,6 @@ packed (refused number) = fields 0 0 0 number
 packed (twice name first second) = fields 1 name first second
 packed (result a b) = fields 2 0 a b
 packed (other a b) = fields 3 0 a b
-
--- a number that a field holds
-abbrev pub Short : ℕ → Type 0
-Short x = x < 65536
-
--- every number of the answer has room in its field, so that the fields are the answer's numbers
-unfoldable pub Fits : Answer → Type 0
-Fits (refused number) = Short number
-Fits (twice name first second) = Short name × Short first × Short second
-Fits (result a b) = Short a × Short b
-Fits (other a b) = Short a × Short b
 
 -- what an exported call hands back for an answer of document 01
 pub record Packs (r : ℕ) (answer : Answer) : Type 0 where

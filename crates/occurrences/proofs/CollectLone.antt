@@ -6,7 +6,7 @@ use mathlib.Core.Option.{Option, none as nothing, some}
 use Prim.Native.Nat.{ℕ, zero, suc, _+_, _*_, _-_, _<_, _≤_}
 use native.Mathlib.Omega.{arith}
 use native.Mathlib.Decide.{decLt}
-use lib.Dec.{eqb, leb, ltb}
+use lib.Dec.{eqb, leb}
 use lib.ListN.{length, length-append, getD, set, replicate, length-set, length-replicate, getD-replicate}
 use lib.Seq.{getD-set-same, getD-set-other, ext-getD}
 use borrow.Author.Tests.{eqb-true, eqb-false, le-leb, lt-leb}
@@ -20,8 +20,9 @@ use Rattle.ast.proofs.Accepted.{sized}
 use Rattle.ast.proofs.Count.{is-same, is-other}
 use Rattle.ast.proofs.Runs.{sat, claimed-times}
 use Rattle.ast.proofs.Unfold.{All, nil, cons, All-map}
-use Rattle.table.specs.Table.{Table, rowIs, findFrom, climb, lookup, exitAt}
-use Rattle.table.specs.Rising.{nodeAt, parentAt}
+use Rattle.table.specs.Table.{Table, lookup, exitAt}
+use Rattle.table.proofs.Below.{climb-low}
+use Rattle.table.specs.Rising.{nodeAt}
 use Rattle.rows.specs.Rows.{Row, row, rights, Appended, readRows}
 use Rattle.rows.proofs.Reading.{read-appended, read-more, read-end, read-all}
 use Rattle.occurrences.specs.Spots.{Spot, spotsSeq}
@@ -107,33 +108,6 @@ module _ (N : ℕ) (ws : List ℕ) (c : ℕ) where
 
 -- bindings are nodes ----------------------------------------------------------------------------------------------------------
 module _ (img : List ℕ) (t : Table) (low : (j : ℕ) → j < t .symbols → nodeAt (nodes img) (t .words) j < nodes img) where
-  find-low : (c j s x m : ℕ) → j + c ≤ t .symbols → findFrom img c (t .words) j s x ≡ some m → m < nodes img
-  unfolding findFrom
-  find-low zero j s x m h e = absurd (let z : _≡_ {A = ℕ} 0 1 = cc in omega arith)
-  find-low (suc c) j s x m h e = go (rowIs img (t .words) j s x) e (find-low c (j + 1) s x m (omega arith))
-    where
-      go : (b : Bool) → _≡_ {A = Option ℕ} (elim b [ true ↦ some (nodeAt (nodes img) (t .words) j) | false ↦ findFrom img c (t .words) (j + 1) s x ]) (some m)
-          → (findFrom img c (t .words) (j + 1) s x ≡ some m → m < nodes img) → m < nodes img
-      go true q f = let z : nodeAt (nodes img) (t .words) j ≡ m = cc in let l = low j (omega arith) in omega arith
-      go false q f = f q
-
-  pub climb-low : (f s x m : ℕ) → climb img f (t .words) (t .symbols) s x ≡ some m → m < nodes img
-  unfolding climb
-  climb-low zero s x m e = absurd (let z : _≡_ {A = ℕ} 0 1 = cc in omega arith)
-  climb-low (suc f) s x m e = go (findFrom img (t .symbols) (t .words) 0 s x) refl e (λ q. climb-low f (parentAt (nodes img) (t .words) s) x m q)
-    where
-      p : ℕ
-      p = parentAt (nodes img) (t .words) s
-
-      up : (b : Bool) → _≡_ {A = Option ℕ} (elim b [ true ↦ climb img f (t .words) (t .symbols) p x | false ↦ nothing ]) (some m) → (climb img f (t .words) (t .symbols) p x ≡ some m → m < nodes img) → m < nodes img
-      up true q h = h q
-      up false q h = absurd (let z : _≡_ {A = ℕ} 0 1 = cc in omega arith)
-
-      go : (o : Option ℕ) → findFrom img (t .symbols) (t .words) 0 s x ≡ o
-          → _≡_ {A = Option ℕ} (elim o [ some n ↦ some n | nothing ↦ elim (ltb p s) [ true ↦ climb img f (t .words) (t .symbols) p x | false ↦ nothing ] ]) (some m) → (climb img f (t .words) (t .symbols) p x ≡ some m → m < nodes img) → m < nodes img
-      go (some n) q r h = find-low (t .symbols) 0 s x m (omega arith) (q ∙ r)
-      go nothing q r h = up (ltb p s) r h
-
   listed-low : (n : ℕ) (o : Option ℕ) (l : List Row) → ((m : ℕ) → o ≡ some m → m < nodes img) → All (λ v. v < nodes img) (rights l) → All (λ v. v < nodes img) (rights (listed img t n o l))
   unfolding listed rights
   listed-low n nothing l h a = a
@@ -146,7 +120,7 @@ module _ (img : List ℕ) (t : Table) (low : (j : ℕ) → j < t .symbols → no
   pub rights-low : (l : List Spot) → All (λ v. v < nodes img) (rights (rowsFor img t l))
   unfolding rowsFor rights lookup
   rights-low [] = nil
-  rights-low (s ∷ l) = listed-low (s .node) (found img t s) (rowsFor img t l) (λ m e. climb-low (suc (exitAt img (t .words) (s .node))) (exitAt img (t .words) (s .node)) (nameOf img (s .ident)) m e) (rights-low l)
+  rights-low (s ∷ l) = listed-low (s .node) (found img t s) (rowsFor img t l) (λ m e. climb-low img t low (suc (exitAt img (t .words) (s .node))) (exitAt img (t .words) (s .node)) (nameOf img (s .ident)) m e) (rights-low l)
 
 -- counts and lone rows ----------------------------------------------------------------------------------------------------------
 times-rights : (b : ℕ) (l : List Row) → timesBound b l ≡ times b (rights l)

@@ -22,7 +22,7 @@ use Rattle.occurrences.specs.Spots.{Spot, spots, spotsSeq, spotsBack, sp
 use Rattle.ast.specs.Rules.{Rule, saysAll, rules, rulesAll, rulesOf, moduleRules}
 use Rattle.occurrences.specs.Occurrences.{found, listed, rowsFor, ruleRows, allRows, occurrenceRows, loneIn, lone, rowsByRule, timesBound}
 use Rattle.occurrences.specs.Promises.{Nodes}
-use Rattle.occurrences.proofs.CollectLone.{climb-low}
+use Rattle.table.proofs.Below.{climb-low}
 
 -- no more spots than nodes -----------------------------------------------------------------------------------------------
 mutual

@@ -4,3 +4,4 @@ pub mod CollectSteps
 pub mod CollectRules
 pub mod CollectLone
 pub mod CollectCalls
+pub mod Fitting

@@ -13,3 +13,5 @@ pub mod Visiting
 pub mod Rooting
 pub mod Headed
 pub mod Single
+pub mod Clashing
+pub mod Fitting

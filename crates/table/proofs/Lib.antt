@@ -5,3 +5,4 @@ pub mod Rising
 pub mod Overs
 pub mod Frames
 pub mod Agreed
+pub mod Below

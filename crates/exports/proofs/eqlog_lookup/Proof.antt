@@ -1,6 +1,7 @@
 use mathlib.Core.Path.{sym, ap, subst, _∙_}
-use Rattle.exports.specs.Packed.{packed, Fits}
-use Rattle.exports.proofs.Fitting.{lookup-fits}
+use Rattle.ast.specs.Answer.{Fits}
+use Rattle.exports.specs.Packed.{packed}
+use Rattle.scopes.proofs.Fitting.{lookup-fits}
 use borrow.Author.Needs.{needs}
 use Rattle.exports.proofs.eqlog_lookup.Statement.{statement}
 use Rattle.exports.proofs.eqlog_lookup.Tie as tie

@@ -1,7 +1,7 @@
 use mathlib.Core.Path.{ap, subst}
 use Rattle.scopes.specs.Resolve.{Outcome}
-use Rattle.exports.specs.Packed.{Fits}
-use Rattle.exports.proofs.Fitting.{once-fits}
+use Rattle.ast.specs.Answer.{Fits}
+use Rattle.occurrences.proofs.Fitting.{once-fits}
 use Rattle.exports.proofs.Packing.{leaves}
 use borrow.Author.Needs.{needs}
 use Rattle.exports.proofs.eqlog_once.Statement.{statement}

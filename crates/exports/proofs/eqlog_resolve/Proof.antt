@@ -1,6 +1,7 @@
 use mathlib.Core.Path.{sym, ap, subst, _∙_}
-use Rattle.exports.specs.Packed.{packed, Fits}
-use Rattle.exports.proofs.Fitting.{resolve-fits}
+use Rattle.ast.specs.Answer.{Fits}
+use Rattle.exports.specs.Packed.{packed}
+use Rattle.scopes.proofs.Fitting.{resolve-fits}
 use borrow.Author.Needs.{needs}
 use Rattle.exports.proofs.eqlog_resolve.Statement.{statement}
 use Rattle.exports.proofs.eqlog_resolve.Tie as tie

@@ -8,7 +8,7 @@ use native.Mathlib.Omega.{arith}
 use native.Mathlib.Decide.{decLt, ℕ-discrete}
 use lib.Dec.{T, eqb, leb}
 use borrow.Author.Tests.{le-leb, ne-eqb, leb-true}
-use Rattle.ast.specs.Answer.{twice as twiceAnswer}
+use Rattle.ast.specs.Answer.{twice as twiceAnswer, Fits}
 use Rattle.ast.specs.Declarations.{modelLists, modelListsAll, moduleLists, orElse, earliest}
 use Rattle.ast.specs.Image.{nodes, names, last, kindAt, nameOf}
 use Rattle.ast.specs.Kinds.{outer, inner, root, decl, signature, rule, enum, model, Field, name, optName, child, optChild, list, lists, cases, Kind, kinds, kindOf}
@@ -21,14 +21,13 @@ use Rattle.ast.proofs.Unfold.{All, nil, cons, All-append}
 use Rattle.ast.proofs.Vars.{Everywhere, EverywhereAll, every-kind}
 use Rattle.sound.specs.Sound.{isSymbol}
 use Rattle.sound.proofs.Sounds.{named-no, symbol-rule, symbol-arg, symbol-low, symbol-decl}
 use Rattle.scopes.specs.Walk.{twice}
 use Rattle.scopes.specs.Resolve.{testTable, walked}
 use Rattle.scopes.specs.Clash.{Clash, clashFrom, clashIn, firstClash}
 use Rattle.scopes.proofs.Clashes.{shows}
 use Rattle.ast.proofs.Bools.{true-not-false}
 use Rattle.scopes.proofs.Namings.{Fit, Symbols, declaredAll-symbols, symbol-below, tree-fits}
 use Rattle.scopes.proofs.Resolving.{table-accepted, walked-shown}
-use Rattle.exports.specs.Packed.{Fits}
 
 -- the name of a symbol ---------------------------------------------------------------------------------------------------
 -- the row of a kind from 2 to 9, but 6, begins with a name: one computed check over the table of kinds

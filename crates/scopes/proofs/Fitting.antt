@@ -1,4 +1,4 @@
--- Every number of an answer fits 16 bits, for each call and all inputs.
+-- Every number of an answer fits 16 bits: Resolve, Lookup, and any call that writes no more rows than there are nodes; for all inputs.
 use mathlib.Core.Path.{_≡_, refl, sym, subst}
 use mathlib.Core.Bool.{Bool, true, false, _&&_}
 use mathlib.Core.List.{List, [], _∷_}
@@ -8,7 +8,7 @@ use native.Mathlib.Nat.{zero-add}
 use native.Mathlib.Omega.{arith}
 use lib.Dec.{T, leb, leb→le}
 use lib.ListN.{length, getD}
-use Rattle.ast.specs.Answer.{Answer, refused, result}
+use Rattle.ast.specs.Answer.{Answer, refused, result, Fits}
 use Rattle.ast.specs.Image.{nodes, kindAt}
 use Rattle.ast.specs.Tests.{need, verdict}
 use Rattle.ast.proofs.Accepted.{both, needed, ran, sized}
@@ -17,44 +17,32 @@ use Rattle.table.specs.Rising.{nodeAt}
 use Rattle.sound.specs.Sound.{symbolsIn, scopesIn, parentBelow, rowSound, testSound}
 use Rattle.table.specs.State.{Walked}
 use Rattle.table.specs.Table.{Table, symbolOf, lookup}
 use Rattle.scopes.specs.Lookup.{testLookup, symbolAnswer, foundBy, lookupCall}
 use Rattle.scopes.specs.Resolve.{testTable, walked, counted, Way, refuses, stops, fills, way, answerBy, tableCall, resolve}
 use Rattle.scopes.specs.Calls.{testRows, rowsCall}
 use Rattle.scopes.specs.Walk.{done}
 use Rattle.names.specs.Number.{numberOf}
 use Rattle.ast.proofs.Bools.{true-is}
 use Rattle.scopes.proofs.Namings.{symbol-below}
-use Rattle.scopes.proofs.Calls.{rows-table, Went, went}
-use Rattle.scopes.proofs.Headed.{FilledTable, counted-filled}
+use Rattle.scopes.proofs.Calls.{Went, went}
 use Rattle.scopes.proofs.Resolving.{walked-ended, table-accepted}
-use Rattle.bindings.specs.Errors.{errorRows, testErrors, errors}
-use Rattle.bindings.proofs.Calls.{errors-table}
-use Rattle.bindings.proofs.Bound as errors-few
-use Rattle.occurrences.specs.Occurrences.{occurrenceRows, lone, rowsByRule, loneAnswer, occurrences, once}
-use Rattle.ast.specs.Rules.{moduleRules}
-use Rattle.occurrences.proofs.CollectLone.{climb-low}
-use Rattle.occurrences.proofs.Few as occurrences-few
-use Rattle.exports.specs.Packed.{Fits}
-use Rattle.exports.proofs.Refusals.{Low, first-low, need-low, run-low, verdict-low}
-use Rattle.exports.proofs.Clashing.{twice-fits}
+use Rattle.ast.proofs.Refusals.{Low, first-low, need-low, run-low, verdict-low}
+use Rattle.table.proofs.Below.{climb-low}
+use Rattle.scopes.proofs.Clashing.{twice-fits}
 
 -- refusals ---------------------------------------------------------------------------------------------------------------
-refused-fits : (r : ℕ) → Low r → Fits (refused r)
+pub refused-fits : (r : ℕ) → Low r → Fits (refused r)
 unfolding Fits
 refused-fits r l = omega arith
 
 module _ (img tab : List ℕ) where
-  table-low : Low (testTable img tab)
+  pub table-low : Low (testTable img tab)
   unfolding testTable
   table-low = first-low _ _ (verdict-low img) (need-low 13 _ (omega arith))
 
-  rows-low : (rows : List ℕ) → Low (testRows img tab rows)
+  pub rows-low : (rows : List ℕ) → Low (testRows img tab rows)
   unfolding testRows
   rows-low rows = first-low _ _ table-low (need-low 14 _ (omega arith))
-
-  errors-low : (rows : List ℕ) (mode : ℕ) → Low (testErrors img tab rows mode)
-  unfolding testErrors
-  errors-low rows mode = first-low _ _ (rows-low rows) (need-low 15 _ (omega arith))
 
   sound-low : Low (testSound img tab)
   unfolding testSound parentBelow rowSound
@@ -70,7 +58,7 @@ module _ (img tab : List ℕ) where
   lookup-low s = first-low _ _ table-low (first-low _ _ sound-low (need-low 17 _ (omega arith)))
 
 -- a call that is lent a table: what it says of a table that it has filled fits
-call-fits : (img tab : List ℕ) {r : ℕ} (f : Table → Answer) → Low r → (r ≡ 0 → testTable img tab ≡ 0) → ((e : Walked) → testTable img tab ≡ 0 → walked img tab ≡ done e → Fits (f (counted img (e .table))))
+pub call-fits : (img tab : List ℕ) {r : ℕ} (f : Table → Answer) → Low r → (r ≡ 0 → testTable img tab ≡ 0) → ((e : Walked) → testTable img tab ≡ 0 → walked img tab ≡ done e → Fits (f (counted img (e .table))))
     → Fits (answerBy f (way img tab r))
 unfolding answerBy
 call-fits img tab {r} f low tested fits = go (way img tab r) (went img tab r)
@@ -149,7 +137,7 @@ lookup-fits img tab s bs = go (testLookup img tab s) refl
 
 -- Errors and Occurrences ---------------------------------------------------------------------------------------------------
 -- a call that writes rows, no more than nodes
-rows-fit : (img tab rows : List ℕ) {r : ℕ} (f : Table → List Row) → Low r → (r ≡ 0 → testTable img tab ≡ 0) → (verdict img ≡ 0 → (t : Table) → length (f t) ≤ nodes img)
+pub rows-fit : (img tab rows : List ℕ) {r : ℕ} (f : Table → List Row) → Low r → (r ≡ 0 → testTable img tab ≡ 0) → (verdict img ≡ 0 → (t : Table) → length (f t) ≤ nodes img)
     → Fits ((rowsCall img tab rows r f) .answer)
 unfolding rowsCall
 rows-fit img tab rows f low tested few = call-fits img tab (λ t. result 0 (length (f t))) low tested count
@@ -160,28 +148,3 @@ rows-fit img tab rows f low tested few = call-fits img tab (λ t. result 0 (leng
         let s = sized img a in
         let l = few a (counted img (e .table)) in
         (omega arith, omega arith)
-
-pub errors-fit : (img tab rows : List ℕ) (mode : ℕ) → Fits ((errors img tab rows mode) .answer)
-unfolding errors
-errors-fit img tab rows mode =
-    rows-fit img tab rows (λ t. errorRows img t mode) (errors-low img tab rows mode) (errors-table img tab rows mode) (λ a t. errors-few.rows-few img a t mode)
-
-pub occurrences-fit : (img tab rows : List ℕ) → Fits ((occurrences img tab rows) .answer)
-unfolding occurrences
-occurrences-fit img tab rows = rows-fit img tab rows (occurrenceRows img) (rows-low img tab rows) (rows-table img tab rows) (λ a t. occurrences-few.rows-few img t a)
-
--- Once -------------------------------------------------------------------------------------------------------------------
--- a lone occurrence and its binding are below N
-lone-fits : (img : List ℕ) (t : Table) → FilledTable img t → (o : Option Row) → lone (rowsByRule img t (moduleRules img)) ≡ o → Fits (loneAnswer o)
-unfolding loneAnswer Fits
-lone-fits img t g nothing p = (omega arith, omega arith)
-lone-fits img t g (some w) p =
-    let s = sized img (g .accepted) in
-    let l = occurrences-few.lone-below img t (g .symbols) (g .accepted) w p in
-    (omega arith, omega arith)
-
-pub once-fits : (img tab : List ℕ) → Fits ((once img tab) .answer)
-unfolding once tableCall
-once-fits img tab =
-    call-fits img tab (λ t. loneAnswer (lone (rowsByRule img t (moduleRules img)))) (table-low img tab) (λ p. p)
-    (λ e q h. lone-fits img (counted img (e .table)) (counted-filled img tab q h) _ refl)
