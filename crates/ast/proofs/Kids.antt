@@ -1,8 +1,8 @@
 -- Children by numbers: what may stand in a row, who may stand above whom, and that each node but the last stands below one.
-use mathlib.Core.Bool.{Bool, true, false, _&&_, _||_, not}
-use mathlib.Core.Path.{_≡_, refl, sym, ap, subst, _∙_}
+use mathlib.Core.Bool.{Bool, true, false, _||_}
+use mathlib.Core.Path.{_≡_, sym, subst}
 use mathlib.Core.Logic.{⊎-elim}
-use mathlib.Core.List.{List, [], _∷_, _++_, List·Memᴰ, List·Memᴰ·head, List·Memᴰ·tail, List·Memᴰ·append-cases}
+use mathlib.Core.List.{List, [], _∷_, List·Memᴰ, List·Memᴰ·head, List·Memᴰ·tail, List·Memᴰ·append-cases}
 use Prim.Native.Nat.{ℕ, zero, suc, _+_, _<_, _≤_}
 use native.Mathlib.Nat.{add-zero}
 use native.Mathlib.Omega.{arith}
@@ -11,9 +11,9 @@ use lib.Dec.{T, eqb, eqb-refl}
 use lib.ListN.{length, getD}
 use Rattle.ast.specs.Image.{nodes, kindAt, startAt, opAt, last}
 use Rattle.ast.specs.Kinds.{Field, name, optName, child, optChild, list, lists, cases, noChild, Kind, kinds, kindOf}
-use Rattle.ast.specs.Rows.{Kid, one, many, numbers, opsFrom, after, blockKids, fieldKids, fieldsKids, fieldsAt, kids, kidsTo}
+use Rattle.ast.specs.Rows.{one, numbers, opsFrom, after, blockKids, fieldKids, fieldsKids, fieldsAt, kids, kidsTo}
 use Rattle.ast.specs.Tests.{is, times, verdict}
-use Rattle.ast.proofs.Formed.{Child, Items, FormedBlocks, FormedField, FormedFields, FormedNode, Formed}
+use Rattle.ast.proofs.Formed.{Child, Items, FormedBlocks, FormedField, FormedFields, FormedNode}
 use Rattle.ast.proofs.Unfold.{All, nil, cons, All-append, All-map, numbers-append, numbers-ones}
 use Rattle.ast.proofs.Count.{is-other, parents}
 use Rattle.ast.proofs.Vars.{checkAll, every-kind}

@@ -1,6 +1,6 @@
 -- What document 01's report says of an image, line by line.
 use mathlib.Core.List.{List, [], _∷_, _++_}
-use Prim.Native.Nat.{ℕ, _+_, _*_}
+use Prim.Native.Nat.{ℕ, _+_}
 use lib.ListN.{replicate, take, drop}
 use Rattle.ast.specs.Image.{nodes}
 use Rattle.ast.specs.Answer.{Answer, refused, twice, result, other}

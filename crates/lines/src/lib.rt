@@ -1,6 +1,6 @@
 // The lines of the report, put into a lent buffer one after another. Each function returns the next place.
 ghost use mathlib.Core.Path.{_≡_};
-ghost use mathlib.Core.List.{[], _∷_, _++_};
+ghost use mathlib.Core.List.{[], _∷_};
 ghost use Prim.Native.Nat.{_+_, _*_, _<_, _≤_};
 ghost use lib.ListN.{length};
 ghost use Rattle.occurrences.specs.Occurrences.{once};

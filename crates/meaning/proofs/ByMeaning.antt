@@ -19,7 +19,7 @@ use Rattle.scopes.proofs.Single.{single-done}
 use Rattle.bindings.specs.Errors.{errorRows, testErrors, errors}
 use Rattle.bindings.proofs.Calls.{errors-table, errors-are}
 use Rattle.sight.specs.Sight.{In}
-use Rattle.sound.specs.Sound.{scopesIn, symbolsIn}
+use Rattle.sound.specs.Sound.{scopesIn}
 use Rattle.table.specs.Table.{Table}
 use Rattle.bindings.specs.Promises.{ofMode}
 use Rattle.bindings.proofs.Bound.{rows-few}

@@ -1,16 +1,15 @@
 -- At every node of a rule, lookup at the entry and at the exit that Resolve recorded for it is the environment before and after it.
-use mathlib.Core.Path.{_≡_, refl, sym, _∙_, ap, ap₂, subst}
+use mathlib.Core.Path.{_≡_, sym, subst}
 use mathlib.Core.Logic.{inl, inr}
-use mathlib.Core.Bool.{false}
 use mathlib.Core.List.{List, [], _∷_, _++_}
 use Prim.Native.Nat.{ℕ}
-use Rattle.ast.specs.Image.{nodes, kindAt, nameOf}
+use Rattle.ast.specs.Image.{kindAt, nameOf}
 use Rattle.ast.specs.Kinds.{outer, inner, plain, term, ident, head, headMember, member, case, ifVar, definedThen, arg}
 use Rattle.ast.specs.Rules.{Rule, moduleRules}
 use Rattle.ast.specs.Tests.{verdict}
 use Rattle.ast.specs.Tree.{Tree, node, block, Trees, none, _◂_}
 use Rattle.table.specs.State.{Walked}
-use Rattle.table.specs.Table.{Table, lookup, entryAt, exitAt}
+use Rattle.table.specs.Table.{Table, lookup}
 use Rattle.scopes.specs.Resolve.{walked, counted}
 use Rattle.scopes.specs.Walk.{done}
 use Rattle.sight.specs.Sight.{In}

@@ -6,7 +6,7 @@ use mathlib.Core.Option.{Option, none as nothing, some}
 use Prim.Native.Nat.{ℕ, zero, suc}
 use lib.Dec.{eqb}
 use Rattle.ast.specs.Image.{kindAt, nameOf}
-use Rattle.ast.specs.Kinds.{Class, outer, inner, Inner, plain, term, ident, head, headMember, member, case, ifVar, definedThen, arg}
+use Rattle.ast.specs.Kinds.{outer, inner, plain, term, ident, head, headMember, member, case, ifVar, definedThen, arg}
 use Rattle.ast.specs.Rules.{Rule, moduleRules}
 use Rattle.ast.specs.Tree.{Tree, node, block, Trees, none, _◂_}
 use Rattle.error.specs.Kinds.{introducedInThen, definedNotNew, patternNotFresh, asked}

@@ -1,5 +1,5 @@
 -- Occurrences and Once: the list of variable occurrences with their bindings, and the first lone one.
-use mathlib.Core.Bool.{Bool, true, false}
+use mathlib.Core.Bool.{true, false}
 use mathlib.Core.List.{List, [], _∷_, _++_}
 use mathlib.Core.Option.{Option, none as nothing, some}
 use Prim.Native.Nat.{ℕ, suc}

@@ -1,12 +1,10 @@
 // Variable occurrences: Occurrences and Once.
 ghost use mathlib.Core.Path.{_≡_};
-ghost use mathlib.Core.List.{[], _∷_};
-ghost use Prim.Native.Nat.{_+_, _<_, _≤_, _^_};
+ghost use Prim.Native.Nat.{_+_, _<_, _≤_};
 ghost use lib.ListN.{length, getD, set};
 ghost use Rattle.ast.specs.Image as «image-spec»;
 ghost use Rattle.ast.specs.Is.{twoTerms};
 ghost use Rattle.ast.specs.Kinds.{kindOf};
-ghost use Rattle.table.specs.Rising.{Sorted};
 ghost use Rattle.table.specs.Values.{sought};
 ghost use Rattle.rows.specs.Rows.{rights, rowsLength, Appended, Wrote, readRows};
 ghost use Rattle.scopes.specs.Answers.{rowedAnswer};
@@ -14,7 +12,7 @@ ghost use Rattle.ast.specs.Rules.{moduleRules};
 ghost use Rattle.occurrences.specs.Answers.{onceAnswer};
 ghost use Rattle.occurrences.specs.Occurrences as «occurrences-spec»;
 ghost use Rattle.occurrences.specs.Occurrences.{found, occurrenceRows, lone, rowsByRule};
-ghost use Rattle.occurrences.specs.Promises.{spot, identRows, rowsIn, rowsAt, Room, Ready, joined, listsIn, listsAt, Listing, ListingRun, Whole, Nodes, under, recount, recounted, loneOf, Scratch, Searched, ReadyRun};
+ghost use Rattle.occurrences.specs.Promises.{identRows, rowsIn, rowsAt, Room, Ready, joined, listsIn, listsAt, Listing, ListingRun, Whole, Nodes, under, recount, recounted, loneOf, Scratch, Searched, ReadyRun};
 use ast::NodeId;
 use scopes::Declared;
 use scopes::Rowed;

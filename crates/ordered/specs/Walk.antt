@@ -1,9 +1,9 @@
 -- The ordered part of document 01's walk: argument lists and rule bodies.
-use mathlib.Core.Bool.{Bool, true, false}
+use mathlib.Core.Bool.{true, false}
 use mathlib.Core.List.{List, [], _∷_}
 use Prim.Native.Nat.{ℕ, zero, suc}
 use Rattle.ast.specs.Image.{nameOf}
-use Rattle.ast.specs.Kinds.{Class, outer, inner, Inner, plain, term, ident, head, headMember, member, case, ifVar, definedThen, arg}
+use Rattle.ast.specs.Kinds.{outer, inner, plain, term, ident, head, headMember, member, case, ifVar, definedThen, arg}
 use Rattle.ast.specs.Tree.{Tree, node, block, Trees, none, _◂_}
 use Rattle.table.specs.Table.{lookup, isKind, isVar, isValue}
 use Rattle.table.specs.State.{Walked, introduce, marked, unmarked, back}

@@ -1,7 +1,7 @@
 // The walkers of scopes.rs for argument lists and rule bodies. A walk's state goes by value, in and out, beside the lent table.
 ghost use mathlib.Core.Path.{_≡_};
 ghost use mathlib.Core.List.{[], _∷_};
-ghost use Prim.Native.Nat.{ℕ, suc, _+_, _<_};
+ghost use Prim.Native.Nat.{suc, _+_, _<_};
 ghost use Rattle.ast.specs.Image as «image-spec»;
 ghost use Rattle.ast.specs.Items.{blocks};
 ghost use Rattle.ast.specs.Is.{Is, oneTerm, twoTerms};

@@ -3,7 +3,7 @@ use mathlib.Core.Path.{_≡_, refl, sym, ap, subst, _∙_}
 use mathlib.Core.Bool.{Bool, true, false, not, _&&_, _||_}
 use mathlib.Core.List.{List, [], _∷_, _++_}
 use mathlib.Core.Option.{Option, none as nothing, some}
-use Prim.Native.Nat.{ℕ, zero, suc, _<_, _≤_}
+use Prim.Native.Nat.{ℕ, _<_, _≤_}
 use native.Mathlib.Omega.{arith}
 use native.Mathlib.Decide.{decLt, ℕ-discrete}
 use lib.Dec.{T, eqb, leb}
@@ -17,7 +17,7 @@ use Rattle.ast.specs.Tests.{verdict}
 use Rattle.ast.specs.Tree.{Tree, node, block, Trees, none, _◂_, treeAt}
 use Rattle.ast.proofs.Acceptance.{row, name-below, opt-name-below}
 use Rattle.ast.proofs.Accepted.{sized, last-below}
-use Rattle.ast.proofs.Unfold.{All, nil, cons, All-append}
+use Rattle.ast.proofs.Unfold.{nil, cons, All-append}
 use Rattle.ast.proofs.Vars.{Everywhere, EverywhereAll, every-kind}
 use Rattle.sound.specs.Sound.{isSymbol}
 use Rattle.sound.proofs.Sounds.{named-no, symbol-rule, symbol-arg, symbol-low, symbol-decl}

@@ -2,9 +2,9 @@
 use mathlib.Core.Path.{_≡_, refl, ap, subst, _∙_}
 use mathlib.Core.Logic.{⊎-elim}
 use mathlib.Core.Bool.{true}
-use mathlib.Core.List.{List, [], _∷_}
+use mathlib.Core.List.{List}
 use mathlib.Core.Option.{Option, none as nothing, some}
-use Prim.Native.Nat.{ℕ, zero, suc, _+_, _*_, _<_, _≤_}
+use Prim.Native.Nat.{ℕ, _<_, _≤_}
 use native.Mathlib.Omega.{arith}
 use native.Mathlib.Nat.{eq-or-lt-of-le}
 use lib.ListN.{length}
@@ -23,7 +23,7 @@ use Rattle.table.proofs.Frames.{SameRows, mark-word, scope-word, symbol-word, s
 use Rattle.ordered.specs.Walk.{occurs, walkSeq}
 use Rattle.ordered.specs.Promises.{Few}
 use Rattle.ordered.proofs.Kept.{mark-length, scope-length, symbol-length}
-use Rattle.ordered.proofs.Moves.{namedBy, enters, Moves as Walks, stay as rests, next as goes, marks as records, adds as brings, drops as leaves, seq-moves as walks-seq}
+use Rattle.ordered.proofs.Moves.{Moves as Walks, stay as rests, next as goes, marks as records, adds as brings, drops as leaves, seq-moves as walks-seq}
 use Rattle.scopes.specs.Walk.{Listed, done, twice, recordedAll, enterName, andThen, enterNames, markAll, enterAll, visit, visitAll}
 use Rattle.scopes.proofs.Adds.{recordedAll-small, named, done-same, twice-done, opened}
 use Rattle.scopes.proofs.Namings.{Fit, Symbols, declaredAll-symbols, fit-smalls}

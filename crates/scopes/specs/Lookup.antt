@@ -1,14 +1,13 @@
 -- Lookup (image, table, scope, name bytes): its answer for all inputs.
-use mathlib.Core.Bool.{Bool, true, false}
 use mathlib.Core.List.{List}
 use mathlib.Core.Option.{Option, none, some}
-use Prim.Native.Nat.{ℕ, zero, suc, _+_}
+use Prim.Native.Nat.{ℕ, zero, suc}
 use lib.Dec.{ltb}
 use Rattle.ast.specs.Image.{kindAt}
 use Rattle.ast.specs.Tests.{_▸_, need}
 use Rattle.names.specs.Number.{numberOf}
 use Rattle.ast.specs.Answer.{Answer, refused, result, other}
-use Rattle.table.specs.Table.{Table, lookup, symbolOf}
+use Rattle.table.specs.Table.{lookup, symbolOf}
 use Rattle.sound.specs.Sound.{scopesIn, symbolsIn, testSound}
 use Rattle.scopes.specs.Resolve.{testTable}
 

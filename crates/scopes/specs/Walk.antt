@@ -1,6 +1,6 @@
 -- The unordered part of document 01's walk: the names of a declaration list, then its declarations; and the module.
 use mathlib.Core.List.{List, [], _∷_, _++_}
-use mathlib.Core.Option.{Option, none as nothing, some}
+use mathlib.Core.Option.{none as nothing, some}
 use Prim.Native.Nat.{ℕ}
 use Rattle.ast.specs.Declarations.{declaredAll}
 use Rattle.ast.specs.Image.{nameOf}

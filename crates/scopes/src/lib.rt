@@ -1,16 +1,15 @@
 // Declaration lists, Resolve and Lookup.
 ghost use mathlib.Core.Path.{_≡_};
-ghost use Prim.Native.Nat.{ℕ, suc, _+_, _*_, _-_, _<_, _≤_, _^_};
+ghost use Prim.Native.Nat.{_+_, _-_, _<_, _^_};
 ghost use mathlib.Core.List.{[], _∷_};
 ghost use mathlib.Core.Option.{some};
-ghost use lib.ListN.{length, drop};
+ghost use lib.ListN.{drop};
 ghost use Rattle.ast.specs.Image as «image-spec»;
-ghost use Rattle.ast.specs.Tests as «tests-spec»;
 ghost use Rattle.ast.specs.Is.{Is, kindBy};
 ghost use Rattle.ast.specs.Kinds.{outer, signature, name, child, kindOf};
 ghost use Rattle.ast.specs.Tree.{treeAt};
 ghost use Rattle.table.specs.State.{marked, back};
-ghost use Rattle.table.specs.Values.{tableOf, walkedOf, optionOf};
+ghost use Rattle.table.specs.Values.{tableOf, walkedOf};
 ghost use Rattle.ordered.specs.Walk.{occurs};
 ghost use Rattle.ordered.specs.Promises.{inside};
 ghost use Rattle.scopes.specs.Walk.{done, enterName, visit, resolveTree};

@@ -1,7 +1,7 @@
 -- Where error rows stand, told by the rows of the image: document 01's sentences on rows 1 to 4.
 use mathlib.Core.Path.{_≡_}
-use mathlib.Core.Bool.{Bool, true}
-use mathlib.Core.List.{List, [], _∷_, _++_, List·Memᴰ}
+use mathlib.Core.Bool.{true}
+use mathlib.Core.List.{List, _∷_, _++_, List·Memᴰ}
 use Prim.Native.Nat.{ℕ, suc, _+_, _<_}
 use Rattle.ast.specs.Image.{nodes, kindAt, field}
 use Rattle.ast.specs.Rows.{numbers, kids}

@@ -1,7 +1,7 @@
 -- Document 01's "sound": what refusal 16 asks of a table that is handed in.
 use mathlib.Core.Bool.{Bool, true, false, _&&_, _||_, not}
 use mathlib.Core.List.{List}
-use Prim.Native.Nat.{ℕ, zero, suc, _+_, _-_}
+use Prim.Native.Nat.{ℕ, _-_}
 use lib.Dec.{leb, ltb, eqb}
 use lib.ListN.{getD}
 use Rattle.ast.specs.Image.{nodes, kindAt, field}

@@ -1,10 +1,10 @@
 -- The answers that a report does not show, computed on the small rule files: Lookup, strict mode, refusals 13 to 17, "some
 -- list declares a name twice".
 use mathlib.Core.Path.{_≡_, refl}
-use mathlib.Core.Bool.{Bool, true, false}
+use mathlib.Core.Bool.{true, false}
 use mathlib.Core.List.{List, [], _∷_}
 use Prim.Native.Nat.{ℕ, _-_}
-use lib.ListN.{length, set, take, drop, replicate}
+use lib.ListN.{set, take}
 use Rattle.ast.specs.Image.{word, nodes, kindAt, startAt, opAt, field, nameOf, operands, names, bytes, last, nameEnd, nameStart, nameBytes}
 use Rattle.ast.specs.Kinds.{kindOf}
 use Rattle.ast.specs.Rows.{ones, numbers, opsFrom, afterBlocks, blockKids, blockCounts, after, fieldKids, fieldShape, afterFields, fieldsKids, fieldsShape, fieldsAt, rowEnd, kids, shape, kidsTo}

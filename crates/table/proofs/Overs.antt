@@ -16,7 +16,7 @@ use Rattle.ast.proofs.Words.{word-in}
 use Rattle.table.specs.Layout.{tableLength}
 use Rattle.table.specs.Rising.{scopeOf, nodeAt, parentAt, Sorted, Cut, Before, Rising, Block}
 use Rattle.table.specs.Table.{findFrom, climb}
-use Rattle.table.proofs.Rising.{Among, among-start, among-hit, among-miss, among-end, rising-less, Climbs, climbs-start, climbs-cut, climbs-hit, climbs-end, climbs-up}
+use Rattle.table.proofs.Rising.{among-start, among-hit, among-miss, among-end, rising-less, Climbs, climbs-start, climbs-cut, climbs-hit, climbs-end, climbs-up}
 
 -- what stands from place a on
 abbrev pub part : List ℕ → ℕ → List ℕ

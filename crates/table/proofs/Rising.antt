@@ -9,7 +9,7 @@ use native.Mathlib.Nat.{add-zero, add-suc, sub-zero, eq-or-lt-of-le}
 use mathlib.Core.Logic.{⊎-elim}
 use lib.ListN.{length}
 use lib.Dec.{ltb, eqb}
-use borrow.Author.Tests.{ltb-true, eq-eqb, ne-eqb}
+use borrow.Author.Tests.{ltb-true}
 use Rattle.ast.specs.Declarations.{orElse}
 use Rattle.ast.specs.Image.{nodes, nameOf}
 use Rattle.ast.proofs.Declarations.{orElse-none}

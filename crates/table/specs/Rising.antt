@@ -1,7 +1,7 @@
 -- Symbol rows that stand by rising scope: what the faster find in one scope rests on.
 use mathlib.Core.Path.{_≡_}
 use mathlib.Core.List.{List}
-use Prim.Native.Nat.{ℕ, _+_, _*_, _-_, _<_, _≤_, _^_}
+use Prim.Native.Nat.{ℕ, _-_, _<_, _≤_, _^_}
 use lib.ListN.{length, getD}
 use Rattle.ast.specs.Image.{nodes}
 use Rattle.table.specs.Layout.{parentPlace, scopePlace, nodePlace, tableLength}

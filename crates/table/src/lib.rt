@@ -1,7 +1,7 @@
 // The lent table: its words, the steps that a walk makes on it, find in one scope, and lookup by climbing.
 ghost use mathlib.Core.Path.{_≡_};
 ghost use mathlib.Core.Bool.{false};
-ghost use Prim.Native.Nat.{ℕ, suc, _+_, _*_, _-_, _<_, _≤_, _^_};
+ghost use Prim.Native.Nat.{suc, _+_, _*_, _-_, _<_, _≤_, _^_};
 ghost use lib.ListN.{length, getD, set};
 ghost use lib.Dec.{eqb};
 ghost use Rattle.ast.specs.Image as «image-spec»;
@@ -10,7 +10,7 @@ ghost use Rattle.table.specs.Layout.{parentPlace, scopePlace, nodePlace,
 ghost use Rattle.table.specs.Table as «table-spec»;
 ghost use Rattle.table.specs.State.{childScope, ownSymbol, introduce, marked, unmarked};
 ghost use Rattle.table.specs.Rising.{scopeOf, nodeAt, parentAt, Sorted, Cut, Before, Rising, Block};
-ghost use Rattle.table.specs.Values.{tableOf, sought, walkedOf, optionOf};
+ghost use Rattle.table.specs.Values.{sought, walkedOf, optionOf};
 use ast::NodeId;
 
 pub struct ScopeId(pub u32);

@@ -3,7 +3,7 @@ use mathlib.Core.List.{List, [], _∷_}
 use Prim.Native.Nat.{ℕ, _+_, _*_, _-_, _^_, _<_, _≤_}
 use native.Mathlib.Omega.{arith}
 use borrow.Author.Needs.{needs}
-use lib.ListN.{length, getD}
+use lib.ListN.{length}
 use Rattle.lines.specs.Bytes.{numbers}
 use Rattle.lines.specs.Out.{Out, outAt, write, rowsFrom}
 use Rattle.lines.proofs.RowLines.{rows-next, rows-end, rows-short, rows-done}

@@ -1,6 +1,6 @@
-use mathlib.Core.Path.{_≡_, refl, sym, ap, subst, _∙_}
+use mathlib.Core.Path.{refl, sym, ap, _∙_}
 use native.Mathlib.Omega.{arith}
-use Prim.Native.Nat.{ℕ, _+_, _*_, _-_, _≤_}
+use Prim.Native.Nat.{ℕ, _+_, _*_, _-_}
 use lib.ListN.{length}
 use Rattle.occurrences.proofs.CollectRules.{declared, decl-none, modelRun}
 use Rattle.occurrences.proofs.CollectLone.{searched-as, searched-nothing, ChecksLeft, checks-start, checks-item, checks-scratch, checks-next, checks-found, checks-end}

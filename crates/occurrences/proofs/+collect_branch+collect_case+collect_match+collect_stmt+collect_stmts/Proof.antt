@@ -1,4 +1,4 @@
-use mathlib.Core.Path.{_≡_, refl, sym, ap, subst, _∙_}
+use mathlib.Core.Path.{refl, sym, _∙_}
 use native.Mathlib.Omega.{arith}
 use Prim.Native.Nat.{_+_, _*_, _-_, _≤_}
 use Rattle.ast.specs.Image.{nodes}
@@ -6,7 +6,7 @@ use Rattle.ast.specs.Kinds.{inner, plain, kindOf}
 use Rattle.ast.proofs.Shapes.{case-last}
 use Rattle.rows.proofs.Appends.{appended-next}
 use Rattle.rows.proofs.Parts.{Left, left-start, left-next, left-end}
-use Rattle.occurrences.specs.Promises.{rowsIn, rowsAt}
+use Rattle.occurrences.specs.Promises.{rowsAt}
 use Rattle.occurrences.proofs.CollectRows.{bare, items-none}
 use Rattle.occurrences.proofs.CollectSteps.{appended-as, under, one, plain-sub, stmtKinds, item, run-start, matchCase, matchOf, BlocksLeft, blocks-start, blocks-place, blockOf, blocks-end}
 use Prim.Native.Nat.{ℕ, _<_}

@@ -1,6 +1,5 @@
 use borrow.Author.Needs.{needs}
-use native.Mathlib.Omega.{arith}
-use mathlib.Core.Path.{_≡_, sym, ap, _∙_}
+use mathlib.Core.Path.{sym, ap, _∙_}
 use Rattle.table.specs.Values.{optionOf}
 use Rattle.table.proofs.Finds.{climb-hit, climb-end, climb-up}
 use Prim.Native.Nat.{ℕ, _<_}

@@ -1,8 +1,7 @@
 use borrow.Author.Needs.{needs}
-use mathlib.Core.Path.{_≡_, refl, sym, ap, subst, _∙_}
+use mathlib.Core.Path.{sym, _∙_}
 use native.Mathlib.Omega.{arith}
 use Prim.Native.Nat.{_-_}
-use Rattle.table.specs.Values.{optionOf}
 use Rattle.table.proofs.Rising.{Among, among-start, among-hit, among-miss, among-end}
 use Rattle.table.proofs.find_among.Statement.{statement}
 use Rattle.table.proofs.find_among.Tie as tie

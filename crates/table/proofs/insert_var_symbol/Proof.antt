@@ -2,7 +2,7 @@ use borrow.Author.Needs.{needs}
 use mathlib.Core.Path.{ap, _∙_}
 use native.Mathlib.Omega.{arith}
 use Rattle.table.specs.State.{Walked, introduce, childScope, ownSymbol}
-use Rattle.table.specs.Table.{newSymbol, newScope}
+use Rattle.table.specs.Table.{newScope}
 use Rattle.table.proofs.insert_var_symbol.Statement.{statement}
 use Rattle.table.proofs.insert_var_symbol.Tie as tie
 

@@ -1,9 +1,7 @@
-use mathlib.Core.Path.{_≡_, refl, sym, ap, subst, _∙_}
+use mathlib.Core.Path.{sym, ap, _∙_}
 use lib.Dec.{eqb}
-use mathlib.Core.Option.{Option}
-use Prim.Native.Nat.{ℕ}
 use Rattle.table.specs.Table.{isValue}
-use Rattle.table.specs.Values.{walkedOf, optionOf}
+use Rattle.table.specs.Values.{optionOf}
 use Rattle.table.proofs.Finds.{value-var, value-other, value-none}
 use borrow.Author.Needs.{needs}
 use Rattle.table.proofs.is_value.Statement.{statement}

@@ -1,4 +1,3 @@
-use native.Mathlib.Omega.{arith}
 use Rattle.table.proofs.Rising.{before-none, before-of}
 use borrow.Author.Needs.{needs}
 use Rattle.table.proofs.rows_before.Statement.{statement}
