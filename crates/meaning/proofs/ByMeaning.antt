@@ -18,6 +18,7 @@ use Rattle.scopes.proofs.Resolving.{table-accepted, own-counts}
 use Rattle.scopes.proofs.Single.{single-done}
 use Rattle.bindings.specs.Errors.{errorRows, testErrors, errors}
 use Rattle.bindings.proofs.Calls.{errors-table, errors-are}
+use Rattle.sight.specs.Listing.{tableOf}
 use Rattle.sight.specs.Sight.{In}
 use Rattle.sound.specs.Sound.{scopesIn}
 use Rattle.table.specs.Table.{Table}
@@ -25,10 +26,10 @@ use Rattle.bindings.specs.Promises.{ofMode}
 use Rattle.bindings.proofs.Bound.{rows-few}
 use Rattle.sight.proofs.Demand.{list}
 use Rattle.sight.proofs.Leaving.{list-is}
-use Rattle.sight.proofs.Resolving.{tableOf}
 use Rattle.meaning.specs.Meaning.{marksIn, faultsIn}
 use Rattle.meaning.specs.Meetings.{Meeting, ruleMeetings}
-use Rattle.meaning.proofs.Recorded.{Recorded, rules-recorded}
+use Rattle.meaning.specs.Recorded.{Recorded}
+use Rattle.meaning.proofs.Recorded.{rules-recorded}
 use Rattle.meaning.proofs.Marks.{by-meaning}
 use Rattle.meaning.proofs.Faults.{faults-by-meaning}
 

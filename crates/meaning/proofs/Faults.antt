@@ -33,7 +33,8 @@ use Rattle.sight.proofs.Steps.{IdentOnly, Body, Bodies, Members}
 use Rattle.sight.proofs.Verdict.{root-of}
 use Rattle.meaning.specs.Meaning.{Env, Part, occurs, declares, names, defines, headPart, subject, inside, firstIs, identOf, isA, isValue, with, meetIdent, meet, standsFor, notNew, notNewAll, notFresh, notFreshAll, isCtorHead, appFaults, patternFaults, faults, faultsSeq, faultsFirst, faultsDefined, ruleFaults, faultsOf, faultsIn}
 use Rattle.meaning.specs.Meaning as meaning
-use Rattle.meaning.proofs.Told.{defines-bodies, is-kind, meets, meetsSeq, Reads, Around, Told, ToldSeq, ToldThen}
+use Rattle.meaning.specs.Recorded.{Reads, Around}
+use Rattle.meaning.proofs.Told.{defines-bodies, is-kind, meets, meetsSeq, Told, ToldSeq, ToldThen}
 use Rattle.meaning.proofs.Rules.{rules-told}
 use Rattle.meaning.proofs.Shaped.{Kinds, KindsAll, kindsAll-map, suits, NotBlock, AtMostOne, AppKids, Shaped, ShapedAt, module-shaped}
 

@@ -10,9 +10,10 @@ use Rattle.table.specs.Table.{Table, lookup, entryAt, exitAt}
 use Rattle.ordered.specs.Kept.{Kept}
 use Rattle.ordered.specs.Walk.{Role, occurs, walk, walkFirst}
 use Rattle.ordered.proofs.Moves.{numbers, numbersSeq, stay, next, rises}
+use Rattle.sight.specs.Listing.{Distinct}
 use Rattle.sight.specs.Sight.{In}
 use Rattle.sight.proofs.Frame.{Bounds}
-use Rattle.sight.proofs.Members.{in-left, in-right, Distinct, distinct-left, distinct-right, distinct-apart}
+use Rattle.sight.proofs.Members.{in-left, in-right, distinct-left, distinct-right, distinct-apart}
 use Rattle.sight.proofs.Moves.{Any, Walks, walks-over, walks-along, framed}
 
 module _ (img : List ℕ) where

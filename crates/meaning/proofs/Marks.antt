@@ -22,7 +22,8 @@ use Rattle.sight.specs.Sight.{In}
 use Rattle.sight.proofs.Resolving.{resolved}
 use Rattle.sight.proofs.Steps.{IdentOnly, Body, Bodies, Members}
 use Rattle.meaning.specs.Meaning.{Env, Part, occurs, declares, defines, names, meetIdent, meet, mark, marks, marksSeq, marksThen, marksBack, marksFirst, ruleMarks, marksOf, marksIn}
-use Rattle.meaning.proofs.Told.{defines-bodies, meets, meetsSeq, Reads, Told, ToldSeq, ToldThen}
+use Rattle.meaning.specs.Recorded.{Reads}
+use Rattle.meaning.proofs.Told.{defines-bodies, meets, meetsSeq, Told, ToldSeq, ToldThen}
 use Rattle.meaning.proofs.Rules.{rules-told}
 
 module _ (img : List ℕ) (T : Table) where

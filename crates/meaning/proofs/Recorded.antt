@@ -15,25 +15,22 @@ use Rattle.scopes.specs.Walk.{done}
 use Rattle.sight.specs.Sight.{In}
 use Rattle.meaning.specs.Meaning.{Env, Part, occurs, declares, names, defines, headPart}
 use Rattle.meaning.specs.Meetings.{Meeting, meetings, meetingsSeq, meetingsThen, ruleMeetings}
-use Rattle.meaning.proofs.Told.{meets, Around, Told, ToldSeq, ToldThen}
+use Rattle.meaning.specs.Recorded.{Recorded}
+use Rattle.meaning.proofs.Told.{meets, Told, ToldSeq, ToldThen}
 use Rattle.meaning.proofs.Rules.{rules-told}
 
 module _ (img : List ℕ) (T : Table) where
-  -- the table has of a node what the environments before and after it say
-  abbrev pub Recorded : Meeting → Type 0
-  Recorded w = Around img T (w .node) (w .before) (w .after)
-
   data Each : List Meeting → Type 0 where
     nil : Each []
-    cons : {w : Meeting} {ws : List Meeting} → Recorded w → Each ws → Each (w ∷ ws)
+    cons : {w : Meeting} {ws : List Meeting} → Recorded img T w → Each ws → Each (w ∷ ws)
 
   both : {vs ws : List Meeting} → Each vs → Each ws → Each (vs ++ ws)
   both nil g = g
   both (cons r f) g = cons r (both f g)
 
-  one : {ws : List Meeting} → Each ws → (w : Meeting) → In w ws → Recorded w
+  one : {ws : List Meeting} → Each ws → (w : Meeting) → In w ws → Recorded img T w
   one nil w i = absurd i
-  one (cons r f) w (inl q) = subst Recorded (sym q) r
+  one (cons r f) w (inl q) = subst (Recorded img T) (sym q) r
   one (cons r f) w (inr i) = one f w i
 
   abbrev name : ℕ → ℕ

@@ -25,6 +25,7 @@ use Rattle.sight.proofs.Moves.{Walks, walks-over, walks-along, framed}
 use Rattle.sight.proofs.Steps.{IdentOnly, VarTerm, VarTerms, Idents, Body, Bodies, Members, Defines}
 use Rattle.meaning.specs.Meaning.{Env, Part, occurs, declares, names, defines, headPart, isA, with, introduces, meetIdent, meet, meetSeq, meetThen}
 use Rattle.meaning.specs.Meaning as meaning
+use Rattle.meaning.specs.Recorded.{Reads, Around}
 use Rattle.meaning.proofs.Keeps.{walks-first, walks-rise, Ends, ends-after, ends-between}
 
 -- a defined-then's variable is a body, and what the walk meets below a defined-then are bodies
@@ -68,14 +69,6 @@ module _ (img : List ℕ) (T : Table) where
   abbrev meetsIdent : Part → ℕ → Env → Env
   meetsIdent p i env = meetIdent (nameOf img) (kindAt img) p i env
 
-  -- lookup at the scope s gives what the environment says
-  abbrev pub Reads : ℕ → Env → Type 0
-  Reads s env = (x : ℕ) → lookup img T s x ≡ env x
-
-  pub record Around (n : ℕ) (env env′ : Env) : Type 0 where
-    pub entry : Reads (entryAt img (T .words) n) env
-    pub exit : Reads (exitAt img (T .words) n) env′
-
   -- the table tells of a tree what the environments say
   unfoldable mutual
     unfolding meetSeq headPart
@@ -83,15 +76,15 @@ module _ (img : List ℕ) (T : Table) where
     pub Told : Part → Tree → Env → Type 0
     Told p (block ts) env = ToldSeq occurs ts env
     Told p (node n k (outer c) sh ts) env = Unit {0}
-    Told p (node n k (inner plain) sh ts) env = Around n env (meetsSeq occurs ts env) × ToldSeq occurs ts env
-    Told p (node n k (inner term) sh ts) env = Around n env (meetsSeq p ts env) × ToldSeq p ts env
-    Told p (node n k (inner ident) sh ts) env = Around n env (meetsIdent p n env)
-    Told p (node n k (inner head) sh ts) env = Around n env (meetsSeq (headPart sh) ts env) × ToldSeq (headPart sh) ts env
+    Told p (node n k (inner plain) sh ts) env = Around img T n env (meetsSeq occurs ts env) × ToldSeq occurs ts env
+    Told p (node n k (inner term) sh ts) env = Around img T n env (meetsSeq p ts env) × ToldSeq p ts env
+    Told p (node n k (inner ident) sh ts) env = Around img T n env (meetsIdent p n env)
+    Told p (node n k (inner head) sh ts) env = Around img T n env (meetsSeq (headPart sh) ts env) × ToldSeq (headPart sh) ts env
     Told p (node n k (inner headMember) sh ts) env = ToldThen names ts env
-    Told p (node n k (inner member) sh ts) env = Around n env (meetsThen names ts env) × ToldThen names ts env
-    Told p (node n k (inner case) sh ts) env = Around n env env × ToldSeq occurs ts env
-    Told p (node n k (inner ifVar) sh ts) env = Around n env (meetsThen declares ts env) × ToldThen declares ts env
-    Told p (node n k (inner definedThen) sh ts) env = Around n env (meetsThen (defines env) ts env) × ToldThen (defines env) ts env
+    Told p (node n k (inner member) sh ts) env = Around img T n env (meetsThen names ts env) × ToldThen names ts env
+    Told p (node n k (inner case) sh ts) env = Around img T n env env × ToldSeq occurs ts env
+    Told p (node n k (inner ifVar) sh ts) env = Around img T n env (meetsThen declares ts env) × ToldThen declares ts env
+    Told p (node n k (inner definedThen) sh ts) env = Around img T n env (meetsThen (defines env) ts env) × ToldThen (defines env) ts env
     Told p (node n k (inner arg) sh ts) env = Unit {0}
 
     pub ToldSeq : Part → Trees → Env → Type 0
@@ -106,14 +99,14 @@ module _ (img : List ℕ) (T : Table) where
   pub record At (env : Env) (e : Walked) : Type 0 where
     pub sane : Kept img (e .table)
     pub inside : e .scope < e .table .scopes
-    pub reads : Reads (e .scope) env
+    pub reads : Reads img T (e .scope) env
 
   -- the walk's roles beside the parts; k scopes are there
   data Alike (k : ℕ) : Role → Part → Type 0 where
     as-occurs : Alike k walking.occurs occurs
     as-declares : Alike k walking.declares declares
     as-names : Alike k walking.names names
-    as-defines : {b : ℕ} {before : Env} → b < k → Reads b before → Alike k (walking.defines b) (defines before)
+    as-defines : {b : ℕ} {before : Env} → b < k → Reads img T b before → Alike k (walking.defines b) (defines before)
 
   alike-more : {k l : ℕ} {r : Role} {p : Part} → k ≤ l → Alike k r p → Alike l r p
   alike-more m as-occurs = as-occurs
@@ -133,16 +126,16 @@ module _ (img : List ℕ) (T : Table) where
   around : (n : ℕ) (env env′ : Env) (e e′ : Walked)
       → entryAt img (T .words) n ≡ entryAt img ((mark img n (e .scope) (e′ .scope) (e′ .table)) .words) n
       → exitAt img (T .words) n ≡ exitAt img ((mark img n (e .scope) (e′ .scope) (e′ .table)) .words) n
-      → n < nodes img → At env e → At env′ e′ → Around n env env′
+      → n < nodes img → At env e → At env′ e′ → Around img T n env env′
   around n env env′ e e′ p q l a a′ =
       record {
-        entry = subst (λ s. Reads s env) (sym (p ∙ mark-entry-same img n (e .scope) (e′ .scope) (e′ .table) l (a′ .sane))) (a .reads);
-        exit = subst (λ s. Reads s env′) (sym (q ∙ mark-exit-same img n (e .scope) (e′ .scope) (e′ .table) l (a′ .sane))) (a′ .reads);
+        entry = subst (λ s. Reads img T s env) (sym (p ∙ mark-entry-same img n (e .scope) (e′ .scope) (e′ .table) l (a′ .sane))) (a .reads);
+        exit = subst (λ s. Reads img T s env′) (sym (q ∙ mark-exit-same img n (e .scope) (e′ .scope) (e′ .table) l (a′ .sane))) (a′ .reads);
       }
 
   -- the node n around what stands below it
   wrapped : (n : ℕ) (ns : List ℕ) {env env′ : Env} {X : Type 0} (e e′ : Walked) → Walks img ns e e′ → At env e → (Kept-by ns (e′ .table) → X × At env′ e′)
-      → Kept-by (ns ++ (n ∷ [])) (mark img n (e .scope) (e′ .scope) (e′ .table)) → (Around n env env′ × X) × At env′ (marked img n (e .scope) e′)
+      → Kept-by (ns ++ (n ∷ [])) (mark img n (e .scope) (e′ .scope) (e′ .table)) → (Around img T n env env′ × X) × At env′ (marked img n (e .scope) e′)
   unfolding marked
   wrapped n ns {env} {env′} e e′ w a below k =
       let i = in-right n ns (n ∷ []) (inl refl) in
@@ -220,7 +213,7 @@ module _ (img : List ℕ) (T : Table) where
   -- an IdentTerm, marked
   ident-told : {r : Role} {p : Part} (i k : ℕ) (sh : List ℕ) (us : Trees) {env : Env} (e : Walked) → Alike (e .table .scopes) r p → At env e
       → Kept-by (i ∷ []) ((walk img r (node i k (inner ident) sh us) e) .table)
-      → Around i env (meetsIdent p i env) × At (meetsIdent p i env) (walk img r (node i k (inner ident) sh us) e)
+      → Around img T i env (meetsIdent p i env) × At (meetsIdent p i env) (walk img r (node i k (inner ident) sh us) e)
   unfolding walk numbers marked
   ident-told {r} {p} i k sh us {env} e q a h =
       let v = walks-over img r (node i k (inner ident) sh us) e in

@@ -14,9 +14,9 @@ use Rattle.ast.specs.Tree.{Tree, node, block, Trees, none, _◂_, treeAt}
 use Rattle.ast.proofs.Count.{nodesOf, nodesAll, is-same, times-append, once, nothing-else}
 use Rattle.ordered.proofs.Moves.{numbers, numbersSeq}
 use Rattle.scopes.specs.Walk.{recorded, recordedAll}
+use Rattle.sight.specs.Listing.{Distinct}
 use Rattle.sight.specs.Sight.{In}
 use Rattle.ast.specs.Rules.{Rule, saysAll, rules, rulesAll, rulesOf, moduleRules}
-use Rattle.sight.proofs.Members.{Distinct}
 use Rattle.sight.proofs.Lists.{visited, visitedAll, moduleNumbers}
 use Rattle.sight.proofs.Verdict.{root-of}
 

@@ -4,7 +4,7 @@
 -- What a place is, which places are in sight, which are naming, which definitions are fresh, which places are variable
 -- occurrences and which two are `Same` is told in specs/Sight.antt by order and nesting alone: that file imports the image and
 -- its tree, and nothing that knows scopes or tables. The list's order and "these rows list these occurrences" are told in
--- Listing.antt.
+-- specs/Listing.antt.
 use mathlib.Core.Path.{_≡_}
 use mathlib.Core.Logic.{_⊎_, _↔_}
 use mathlib.Core.Bool.{false}
@@ -27,9 +27,7 @@ use Rattle.occurrences.specs.Occurrences.{occurrences}
 use Rattle.sight.specs.Sight.{Place, In, outerConst, Same}
 use Rattle.ast.specs.Rules.{Rule, moduleRules}
 use Rattle.sight.proofs.Leaving.{answered, list-few, lists-all, lists-once, row-of, row-kinds, same-bindings}
-use Rattle.sight.proofs.Listing.{placesOf, Occurs, AllRows}
-use Rattle.sight.proofs.Members.{Distinct}
-use Rattle.sight.proofs.Resolving.{tableOf}
+use Rattle.sight.specs.Listing.{placesOf, Occurs, AllRows, Distinct, tableOf}
 
 module _ (img tab rows : List ℕ) where
   -- what the call leaves: its answer, the table's words and the rows' words

@@ -21,9 +21,8 @@ use Rattle.occurrences.specs.Occurrences.{occurrenceRows, occurrences}
 use Rattle.occurrences.proofs.Few.{rows-few}
 use Rattle.sight.specs.Sight.{Sort, ordinary, declared, applied, defined, Place, In, outerConst, Same}
 use Rattle.ast.specs.Rules.{Rule, moduleRules}
-use Rattle.sight.proofs.Listing.{placesOf, Occurs, AllRows}
-use Rattle.sight.proofs.Members.{Distinct}
-use Rattle.sight.proofs.Resolving.{tableOf, resolved, left-lookup}
+use Rattle.sight.specs.Listing.{placesOf, Occurs, AllRows, Distinct, tableOf}
+use Rattle.sight.proofs.Resolving.{resolved, left-lookup}
 use Rattle.sight.proofs.RowLaws.{bindingOf, RowAt, all-only, all-all, one-row, rows-list, rows-distinct}
 use Rattle.sight.proofs.Spots.{ownerKind, ordered}
 use Rattle.sight.proofs.WholeModule.{WalkOf, var-is-occurrence, equal-is-same}

@@ -14,7 +14,7 @@ use Rattle.table.specs.Table.{Table, isKind}
 use Rattle.occurrences.specs.Occurrences.{ruleRows, timesBound, loneIn, lone, rowsByRule}
 use Rattle.sight.specs.Sight.{Sort, ordinary, declared, applied, defined, Place, In, outerConst, Names, Naming}
 use Rattle.ast.specs.Rules.{Rule}
-use Rattle.sight.proofs.Listing.{placesOf, Occurs}
+use Rattle.sight.specs.Listing.{placesOf, Occurs}
 use Rattle.sight.proofs.RowLaws.{bindingOf, rows-only, rows-all, rule-rows}
 use Rattle.sight.proofs.Spots.{ownerKind, ordered}
 use Rattle.sight.proofs.WholeModule.{WalkOf, var-is-occurrence, from-naming}

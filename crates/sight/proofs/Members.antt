@@ -3,6 +3,7 @@ use mathlib.Core.Path.{subst}
 use mathlib.Core.Logic.{_⊎_, inl, inr}
 use mathlib.Core.List.{List, [], _∷_, _++_}
 use Prim.Native.Nat.{ℕ}
+use Rattle.sight.specs.Listing.{Distinct}
 use Rattle.sight.specs.Sight.{In}
 
 module _ {A : Type 0} where
@@ -19,11 +20,6 @@ module _ {A : Type 0} where
   in-split a [] ys i = inr i
   in-split a (x ∷ xs) ys (inl e) = inl (inl e)
   in-split a (x ∷ xs) ys (inr i) = elim (in-split a xs ys i) [ inl j ↦ inl (inr j) | inr j ↦ inr j ]
-
--- no number stands twice
-abbrev pub Distinct : List ℕ → Type 0
-Distinct [] = Unit {0}
-Distinct (n ∷ ns) = (In n ns → ⊥) × Distinct ns
 
 pub distinct-left : (ns ms : List ℕ) → Distinct (ns ++ ms) → Distinct ns
 distinct-left [] ms d = tt

@@ -13,11 +13,11 @@ use Rattle.table.specs.State.{Walked}
 use Rattle.table.specs.Table.{Table, lookup, isKind, exitAt}
 use Rattle.ordered.specs.Kept.{Kept}
 use Rattle.ordered.proofs.Moves.{numbersSeq}
+use Rattle.sight.specs.Listing.{Distinct}
 use Rattle.sight.specs.Sight.{Place, ordinary, placeSeq, rulePlaces, In, Naming, Occurrence, Same}
 use Rattle.sight.proofs.Flat.{bind, var→occurrence, occurrence→var, same→equal, equal→same, introduced}
 use Rattle.sight.proofs.Good.{Good, good}
 use Rattle.sight.proofs.Keep.{bound, kept}
-use Rattle.sight.proofs.Members.{Distinct}
 use Rattle.sight.proofs.Steps.{Bodies, State, occur, stepsSeq}
 
 -- a walk of the statements ts that starts at e, and a table T that keeps what it wrote

@@ -7,20 +7,16 @@ use native.Mathlib.Omega.{arith}
 use Rattle.ast.specs.Image.{last}
 use Rattle.ast.specs.Tests.{verdict}
 use Rattle.ast.specs.Tree.{Tree}
-use Rattle.sound.specs.Sound.{scopesIn, symbolsIn}
 use Rattle.table.specs.State.{Walked}
-use Rattle.table.specs.Table.{Table, climb, lookup}
+use Rattle.table.specs.Table.{climb, lookup}
 use Rattle.scopes.specs.Resolve.{zeroed, walked, headed, counted}
 use Rattle.scopes.specs.Walk.{done, resolveTree}
 use Rattle.scopes.proofs.Resolving.{Ended, walk-ended, zeroed-long, headed-symbols}
 use Rattle.ast.specs.Rules.{Rule, moduleRules}
+use Rattle.sight.specs.Listing.{tableOf}
 use Rattle.sight.proofs.Verdict.{root-of}
 use Rattle.sight.proofs.WholeModule.{Resolved, resolves}
 use Rattle.sight.proofs.Counting.{module-small, module-distinct, rules-are}
-
--- the words that a call leaves, as Lookup reads them
-abbrev pub tableOf : List ℕ → List ℕ → Table
-tableOf img ws = record { words = ws; scopes = scopesIn img ws; symbols = symbolsIn img ws }
 
 module _ (img tab : List ℕ) (e : Walked) (accepted : verdict img ≡ 0) (done-e : walked img tab ≡ done e) where
   ended : Ended img (zeroed img tab) e

@@ -28,9 +28,10 @@ use Rattle.scopes.proofs.Adds.{and-inv}
 use Rattle.scopes.specs.Resolve.{counted}
 use Rattle.scopes.proofs.Headed.{headed-lookup, headed-entry, headed-exit}
 use Rattle.scopes.proofs.Resolving.{none-kept}
+use Rattle.sight.specs.Listing.{Distinct}
 use Rattle.sight.specs.Sight.{Place, In, rulePlaces, Naming, Occurrence, Same, outerConst}
 use Rattle.ast.specs.Rules.{Rule, saysAll, rulesAll}
-use Rattle.sight.proofs.Members.{in-left, in-right, in-split, Distinct, distinct-left, distinct-right, distinct-apart}
+use Rattle.sight.proofs.Members.{in-left, in-right, in-split, distinct-left, distinct-right, distinct-apart}
 use Rattle.sight.proofs.Frame.{Bounds, Later, later-next, lookup-child, lookup-root, mark-parent, mark-exit, mark-entry, child-parent, child-parent-other, child-empty, child-exit, child-entry}
 use Rattle.sight.proofs.Steps.{Bodies}
 use Rattle.sight.proofs.Moves.{walks-seq, framed}

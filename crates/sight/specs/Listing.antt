@@ -1,0 +1,81 @@
+-- The words of the third demand's theorems: the list's order, which rows list the variable occurrences of a rule and of all rules, and
+-- the table in which a binding is looked up.
+use mathlib.Core.Path.{_≡_}
+use mathlib.Core.Logic.{_⊎_}
+use mathlib.Core.List.{List, [], _∷_, _++_}
+use mathlib.Core.Option.{Option, some}
+use Prim.Native.Nat.{ℕ, _≤_, _<_}
+use Rattle.ast.specs.Image.{nameOf}
+use Rattle.rows.specs.Rows.{Row, row}
+use Rattle.sound.specs.Sound.{scopesIn, symbolsIn}
+use Rattle.table.specs.Table.{Table}
+use Rattle.sight.specs.Sight.{Sort, ordinary, declared, applied, defined, Place, In, rulePlaces, outerConst, Occurrence}
+use Rattle.occurrences.specs.Spots.{Spot}
+use Rattle.ast.specs.Rules.{Rule}
+
+-- q stands in the term of the defined-then whose variable is d: the term's places are numbered from the atom's start on,
+-- and the variable's after them
+abbrev pub InTermSort : Sort → Place → Place → Type 0
+InTermSort ordinary d q = ⊥
+InTermSort declared d q = ⊥
+InTermSort applied d q = ⊥
+InTermSort (defined k) d q = (k ≤ q .at) × (q .at < d .at)
+
+abbrev pub InTermOf : Place → Place → Type 0
+InTermOf d q = InTermSort (d .sort) d q
+
+-- the list's order: the walk's, but a defined-then's variable before its term
+abbrev pub Ahead : Place → Place → Type 0
+Ahead p q = InTermOf p q ⊎ ((p .at < q .at) × (InTermOf q p → ⊥))
+
+-- each is ahead of all that come after it
+abbrev pub InOrder : List Place → Type 0
+InOrder [] = Unit {0}
+InOrder (p ∷ ps) = ((q : Place) → In q ps → Ahead p q) × InOrder ps
+
+-- the Term or AppHead of a place, with its IdentTerm
+abbrev pub spotOf : Place → Spot
+spotOf p = record { node = p .node; ident = p .ident }
+
+abbrev pub spotsOf : List Place → List Spot
+spotsOf [] = []
+spotsOf (p ∷ ps) = spotOf p ∷ spotsOf ps
+
+-- the places of a rule
+abbrev pub placesOf : Rule → List Place
+placesOf r = rulePlaces (r .statements)
+
+-- p is a variable occurrence of the rule r
+abbrev pub Occurs : List ℕ → Rule → Place → Type 0
+Occurs img r p = Occurrence (nameOf img) (outerConst img r) (placesOf r) p
+
+module _ (img : List ℕ) (binding : Place → Option ℕ) where
+  module _ (r : Rule) where
+    -- the rows that list, one after another, those of some places that are variable occurrences, each by its node and with
+    -- its binding, and nothing else
+    pub data RowsOf : List Place → List Row → Type 0 where
+      end : RowsOf [] []
+      put : {p : Place} {b : ℕ} {ps : List Place} {ws : List Row} → Occurs img r p → binding p ≡ some b → RowsOf ps ws → RowsOf (p ∷ ps) (row (p .node) b ∷ ws)
+      pass : {p : Place} {ps : List Place} {ws : List Row} → (Occurs img r p → ⊥) → RowsOf ps ws → RowsOf (p ∷ ps) ws
+
+    -- the rows of a rule: all its places, in the list's order
+    pub record RuleRows (ws : List Row) : Type 0 where
+      pub places : List Place
+      pub all : (p : Place) → In p (placesOf r) → In p places
+      pub only : (p : Place) → In p places → In p (placesOf r)
+      pub order : InOrder places
+      pub rows : RowsOf places ws
+
+  -- the rows of some rules, rule after rule
+  pub data AllRows : List Rule → List Row → Type 0 where
+    noRule : AllRows [] []
+    rule : {r : Rule} {rs : List Rule} {ws vs : List Row} → RuleRows r ws → AllRows rs vs → AllRows (r ∷ rs) (ws ++ vs)
+
+-- no number stands twice
+abbrev pub Distinct : List ℕ → Type 0
+Distinct [] = Unit {0}
+Distinct (n ∷ ns) = (In n ns → ⊥) × Distinct ns
+
+-- the words that a call leaves, as Lookup reads them
+abbrev pub tableOf : List ℕ → List ℕ → Table
+tableOf img ws = record { words = ws; scopes = scopesIn img ws; symbols = symbolsIn img ws }
