@@ -6,7 +6,8 @@ use mathlib.Core.List.{List, _++_}
 use Prim.Native.Nat.{ℕ}
 use Rattle.ast.specs.Image.{nodes, kindAt, nameOf}
 use Rattle.rows.specs.Rows.{Row, held}
-use Rattle.scopes.specs.Calls.{testRows}
+use Rattle.scopes.specs.Calls.{testRows, rowsCall}
+use Rattle.occurrences.specs.Occurrences.{occurrences}
 use Rattle.ast.specs.Rules.{Rule, moduleRules}
 use Rattle.ast.specs.Answer.{result}
 use Rattle.scopes.specs.Resolve.{testTable, walked, headed, counted, wayOf, way, answerBy, tableBy, Outcome, tableCall, resolve}
@@ -18,7 +19,8 @@ use Rattle.scopes.proofs.Resolving.{table-accepted, own-counts}
 use Rattle.scopes.proofs.Single.{single-done}
 use Rattle.bindings.specs.Errors.{errorRows, testErrors, errors}
 use Rattle.bindings.proofs.Calls.{errors-table, errors-are}
-use Rattle.sight.specs.Listing.{tableOf}
+use Rattle.sight.specs.Listing.{tableOf, Unrefused}
+use Rattle.sight.proofs.Answering.{passes}
 use Rattle.sight.specs.Sight.{In}
 use Rattle.sound.specs.Sound.{scopesIn}
 use Rattle.table.specs.Table.{Table}
@@ -43,9 +45,11 @@ resolve-done img tab p {e} h =
 
 module _ (img tab rows : List ℕ) where
   -- in the table that Resolve leaves: at every node of a rule, lookup at its entry and at its exit
-  pub recorded-by-meaning : testTable img tab ≡ 0 → declaredTwice img ≡ false → (r : Rule) → In r (moduleRules img)
+  pub recorded-by-meaning : Unrefused ((resolve img tab) .answer) → declaredTwice img ≡ false → (r : Rule) → In r (moduleRules img)
       → (w : Meeting) → In w (ruleMeetings (nameOf img) (kindAt img) r) → Recorded img (tableOf img ((resolve img tab) .table)) w
-  recorded-by-meaning p once r i w j =
+  unfolding resolve tableCall
+  recorded-by-meaning unrefused once r i w j =
+      let p = passes img tab _ (testTable img tab) unrefused in
       let d = single-done img tab p once in
       let t = d .0 .table in
       let z = resolve-done img tab p (d .1) in
@@ -58,20 +62,23 @@ module _ (img tab rows : List ℕ) where
       (rules-recorded img tab (d .0) (table-accepted img tab p) (d .1) r i w j)
 
   -- the list that Occurrences leaves
-  pub list-by-meaning : testRows img tab rows ≡ 0 → declaredTwice img ≡ false → list img tab rows ≡ marksIn img
+  pub list-by-meaning : Unrefused ((occurrences img tab rows) .answer) → declaredTwice img ≡ false → list img tab rows ≡ marksIn img
+  unfolding occurrences rowsCall
   list-by-meaning unrefused once =
-      let p = rows-table img tab rows unrefused in
+      let u = passes img tab _ (testRows img tab rows) unrefused in
+      let p = rows-table img tab rows u in
       let d = single-done img tab p once in
-      list-is img tab rows unrefused (d .0) (d .1) ∙ by-meaning img tab (d .0) (table-accepted img tab p) (d .1)
+      list-is img tab rows u (d .0) (d .1) ∙ by-meaning img tab (d .0) (table-accepted img tab p) (d .1)
 
   -- the rows that Errors leaves: the plain ones, then those of strict mode
-  pub errors-by-meaning : (mode : ℕ) → testErrors img tab rows mode ≡ 0 → declaredTwice img ≡ false
+  pub errors-by-meaning : (mode : ℕ) → Unrefused ((errors img tab rows mode) .answer) → declaredTwice img ≡ false
       → held (nodes img) ((errors img tab rows mode) .rows) ≡ faultsIn img ++ ofMode img mode
-  unfolding errors
+  unfolding errors rowsCall
   errors-by-meaning mode unrefused once =
-      let p = errors-table img tab rows mode unrefused in
+      let u = passes img tab _ (testErrors img tab rows mode) unrefused in
+      let p = errors-table img tab rows mode u in
       let v = table-accepted img tab p in
       let d = single-done img tab p once in
-      rowed-held img tab rows (λ t. errorRows img t mode) unrefused (d .1) (rows-few img v _ mode)
+      rowed-held img tab rows (λ t. errorRows img t mode) u (d .1) (rows-few img v _ mode)
       ∙ sym (errors-are img _ mode)
       ∙ ap (λ (k : List Row). k ++ ofMode img mode) (faults-by-meaning img tab (d .0) v (d .1))

@@ -16,7 +16,7 @@ use Rattle.ast.specs.Answer.{result}
 use Rattle.ast.specs.Image.{nodes, kindAt, nameOf}
 use Rattle.rows.specs.Rows.{Row, lefts, held}
 use Rattle.scopes.specs.Resolve.{walked}
-use Rattle.scopes.specs.Calls.{testRows, RowsOutcome}
+use Rattle.scopes.specs.Calls.{testRows, RowsOutcome, rowsCall}
 use Rattle.scopes.specs.Twice.{declaredTwice}
 use Rattle.scopes.specs.Walk.{done}
 use Rattle.scopes.proofs.Calls.{rows-table}
@@ -27,7 +27,8 @@ use Rattle.occurrences.specs.Occurrences.{occurrences}
 use Rattle.sight.specs.Sight.{Place, In, outerConst, Same}
 use Rattle.ast.specs.Rules.{Rule, moduleRules}
 use Rattle.sight.proofs.Leaving.{answered, list-few, lists-all, lists-once, row-of, row-kinds, same-bindings}
-use Rattle.sight.specs.Listing.{placesOf, Occurs, AllRows, Distinct, tableOf}
+use Rattle.sight.specs.Listing.{placesOf, Occurs, AllRows, Distinct, tableOf, Unrefused}
+use Rattle.sight.proofs.Answering.{passes}
 
 module _ (img tab rows : List ℕ) where
   -- what the call leaves: its answer, the table's words and the rows' words
@@ -42,37 +43,41 @@ module _ (img tab rows : List ℕ) where
   abbrev pub binding : Place → Option ℕ
   binding p = lookup img (tableOf img (left .table)) (exitAt img (left .table) (p .node)) (nameOf img (p .ident))
 
-  module _ (unrefused : testRows img tab rows ≡ 0) (once : declaredTwice img ≡ false) where
+  module _ (unrefused : Unrefused (left .answer)) (once : declaredTwice img ≡ false) where
+    tested : testRows img tab rows ≡ 0
+    unfolding occurrences rowsCall
+    tested = passes img tab _ (testRows img tab rows) unrefused
+
     -- the walk comes to its end
     ended : (e : Walked) × (walked img tab ≡ done e)
-    ended = single-done img tab (rows-table img tab rows unrefused) once
+    ended = single-done img tab (rows-table img tab rows tested) once
 
     -- the call hands back how long the list is; there is room for all of it
     pub count : left .answer ≡ result 0 (length list)
-    count = answered img tab rows unrefused (ended .0) (ended .1)
+    count = answered img tab rows tested (ended .0) (ended .1)
 
     pub few : length list ≤ nodes img
-    few = list-few img tab rows unrefused (ended .0) (ended .1)
+    few = list-few img tab rows tested (ended .0) (ended .1)
 
     -- (a) The list holds, rule after rule and in the list's order, exactly the variable occurrences of all rules, each with its
     -- binding, and nothing else;
     pub occurrences-listed : AllRows img binding (moduleRules img) list
-    occurrences-listed = lists-all img tab rows unrefused (ended .0) (ended .1)
+    occurrences-listed = lists-all img tab rows tested (ended .0) (ended .1)
 
     -- each once.
     pub each-once : Distinct (lefts list)
-    each-once = lists-once img tab rows unrefused (ended .0) (ended .1)
+    each-once = lists-once img tab rows tested (ended .0) (ended .1)
 
     -- (a) row by row: a row is in the list exactly if its node is the node of a variable occurrence of some rule, and its second
     -- number is the binding of that occurrence.
     pub row-is : (w : Row) → In w list ↔
         ((r : Rule) × In r (moduleRules img)
         × ((p : Place) × In p (placesOf r) × (Occurs img r p × (w .left ≡ p .node) × (binding p ≡ some (w .right)))))
-    row-is w = row-of img tab rows unrefused (ended .0) (ended .1) w
+    row-is w = row-of img tab rows tested (ended .0) (ended .1) w
 
     -- The nodes are Terms and AppHeads, the bindings IdentTerms.
     pub row-kind : (w : Row) → In w list → ((kindAt img (w .left) ≡ 12) ⊎ (kindAt img (w .left) ≡ 15)) × (kindAt img (w .right) ≡ 13)
-    row-kind w i = row-kinds img tab rows unrefused (ended .0) (ended .1) w i
+    row-kind w i = row-kinds img tab rows tested (ended .0) (ended .1) w i
 
     -- (b) For every two variable occurrences of one rule, with their rows in the list, the listed bindings are equal exactly when
     -- the two carry one name and some naming place of it stands at or before both and is in sight of both, and no fresh
@@ -81,4 +86,4 @@ module _ (img tab rows : List ℕ) where
         → (p q : Place) → In p (placesOf r) → In q (placesOf r) → Occurs img r p → Occurs img r q
         → (w v : Row) → In w list → In v list → w .left ≡ p .node → v .left ≡ q .node
         → (w .right ≡ v .right) ↔ Same (nameOf img) (outerConst img r) (placesOf r) p q
-    equal-exactly r i p q j k o u w v x y m n = same-bindings img tab rows unrefused (ended .0) (ended .1) r i p q j k o u w v x y m n
+    equal-exactly r i p q j k o u w v x y m n = same-bindings img tab rows tested (ended .0) (ended .1) r i p q j k o u w v x y m n

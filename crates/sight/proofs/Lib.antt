@@ -17,3 +17,4 @@ pub mod RowLaws
 pub mod Leaving
 pub mod LoneTerm
 pub mod Demand
+pub mod Answering

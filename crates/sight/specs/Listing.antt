@@ -5,6 +5,7 @@ use mathlib.Core.Logic.{_⊎_}
 use mathlib.Core.List.{List, [], _∷_, _++_}
 use mathlib.Core.Option.{Option, some}
 use Prim.Native.Nat.{ℕ, _≤_, _<_}
+use Rattle.ast.specs.Answer.{Answer, refused, twice, result, other}
 use Rattle.ast.specs.Image.{nameOf}
 use Rattle.rows.specs.Rows.{Row, row}
 use Rattle.sound.specs.Sound.{scopesIn, symbolsIn}
@@ -79,3 +80,10 @@ Distinct (n ∷ ns) = (In n ns → ⊥) × Distinct ns
 -- the words that a call leaves, as Lookup reads them
 abbrev pub tableOf : List ℕ → List ℕ → Table
 tableOf img ws = record { words = ws; scopes = scopesIn img ws; symbols = symbolsIn img ws }
+
+-- the call's answer is no refusal
+abbrev pub Unrefused : Answer → Type 0
+Unrefused (refused number) = ⊥
+Unrefused (twice name first second) = Unit {0}
+Unrefused (result a b) = Unit {0}
+Unrefused (other a b) = Unit {0}
