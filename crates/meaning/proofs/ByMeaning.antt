@@ -19,7 +19,7 @@ use Rattle.scopes.proofs.Resolving.{table-accepted, own-counts}
 use Rattle.scopes.proofs.Single.{single-done}
 use Rattle.bindings.specs.Errors.{errorRows, testErrors, errors}
 use Rattle.bindings.proofs.Calls.{errors-table, errors-are}
-use Rattle.sight.specs.Listing.{tableOf, Unrefused}
+use Rattle.sight.specs.Listing.{tableIn, Unrefused}
 use Rattle.sight.proofs.Answering.{passes}
 use Rattle.sight.specs.Sight.{In}
 use Rattle.sound.specs.Sound.{scopesIn}
@@ -46,7 +46,7 @@ resolve-done img tab p {e} h =
 module _ (img tab rows : List ℕ) where
   -- in the table that Resolve leaves: at every node of a rule, lookup at its entry and at its exit
   pub recorded-by-meaning : Unrefused ((resolve img tab) .answer) → declaredTwice img ≡ false → (r : Rule) → In r (moduleRules img)
-      → (w : Meeting) → In w (ruleMeetings (nameOf img) (kindAt img) r) → Recorded img (tableOf img ((resolve img tab) .table)) w
+      → (w : Meeting) → In w (ruleMeetings (nameOf img) (kindAt img) r) → Recorded img (tableIn img ((resolve img tab) .table)) w
   unfolding resolve tableCall
   recorded-by-meaning unrefused once r i w j =
       let p = passes img tab _ (testTable img tab) unrefused in
@@ -55,7 +55,7 @@ module _ (img tab rows : List ℕ) where
       let z = resolve-done img tab p (d .1) in
       let words = ap (λ (o : Outcome). o .table) z in
       let c = own-counts img tab (t .scopes) (t .symbols) (ap (λ (o : Outcome). o .answer) z) in
-      let same : counted img t ≡ tableOf img ((resolve img tab) .table) =
+      let same : counted img t ≡ tableIn img ((resolve img tab) .table) =
       ap₂ (λ (ws : List ℕ) (k : ℕ). record { words = ws; scopes = k; symbols = t .symbols }) (sym words) (sym (c .0))
       ∙ ap (λ (y : ℕ). record { words = (resolve img tab) .table; scopes = scopesIn img ((resolve img tab) .table); symbols = y }) (sym (c .1)) in
       subst (λ (u : Table). Recorded img u w) same

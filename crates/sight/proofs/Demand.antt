@@ -27,7 +27,7 @@ use Rattle.occurrences.specs.Occurrences.{occurrences}
 use Rattle.sight.specs.Sight.{Place, In, outerConst, Same}
 use Rattle.ast.specs.Rules.{Rule, moduleRules}
 use Rattle.sight.proofs.Leaving.{answered, list-few, lists-all, lists-once, row-of, row-kinds, same-bindings}
-use Rattle.sight.specs.Listing.{placesOf, Occurs, AllRows, Distinct, tableOf, Unrefused}
+use Rattle.sight.specs.Listing.{placesOf, Occurs, AllRows, Distinct, tableIn, Unrefused}
 use Rattle.sight.proofs.Answering.{passes}
 
 module _ (img tab rows : List ℕ) where
@@ -41,7 +41,7 @@ module _ (img tab rows : List ℕ) where
 
   -- the binding: the node that lookup of its name gives, in the table, at the exit of the occurrence's node
   abbrev pub binding : Place → Option ℕ
-  binding p = lookup img (tableOf img (left .table)) (exitAt img (left .table) (p .node)) (nameOf img (p .ident))
+  binding p = lookup img (tableIn img (left .table)) (exitAt img (left .table) (p .node)) (nameOf img (p .ident))
 
   module _ (unrefused : Unrefused (left .answer)) (once : declaredTwice img ≡ false) where
     tested : testRows img tab rows ≡ 0

@@ -21,7 +21,7 @@ use Rattle.occurrences.specs.Occurrences.{occurrenceRows, occurrences}
 use Rattle.occurrences.proofs.Few.{rows-few}
 use Rattle.sight.specs.Sight.{Sort, ordinary, declared, applied, defined, Place, In, outerConst, Same}
 use Rattle.ast.specs.Rules.{Rule, moduleRules}
-use Rattle.sight.specs.Listing.{placesOf, Occurs, AllRows, Distinct, tableOf}
+use Rattle.sight.specs.Listing.{placesOf, Occurs, AllRows, Distinct, tableIn}
 use Rattle.sight.proofs.Resolving.{resolved, left-lookup}
 use Rattle.sight.proofs.RowLaws.{bindingOf, RowAt, all-only, all-all, one-row, rows-list, rows-distinct}
 use Rattle.sight.proofs.Spots.{ownerKind, ordered}
@@ -49,7 +49,7 @@ module _ (img tab rows : List ℕ) (accepted : testRows img tab rows ≡ 0) (e :
   list = held (nodes img) (left .rows)
 
   abbrev binding : Place → Option ℕ
-  binding p = lookup img (tableOf img (left .table)) (exitAt img (left .table) (p .node)) (nameOf img (p .ident))
+  binding p = lookup img (tableIn img (left .table)) (exitAt img (left .table) (p .node)) (nameOf img (p .ident))
 
   walks : (r : Rule) → In r (moduleRules img) → WalkOf img r filled
   walks = (resolved img tab e image-accepted single) .walks
@@ -64,7 +64,7 @@ module _ (img tab rows : List ℕ) (accepted : testRows img tab rows ≡ 0) (e :
 
   pub binding-is : (p : Place) → binding p ≡ bindingOf img filled p
   binding-is p =
-      ap (λ (ws : List ℕ). lookup img (tableOf img ws) (exitAt img ws (p .node)) (nameOf img (p .ident))) table-is
+      ap (λ (ws : List ℕ). lookup img (tableIn img ws) (exitAt img ws (p .node)) (nameOf img (p .ident))) table-is
       ∙ left-lookup img tab e image-accepted single (exitAt img (headed img (e .table)) (p .node)) (nameOf img (p .ident))
 
   pub list-few : length list ≤ nodes img

@@ -1,9 +1,19 @@
--- The list's order goes one way.
+-- The list's order goes one way; places as spots.
 use mathlib.Core.Logic.{inl, inr}
+use mathlib.Core.List.{List, [], _∷_}
 use Prim.Native.Nat.{_<_}
 use native.Mathlib.Omega.{arith}
 use Rattle.sight.specs.Listing.{InTermSort, Ahead}
 use Rattle.sight.specs.Sight.{Sort, ordinary, declared, applied, defined, Place}
+use Rattle.occurrences.specs.Spots.{Spot}
+
+-- the Term or AppHead of a place, with its IdentTerm
+abbrev pub spotOf : Place → Spot
+spotOf p = record { node = p .node; ident = p .ident }
+
+abbrev pub spotsOf : List Place → List Spot
+spotsOf [] = []
+spotsOf (p ∷ ps) = spotOf p ∷ spotsOf ps
 
 in-term-below : (σ : Sort) (d q : Place) → InTermSort σ d q → q .at < d .at
 in-term-below ordinary d q h = absurd h

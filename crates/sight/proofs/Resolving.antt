@@ -13,7 +13,7 @@ use Rattle.scopes.specs.Resolve.{zeroed, walked, headed, counted}
 use Rattle.scopes.specs.Walk.{done, resolveTree}
 use Rattle.scopes.proofs.Resolving.{Ended, walk-ended, zeroed-long, headed-symbols}
 use Rattle.ast.specs.Rules.{Rule, moduleRules}
-use Rattle.sight.specs.Listing.{tableOf}
+use Rattle.sight.specs.Listing.{tableIn}
 use Rattle.sight.proofs.Verdict.{root-of}
 use Rattle.sight.proofs.WholeModule.{Resolved, resolves}
 use Rattle.sight.proofs.Counting.{module-small, module-distinct, rules-are}
@@ -31,7 +31,7 @@ module _ (img tab : List ℕ) (e : Walked) (accepted : verdict img ≡ 0) (done-
       (ap (λ (u : Tree). resolveTree img u (record { words = zeroed img tab; scopes = 0; symbols = 0 })) (sym (r .is)) ∙ done-e)
       (zeroed-long img tab) (ended .scopes, ended .symbols) (r .decls) (module-small img accepted) (module-distinct img accepted))
 
-  pub left-lookup : (s x : ℕ) → lookup img (tableOf img (headed img (e .table))) s x ≡ lookup img (counted img (e .table)) s x
+  pub left-lookup : (s x : ℕ) → lookup img (tableIn img (headed img (e .table))) s x ≡ lookup img (counted img (e .table)) s x
   unfolding lookup
   left-lookup s x =
       ap (λ (y : ℕ). climb img (suc s) (headed img (e .table)) y s x) (headed-symbols img (e .table) (let z = ended .long in let l = zeroed-long img tab in omega arith))

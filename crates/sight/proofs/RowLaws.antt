@@ -19,7 +19,8 @@ use Rattle.sight.specs.Sight.{Place, In}
 use Rattle.ast.specs.Rules.{Rule, moduleRules}
 use Rattle.occurrences.specs.Spots.{Spot, ruleSpots}
 use Rattle.sight.proofs.Counting.{distinct-times, ruleNumbers, rule-nodes-once}
-use Rattle.sight.specs.Listing.{spotOf, spotsOf, placesOf, Occurs, RowsOf, end, put, pass, RuleRows, AllRows, noRule, rule, Distinct}
+use Rattle.sight.specs.Listing.{placesOf, Occurs, RowsOf, end, put, pass, RuleRows, AllRows, noRule, rule, Distinct}
+use Rattle.sight.proofs.Listing.{spotOf, spotsOf}
 use Rattle.sight.proofs.Members.{in-left, in-right, in-split}
 use Rattle.occurrences.proofs.Few.{owners}
 use Rattle.sight.proofs.Spots.{ordered, owners-once}

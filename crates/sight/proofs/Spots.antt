@@ -16,7 +16,8 @@ use Rattle.occurrences.proofs.Few.{owners, owners-join}
 use Rattle.sight.proofs.Members.{in-left, in-right, in-split}
 use Rattle.sight.proofs.Flat.{limitOf}
 use Rattle.sight.proofs.Steps.{Simple, occur, declare, apply, sort, IdentOnly, VarTerm, VarTerms, Body, Bodies, Members, Defines}
-use Rattle.sight.specs.Listing.{InTermSort, Ahead, InOrder, spotOf, spotsOf}
+use Rattle.sight.specs.Listing.{InTermSort, Ahead, InOrder}
+use Rattle.sight.proofs.Listing.{spotOf, spotsOf}
 
 spotsOf-join : (ps qs : List Place) → spotsOf (ps ++ qs) ≡ spotsOf ps ++ spotsOf qs
 spotsOf-join [] qs = refl

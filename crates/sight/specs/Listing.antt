@@ -11,7 +11,6 @@ use Rattle.rows.specs.Rows.{Row, row}
 use Rattle.sound.specs.Sound.{scopesIn, symbolsIn}
 use Rattle.table.specs.Table.{Table}
 use Rattle.sight.specs.Sight.{Sort, ordinary, declared, applied, defined, Place, In, rulePlaces, outerConst, Occurrence}
-use Rattle.occurrences.specs.Spots.{Spot}
 use Rattle.ast.specs.Rules.{Rule}
 
 -- q stands in the term of the defined-then whose variable is d: the term's places are numbered from the atom's start on,
@@ -33,14 +32,6 @@ Ahead p q = InTermOf p q ⊎ ((p .at < q .at) × (InTermOf q p → ⊥))
 abbrev pub InOrder : List Place → Type 0
 InOrder [] = Unit {0}
 InOrder (p ∷ ps) = ((q : Place) → In q ps → Ahead p q) × InOrder ps
-
--- the Term or AppHead of a place, with its IdentTerm
-abbrev pub spotOf : Place → Spot
-spotOf p = record { node = p .node; ident = p .ident }
-
-abbrev pub spotsOf : List Place → List Spot
-spotsOf [] = []
-spotsOf (p ∷ ps) = spotOf p ∷ spotsOf ps
 
 -- the places of a rule
 abbrev pub placesOf : Rule → List Place
@@ -78,8 +69,8 @@ Distinct [] = Unit {0}
 Distinct (n ∷ ns) = (In n ns → ⊥) × Distinct ns
 
 -- the words that a call leaves, as Lookup reads them
-abbrev pub tableOf : List ℕ → List ℕ → Table
-tableOf img ws = record { words = ws; scopes = scopesIn img ws; symbols = symbolsIn img ws }
+abbrev pub tableIn : List ℕ → List ℕ → Table
+tableIn img ws = record { words = ws; scopes = scopesIn img ws; symbols = symbolsIn img ws }
 
 -- the call's answer is no refusal
 abbrev pub Unrefused : Answer → Type 0
