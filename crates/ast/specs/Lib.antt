@@ -10,3 +10,4 @@ pub mod Promises
 pub mod Answer
 pub mod Declarations
 pub mod Rules
+pub mod Named

@@ -1,1 +1,2 @@
 pub mod RowShapes
+pub mod Nodes
