@@ -1,4 +1,5 @@
 pub mod Image
+pub mod Named
 pub mod Kinds
 pub mod Rows
 pub mod Tree
@@ -10,4 +11,3 @@ pub mod Promises
 pub mod Answer
 pub mod Declarations
 pub mod Rules
-pub mod Named

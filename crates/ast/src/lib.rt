@@ -6,6 +6,8 @@ ghost use Rattle.ast.specs.Image as «image-spec»;
 ghost use Rattle.ast.specs.Promises.{Head, Within};
 ghost use Rattle.ast.specs.Location.{locationOf};
 
+pub mod kinds;
+
 pub fn wide(x: u32) -> usize
     ensures { λ r. ⌜ r ≡ x ⌝ }
 {
@@ -178,10 +180,10 @@ pub fn name_of(image: &[u8], node: NodeId) -> u32
 {
     let kind = kind_at(image, node);
     let word = field(image, node, 0);
-    if kind == 6 {
+    if kind == kinds::RULE_DECL {
         return less_one(word);
     }
-    if kind == 10 {
+    if kind == kinds::ARG_DECL {
         return less_one(word);
     }
     word

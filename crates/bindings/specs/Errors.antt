@@ -4,6 +4,7 @@ use mathlib.Core.List.{List, [], _∷_, _++_}
 use mathlib.Core.Option.{Option, none as nothing, some}
 use Prim.Native.Nat.{ℕ, zero, suc, _+_}
 use lib.Dec.{leb, eqb}
+use Rattle.ast.specs.Named.{ctorDeclKind}
 use Rattle.ast.specs.Image.{nodes, last, kindAt, startAt, field}
 use Rattle.ast.specs.Kinds.{outer, inner, root, decl, signature, rule, enum, model, plain, term, ident, head, headMember, member, case, ifVar, definedThen, arg}
 use Rattle.ast.specs.Tests.{_▸_, need}
@@ -74,7 +75,7 @@ module _ (img : List ℕ) (t : Table) where
   isCtor (node n k c (suc x ∷ sh) ts) = false
   isCtor (node n k c (zero ∷ sh) none) = false
   isCtor (node n k c (zero ∷ sh) (block ts ◂ us)) = false
-  isCtor (node n k c (zero ∷ sh) (node i l d sh2 ts ◂ us)) = isKind img 9 (atExit img t n i)
+  isCtor (node n k c (zero ∷ sh) (node i l d sh2 ts ◂ us)) = isKind img ctorDeclKind (atExit img t n i)
 
   unfoldable pub appRows : Trees → List Row
   unfolding isCtor listRows

@@ -3,6 +3,7 @@ use mathlib.Core.Path.{_≡_}
 use mathlib.Core.Bool.{true}
 use mathlib.Core.List.{List, _∷_, _++_, List·Memᴰ}
 use Prim.Native.Nat.{ℕ, suc, _+_, _<_}
+use Rattle.ast.specs.Named.{codTermKind, ctorDeclKind, definedThenAtomKind, domTermKind, predExprKind}
 use Rattle.ast.specs.Image.{nodes, kindAt, field}
 use Rattle.ast.specs.Rows.{numbers, kids}
 use Rattle.table.specs.Table.{Table, isKind, isVar, atEntry, atExit}
@@ -26,10 +27,10 @@ module _ (img : List ℕ) where
 
   -- p is not Dom, Cod or a predicate (below which only a member's receiver has terms), nor is c the variable that p defines
   pub record Determines (p c : ℕ) : Type 0 where
-    pub dom : kindAt img p ≡ 18 → ⊥
-    pub cod : kindAt img p ≡ 19 → ⊥
-    pub predicate : kindAt img p ≡ 26 → ⊥
-    pub variable : kindAt img p ≡ 34 → field img p 0 ≡ suc c → ⊥
+    pub dom : kindAt img p ≡ domTermKind → ⊥
+    pub cod : kindAt img p ≡ codTermKind → ⊥
+    pub predicate : kindAt img p ≡ predExprKind → ⊥
+    pub variable : kindAt img p ≡ definedThenAtomKind → field img p 0 ≡ suc c → ⊥
 
   -- a ThenAtom, and what stands below it on such a way
   pub data InThen : ℕ → Type 0 where
@@ -92,7 +93,7 @@ module _ (img : List ℕ) where
       pub headOf : field img app 0 ≡ head
       pub isIdent : field img head 0 ≡ 0
       pub ctorOf : field img head 1 ≡ ctor
-      pub isCtor : isKind img 9 (atExit img t head ctor) ≡ true
+      pub isCtor : isKind img ctorDeclKind (atExit img t head ctor) ≡ true
       pub listOf : field img app 1 ≡ list
       pub within : place < field img list 0
       pub argument : field img list (1 + place) ≡ n

@@ -6,6 +6,7 @@ use Prim.Native.Nat.{ℕ, zero, suc, _+_}
 use lib.Dec.{eqb, ltb}
 use lib.ListN.{getD, set}
 use Rattle.ast.specs.Image.{nodes, kindAt, nameOf}
+use Rattle.ast.specs.Named.{identTermKind, constDeclKind}
 use Rattle.table.specs.Layout.{entryPlace, exitPlace, parentPlace, scopePlace, nodePlace}
 
 -- the table's words and its two counts while a walk fills it: K scopes, Y symbols
@@ -89,12 +90,12 @@ module _ (img : List ℕ) where
 
   -- a Var
   abbrev pub isVar : Option ℕ → Bool
-  isVar o = isKind 13 o
+  isVar o = isKind identTermKind o
 
   -- a Var or a Const
   unfoldable pub isValue : Option ℕ → Bool
   unfolding isKind
-  isValue o = elim (isKind 13 o) [ true ↦ true | false ↦ isKind 5 o ]
+  isValue o = elim (isVar o) [ true ↦ true | false ↦ isKind constDeclKind o ]
 
   -- the entry and the exit of a node, as the words have them
   abbrev pub entryAt : List ℕ → ℕ → ℕ

@@ -12,6 +12,7 @@ ghost use Rattle.table.specs.State.{childScope, ownSymbol, introduce, ma
 ghost use Rattle.table.specs.Rising.{scopeOf, nodeAt, parentAt, Sorted, Cut, Before, Rising, Block};
 ghost use Rattle.table.specs.Values.{sought, walkedOf, optionOf};
 use ast::NodeId;
+use ast::kinds;
 
 pub struct ScopeId(pub u32);
 
@@ -454,7 +455,7 @@ pub fn is_kind(image: &[u8], found: Found, kind: u32) -> bool
 pub fn is_var(image: &[u8], found: Found) -> bool
     ensures { λ r. ⌜ r ≡ «table-spec».isVar (now (image .entry)) (optionOf found) ⌝ }
 {
-    is_kind(image, found, 13)
+    is_kind(image, found, kinds::IDENT_TERM)
 }
 
 // A Var or a Const.
@@ -464,10 +465,10 @@ pub fn is_value(image: &[u8], found: Found) -> bool
     match found {
         Found::At(node) => {
             let kind = ast::kind_at(image, node);
-            if kind == 13 {
+            if kind == kinds::IDENT_TERM {
                 return true;
             }
-            kind == 5
+            kind == kinds::CONST_DECL
         }
         Found::Nothing => false,
     }
