@@ -13,12 +13,21 @@ use Rattle.ast.specs.Declarations.{ruleNode, declared, declaredAll}
 use Rattle.ast.specs.Image.{nodes, kindAt, field, nameOf}
 use Rattle.ast.specs.Is.{Is, kindBy}
 use Rattle.ast.specs.Items.{items, below}
-use Rattle.ast.specs.Kinds.{Class, outer, decl, signature, Field, name, child, noChild, Kind, kindOf}
+use Rattle.ast.specs.Kinds.{Class, outer, inner, root, decl, signature, rule, enum, model, Field, name, child, list, noChild, Kind, kindOf}
+use Rattle.ast.specs.Named.{argDeclListKind, declKind, ctorDeclKind, enumDeclKind, modelDeclKind, ruleDeclKind, stmtKind}
+use Rattle.ast.specs.Rows.{fieldsAt}
 use Rattle.ast.specs.Tree.{Tree, node, Trees, none, _◂_, ordered, treeAt, size}
 use Rattle.ast.proofs.Accepted.{sized}
+use Rattle.ast.proofs.Bools.{false-true}
+use Rattle.ast.proofs.ByKind.{low-kind}
 use Rattle.ast.proofs.Row.{append, append-none, Child, FormedFields, next, nodeOf}
-use Rattle.ast.proofs.Shapes.{row, tree-of, child-is, case-kids, case-one, case-child, case-last, items-more}
+use Rattle.ast.proofs.Shapes.{row, tree-of, child-is, case-kids, case-one, case-child, items-more, run-tail}
+use Rattle.ast.proofs.RowNames.{opt-word}
 use Rattle.ast.proofs.Small.{Smalls, tree-small, items-small}
+use Rattle.ast.proofs.Words.{name-plain}
+use Rattle.typed.specs.RowShapes.{Listed as ListedAt}
+use Rattle.typed.specs.declared.nodes.NodeList.{NodeList}
+use Rattle.typed.proofs.Lists.{at-list}
 use Rattle.table.specs.Layout.{tableLength}
 use Rattle.table.specs.State.{Walked, ownSymbol, marked}
 use Rattle.table.specs.Table.{find, findFrom, mark}
@@ -27,22 +36,22 @@ use Rattle.table.specs.declared.Walked.{Walked as InCode}
 use Rattle.ast.specs.declared.NodeId.{NodeId}
 use Rattle.ordered.proofs.Kept.{past, mark-past, mark-length, symbol-past}
 use Rattle.scopes.specs.Walk.{Listed, done, twice, recorded, enterName, andThen, enterNames, markAll, enterAll, visit}
-use Rattle.scopes.specs.Promises.{listedOf, enter, ent, ents, vis, restEnter, Seen, Entering, Enters, Signature, Stamped}
+use Rattle.scopes.specs.Promises.{listedOf, enter, ent, ents, vis, restEnter, Seen, Entering, Enters, EnterRun, Signature, Stamped}
 use Rattle.scopes.specs.declared.Declared.{Declared}
 use Rattle.scopes.specs.declared.Declared.the-variants.{Done, Twice}
 use Rattle.scopes.proofs.Adds.{named, Went, done-same, twice-done, name-in, enter-in}
 use Rattle.scopes.proofs.Entering.{and-nothing, enter-first, enter-own}
 use Rattle.scopes.proofs.Stamps.{seen-none, seen-stamp, seen-symbol, seen-marked}
 
--- the last case is the one left
-pub last-case : (x : ℕ) → x < 7 → (x ≡ 0 → ⊥) → (x ≡ 1 → ⊥) → (x ≡ 2 → ⊥) → (x ≡ 3 → ⊥) → (x ≡ 4 → ⊥) → (x ≡ 5 → ⊥) → 6 ≡ x
-last-case zero l a b c d e f = absurd (a refl)
-last-case (suc zero) l a b c d e f = absurd (b refl)
-last-case (suc (suc zero)) l a b c d e f = absurd (c refl)
-last-case (suc (suc (suc zero))) l a b c d e f = absurd (d refl)
-last-case (suc (suc (suc (suc zero)))) l a b c d e f = absurd (e refl)
-last-case (suc (suc (suc (suc (suc zero))))) l a b c d e f = absurd (f refl)
-last-case (suc (suc (suc (suc (suc (suc x)))))) l a b c d e f = omega arith
+-- a class of kinds whose name is no option
+plainly : Class → Bool
+plainly (inner i) = false
+plainly (outer root) = true
+plainly (outer decl) = true
+plainly (outer signature) = true
+plainly (outer rule) = false
+plainly (outer enum) = true
+plainly (outer model) = true
 
 module _ (img : List ℕ) where
   -- before a call --------------------------------------------------------------------------------------------------------
@@ -84,6 +93,30 @@ module _ (img : List ℕ) where
   pub enters-as : {l k : Listed} {us ws seen vs : List ℕ} {r : Declared} → l ≡ k → drop (tableLength (nodes img)) us ≡ drop (tableLength (nodes img)) ws
       → Enters img l us r seen vs → Enters img k ws r seen vs
   enters-as q h p = record { same = p .same ∙ q; stamps = λ f d. p .stamps f (q ∙ d); passed = p .passed ∙ h }
+
+  -- a name, as its row has it ------------------------------------------------------------------------------------------------
+  plain-name : (n : ℕ) {x : ℕ} → plainly ((kindOf (kindAt img n)) .class) ≡ true → x ≡ field img n 0 → x ≡ nameOf img n
+  unfolding plainly kindOf
+  plain-name n h q =
+      q ∙ sym (name-plain img n (λ r. false-true (sym (ap (λ (k : ℕ). plainly ((kindOf k) .class)) r) ∙ h)) (λ r. false-true (sym (ap (λ (k : ℕ). plainly ((kindOf k) .class)) r) ∙ h)))
+
+  pub sig-name : {n x : ℕ} → Signature img n → x ≡ field img n 0 → x ≡ nameOf img n
+  unfolding plainly
+  sig-name s q = plain-name _ (ap plainly (s .class)) q
+
+  pub enum-name : {n x : ℕ} → Is img (kindOf enumDeclKind) n → x ≡ field img n 0 → x ≡ nameOf img n
+  unfolding plainly kindOf
+  enum-name is q = plain-name _ (ap (λ (k : Kind). plainly (k .class)) (is .kind)) q
+
+  pub model-name : {n x : ℕ} → Is img (kindOf modelDeclKind) n → x ≡ field img n 0 → x ≡ nameOf img n
+  unfolding plainly kindOf
+  model-name is q = plain-name _ (ap (λ (k : Kind). plainly (k .class)) (is .kind)) q
+
+  pub rule-name : {n x : ℕ} → Is img (kindOf ruleDeclKind) n → suc x ≡ field img n 0 → x ≡ nameOf img n
+  unfolding kindOf fieldsAt
+  rule-name {n} is q =
+      let w = opt-word img n (list stmtKind ∷ []) (ap (λ (k : Kind). k .fields) (is .kind)) (low-kind img (is .accepted) n (is .below)) in
+      omega arith
 
   -- one name -------------------------------------------------------------------------------------------------------------
   found-here : (n : ℕ) (e : Walked) (x : ℕ) (o : Option ℕ) → x ≡ nameOf img n → o ≡ findFrom img (e .table .symbols) (e .table .words) 0 (e .scope) x
@@ -161,7 +194,7 @@ module _ (img : List ℕ) where
       let is : Is img (kindBy (outer signature) ((kindOf (kindAt img n)) .fields)) n = record { accepted = s .accepted; below = s .below; kind = ap (λ (c : Class). kindBy c ((kindOf (kindAt img n)) .fields)) (s .class) } in
       subst (λ (u : Tree). (enter img u e ≡ enterName img n (marked img n (e .scope) e)) × (ent u ≡ 1)) (sym (tree-of img is)) (and-nothing img (enterName img n (marked img n (e .scope) e)), refl)
 
-  pub model-enter : {n : ℕ} (e : Walked) → Is img (kindOf 8) n → (enter img (treeAt img n) e ≡ enterName img n e) × (ent (treeAt img n) ≡ 1)
+  pub model-enter : {n : ℕ} (e : Walked) → Is img (kindOf modelDeclKind) n → (enter img (treeAt img n) e ≡ enterName img n e) × (ent (treeAt img n) ≡ 1)
   unfolding enter declared recorded enterNames markAll nodeOf kindOf
   model-enter {n} e is = subst (λ (u : Tree). (enter img u e ≡ enterName img n e) × (ent u ≡ 1)) (sym (tree-of img is)) (and-nothing img (enterName img n e), refl)
 
@@ -169,37 +202,38 @@ module _ (img : List ℕ) where
   abbrev ruleShape : ℕ → ℕ → List ℕ
   ruleShape n x = elim x [ zero ↦ 0 | suc m ↦ 1 ] ∷ field img n 1 ∷ []
 
-  rule-enter : {n : ℕ} (e : Walked) → Is img (kindOf 6) n
+  rule-enter : {n : ℕ} (e : Walked) → Is img (kindOf ruleDeclKind) n
       → (enter img (treeAt img n) e ≡ enterNames img (ruleNode (ruleShape n (field img n 0)) n) (marked img n (e .scope) e)) × (declared (treeAt img n) ≡ ruleNode (ruleShape n (field img n 0)) n)
   unfolding enter declared recorded markAll nodeOf kindOf
   rule-enter {n} e is =
       subst (λ (u : Tree). (enter img u e ≡ enterNames img (ruleNode (ruleShape n (field img n 0)) n) (marked img n (e .scope) e)) × (declared u ≡ ruleNode (ruleShape n (field img n 0)) n))
       (sym (tree-of img is)) (refl, refl)
 
-  pub rule-unnamed : {n : ℕ} (e : Walked) → Is img (kindOf 6) n → field img n 0 ≡ 0 → enter img (treeAt img n) e ≡ done (marked img n (e .scope) e)
+  pub rule-unnamed : {n : ℕ} (e : Walked) → Is img (kindOf ruleDeclKind) n → field img n 0 ≡ 0 → enter img (treeAt img n) e ≡ done (marked img n (e .scope) e)
   unfolding enterNames ruleNode
   rule-unnamed {n} e is z = (rule-enter e is) .0 ∙ ap (λ (x : ℕ). enterNames img (ruleNode (ruleShape n x) n) (marked img n (e .scope) e)) z
 
-  pub rule-named : {n : ℕ} (e : Walked) → Is img (kindOf 6) n → (field img n 0 ≡ 0 → ⊥) → (enter img (treeAt img n) e ≡ enterName img n (marked img n (e .scope) e)) × (ent (treeAt img n) ≡ 1)
+  pub rule-named : {n x : ℕ} (e : Walked) → Is img (kindOf ruleDeclKind) n → suc x ≡ field img n 0 → (enter img (treeAt img n) e ≡ enterName img n (marked img n (e .scope) e)) × (ent (treeAt img n) ≡ 1)
   unfolding enterNames ruleNode
-  rule-named {n} e is z = let r = rule-enter e is in let g = go (field img n 0) z in (r .0 ∙ g .0, ap length (r .1) ∙ g .1)
-    where
-      go : (x : ℕ) → (x ≡ 0 → ⊥) → (enterNames img (ruleNode (ruleShape n x) n) (marked img n (e .scope) e) ≡ enterName img n (marked img n (e .scope) e)) × (length (ruleNode (ruleShape n x) n) ≡ 1)
-      go zero y = absurd (y refl)
-      go (suc m) y = (and-nothing img (enterName img n (marked img n (e .scope) e)), refl)
+  rule-named {n} e is q =
+      let r = rule-enter e is in
+      (
+        r .0 ∙ ap (λ (y : ℕ). enterNames img (ruleNode (ruleShape n y) n) (marked img n (e .scope) e)) (sym q) ∙ and-nothing img (enterName img n (marked img n (e .scope) e)),
+        ap length (r .1 ∙ ap (λ (y : ℕ). ruleNode (ruleShape n y) n) (sym q)),
+      )
 
-  pub rule-entering : {seen : List ℕ} {n : ℕ} {e : Walked} → Is img (kindOf 6) n → (field img n 0 ≡ 0 → ⊥) → Entering img seen (ent (treeAt img n)) e → Entering img seen 1 e
-  rule-entering {e = e} is z p = entering-less (let q = (rule-named e is z) .1 in omega arith) p
+  pub rule-entering : {seen : List ℕ} {n x : ℕ} {e : Walked} → Is img (kindOf ruleDeclKind) n → suc x ≡ field img n 0 → Entering img seen (ent (treeAt img n)) e → Entering img seen 1 e
+  rule-entering {e = e} is q p = entering-less (let z = (rule-named e is q) .1 in omega arith) p
 
   -- how many names they may add
   abbrev nowhere : Walked
   nowhere = record { scope = 0; table = record { words = []; scopes = 0; symbols = 0 } }
 
-  pub model-ent : {n : ℕ} → Is img (kindOf 8) n → ent (treeAt img n) ≡ 1
+  pub model-ent : {n : ℕ} → Is img (kindOf modelDeclKind) n → ent (treeAt img n) ≡ 1
   model-ent is = (model-enter nowhere is) .1
 
   -- an unnamed rule is only marked
-  pub rule-passes : {seen : List ℕ} {m n : ℕ} {e : Walked} {vs : List ℕ} (w : InCode) → Is img (kindOf 6) n → Entering img seen m e → field img n 0 ≡ 0
+  pub rule-passes : {seen : List ℕ} {m n : ℕ} {e : Walked} {vs : List ℕ} (w : InCode) → Is img (kindOf ruleDeclKind) n → Entering img seen m e → field img n 0 ≡ 0
       → walkedOf w vs ≡ marked img n (e .scope) e → Enters img (enter img (treeAt img n) e) (e .table .words) (Done w) seen vs
   rule-passes {seen} {m} {n} {e} w is p z q =
       let g = rule-unnamed e is z in
@@ -283,13 +317,13 @@ module _ (img : List ℕ) where
       record { same = sym g; stamps = λ f d. subst (Seen img seen) (done-same (walkedOf w vs) f (sym g ∙ d)) (b .entering .stamps); passed = b .passed }
 
   -- an enum: its own name, then its constructors' -----------------------------------------------------------------------------
-  pub ctor-is : {n i c : ℕ} → Is img (kindOf 7) n → i < field img n 1 → c ≡ field img n (2 + i) → Is img (kindBy (outer signature) (name ∷ child 11 ∷ [])) c
+  pub ctor-is : {n i c : ℕ} → Is img (kindOf enumDeclKind) n → i < field img n 1 → c ≡ field img n (2 + i) → Is img (kindBy (outer signature) (name ∷ child argDeclListKind ∷ [])) c
   unfolding FormedFields next kindOf
   ctor-is {n} {i} {c} is l q =
-      let h : Child img n 9 (field img n (2 + i)) = (row img is) .1 .0 i l in
-      subst (Is img (kindBy (outer signature) (name ∷ child 11 ∷ []))) (sym q) (child-is img is h)
+      let h : Child img n ctorDeclKind (field img n (2 + i)) = (row img is) .1 .0 i l in
+      subst (Is img (kindBy (outer signature) (name ∷ child argDeclListKind ∷ []))) (sym q) (child-is img is h)
 
-  enum-enter : {n : ℕ} (e : Walked) → Is img (kindOf 7) n
+  enum-enter : {n : ℕ} (e : Walked) → Is img (kindOf enumDeclKind) n
       → (enter img (treeAt img n) e ≡ andThen img (enterName img n (marked img n (e .scope) e)) (enterAll img (items img n (field img n 1) 2))) × (ent (treeAt img n) ≡ suc (ents (items img n (field img n 1) 2)))
   unfolding enter declared recorded nodeOf kindOf
   enum-enter {n} e is =
@@ -307,42 +341,47 @@ module _ (img : List ℕ) where
       let b = sig-ents n c (j + 1) (λ i l. subst (λ (x : ℕ). Signature img (field img n x)) (let q : j + suc i ≡ j + 1 + i = omega arith in q) (h (suc i) (omega arith))) in
       omega arith
 
-  pub ctor-ents : {n : ℕ} → Is img (kindOf 7) n → ents (items img n (field img n 1) 2) ≡ field img n 1
+  pub ctor-ents : {n : ℕ} → Is img (kindOf enumDeclKind) n → ents (items img n (field img n 1) 2) ≡ field img n 1
   ctor-ents {n} is = sig-ents n (field img n 1) 2 (λ i l. signed (ctor-is {i = i} is l refl))
-
-  -- a constructor's name, of its enum's list
-  pub ctor-begin : {seen : List ℕ} {n : ℕ} {e : Walked} → Is img (kindOf 7) n → Entering img seen (field img n 1) e → EnterLeft seen n 2 (field img n 1) 0 e e
-  ctor-begin {seen} {n} {e} is p = enter-begin (subst (λ (m : ℕ). Entering img seen m e) (sym (ctor-ents is)) p)
 
   pub sig-entering : {seen : List ℕ} {n : ℕ} {e : Walked} → Signature img n → Entering img seen (ent (treeAt img n)) e → Entering img seen 1 e
   sig-entering {seen} {n} {e} s p = entering-less (let z = (sig-enter e s) .1 in omega arith) p
 
-  pub enum-whole : {n : ℕ} (e : Walked) → Is img (kindOf 7) n → enter img (treeAt img n) e ≡ andThen img (enterName img n (marked img n (e .scope) e)) (restEnter img n 2 (field img n 1) 0)
+  pub enum-whole : {n : ℕ} (e : Walked) → Is img (kindOf enumDeclKind) n → enter img (treeAt img n) e ≡ andThen img (enterName img n (marked img n (e .scope) e)) (restEnter img n 2 (field img n 1) 0)
   enum-whole {n} e is = (enum-enter e is) .0 ∙ ap (andThen img (enterName img n (marked img n (e .scope) e))) (fun-ext (λ f. enter-start n 2 (field img n 1) f))
 
-  pub enum-ent : {n : ℕ} → Is img (kindOf 7) n → ent (treeAt img n) ≡ 1 + field img n 1
+  pub enum-ent : {n : ℕ} → Is img (kindOf enumDeclKind) n → ent (treeAt img n) ≡ 1 + field img n 1
   enum-ent {n} is = let a = (enum-enter nowhere is) .1 in let c = ctor-ents is in omega arith
 
-  pub record EnumEnter (seen : List ℕ) (n : ℕ) (e f : Walked) : Type 0 where
+  -- its constructors are the count items from place j of m's row on
+  pub record EnumEnter (seen : List ℕ) (n : ℕ) (e f : Walked) (m j count : ℕ) : Type 0 where
     pub own : Entering img seen 1 f
-    pub ctors : {us vs : List ℕ} {r : Declared} (w : InCode) → r ≡ Done w → Enters img (enterName img n f) (f .table .words) r us vs → Entering img us (field img n 1) (walkedOf w vs)
+    pub ctors : {us vs : List ℕ} {r : Declared} (w : InCode) → r ≡ Done w → Enters img (enterName img n f) (f .table .words) r us vs → EnterRun img us ctorDeclKind m j count (walkedOf w vs)
     pub enters : {us vs qs ws : List ℕ} {r o : Declared} (w : InCode) → r ≡ Done w → Enters img (enterName img n f) (f .table .words) r us vs
-        → Enters img (restEnter img n 2 (field img n 1) 0 (walkedOf w vs)) vs o qs ws → Enters img (enter img (treeAt img n) e) (e .table .words) o qs ws
+        → Enters img (restEnter img m j count 0 (walkedOf w vs)) vs o qs ws → Enters img (enter img (treeAt img n) e) (e .table .words) o qs ws
     pub stop : {us vs : List ℕ} {r : Declared} (x : ℕ) (a b : NodeId) → r ≡ Twice x a b → Enters img (enterName img n f) (f .table .words) r us vs
         → Enters img (enter img (treeAt img n) e) (e .table .words) (Twice x a b) us vs
 
-  pub enumEnter : {seen : List ℕ} {n : ℕ} {e f : Walked} → Is img (kindOf 7) n → Entering img seen (ent (treeAt img n)) e → f ≡ marked img n (e .scope) e → EnumEnter seen n e f
-  enumEnter {seen} {n} {e} {f} is p q =
-      record {
+  pub enumEnter : {seen : List ℕ} {n : ℕ} {e f : Walked} {l : NodeList} → Is img (kindOf enumDeclKind) n → Entering img seen (ent (treeAt img n)) e → f ≡ marked img n (e .scope) e → ListedAt img n 1 l
+      → EnumEnter seen n e f (l .node .0) (l .first) (l .count)
+  unfolding next kindOf
+  enumEnter {seen} {n} {e} {f} is p q a =
+      at-list img (EnumEnter seen n e f) a
+      (record {
         own = entering-less (omega arith) both;
-        ctors = λ {us} {vs} {r} w d h. let g = named-as w d h in entering-next both ((name-in img n f) .went (walkedOf w vs) g) (h .stamps (walkedOf w vs) g);
+        ctors = λ {us} {vs} {r} w d h.
+            let g = named-as w d h in
+            record {
+              run = run-tail img is refl refl;
+              entering = subst (λ (c : ℕ). Entering img us c (walkedOf w vs)) (sym (ctor-ents is)) (entering-next both ((name-in img n f) .went (walkedOf w vs) g) (h .stamps (walkedOf w vs) g));
+            };
         enters = λ {us} {vs} {qs} {ws} {r} {o} w d h k.
             let z = whole ∙ and-done (walkedOf w vs) (restEnter img n 2 (field img n 1) 0) _ (named-as w d h) in
             record { same = k .same ∙ sym z; stamps = λ g t. k .stamps g (sym z ∙ t); passed = k .passed ∙ h .passed ∙ past-marked n (e .scope) e q (is .below) };
         stop = λ {us} {vs} {r} x a b d h.
             let z = whole ∙ and-stop x (a .0) (b .0) (restEnter img n 2 (field img n 1) 0) _ (sym (h .same) ∙ ap (λ (o : Declared). listedOf o vs) d) in
             record { same = sym z; stamps = λ g t. absurd (twice-done x (a .0) (b .0) g (sym z ∙ t)); passed = h .passed ∙ past-marked n (e .scope) e q (is .below) };
-      }
+      })
     where
       both : Entering img seen (1 + field img n 1) f
       both = entering-marked q (is .below) (subst (λ (m : ℕ). Entering img seen m e) (enum-ent is) p)
@@ -362,11 +401,11 @@ module _ (img : List ℕ) where
     pub is : Is img (kindOf k) d
     pub tree : treeAt img n ≡ node n (kindAt img n) (outer decl) (field img n 0 ∷ []) (treeAt img d ◂ none)
 
-  decl-tree : {n : ℕ} → Is img (kindOf 1) n → treeAt img n ≡ node n (kindAt img n) (outer decl) (field img n 0 ∷ []) (below (treeAt img n))
+  decl-tree : {n : ℕ} → Is img (kindOf declKind) n → treeAt img n ≡ node n (kindAt img n) (outer decl) (field img n 0 ∷ []) (below (treeAt img n))
   unfolding nodeOf kindOf
   decl-tree {n} is = subst (λ (u : Tree). u ≡ node n (kindAt img n) (outer decl) (field img n 0 ∷ []) (below u)) (sym (tree-of img is)) refl
 
-  pub declOf : {n d : ℕ} → Is img (kindOf 1) n → (c : ℕ) → c ≡ field img n 0 → d ≡ field img n 1 → eqb (getD declKinds c noChild) noChild ≡ false → DeclOf (getD declKinds c noChild) n d
+  pub declOf : {n d : ℕ} → Is img (kindOf declKind) n → (c : ℕ) → c ≡ field img n 0 → d ≡ field img n 1 → eqb (getD declKinds c noChild) noChild ≡ false → DeclOf (getD declKinds c noChild) n d
   unfolding kindOf ordered
   declOf {n} {d} is c q r s =
       let h = case-child img (outer decl) declKinds is c d q r s in
@@ -402,10 +441,6 @@ module _ (img : List ℕ) where
     unfolding size
     decl-size = ap size (o .tree)
 
-  pub decl-last : {n : ℕ} → Is img (kindOf 1) n → field img n 0 < 7
-  unfolding kindOf
-  decl-last is = case-last img (outer decl) declKinds is
-
   -- the declaration entered, after its Decl is marked
   pub record DeclEnter (seen : List ℕ) (n d : ℕ) (e f : Walked) : Type 0 where
     pub entering : Entering img seen (ent (treeAt img d)) f
@@ -417,20 +452,3 @@ module _ (img : List ℕ) where
         entering = entering-marked q l (entering-less (let z = decl-ent o in omega arith) p);
         enters = λ h. enters-as (ap (enter img (treeAt img d)) q ∙ sym (decl-entered o e)) (past-marked n (e .scope) e q l) h;
       }
-
-  -- the Decl of a type, a pred, a func or a const
-  pub record SigDecl (n d : ℕ) : Type 0 where
-    pub kind : ℕ
-    pub of : DeclOf kind n d
-    pub is : Signature img d
-
-  pub sigDecl : {n d : ℕ} → Is img (kindOf 1) n → field img n 0 < 4 → d ≡ field img n 1 → SigDecl n d
-  unfolding kindOf
-  sigDecl {n} {d} is l r = go (field img n 0) refl l
-    where
-      go : (c : ℕ) → c ≡ field img n 0 → c < 4 → SigDecl n d
-      go zero q h = let o = declOf is 0 q r refl in record { kind = 2; of = o; is = signed (o .is) }
-      go (suc zero) q h = let o = declOf is 1 q r refl in record { kind = 3; of = o; is = signed (o .is) }
-      go (suc (suc zero)) q h = let o = declOf is 2 q r refl in record { kind = 4; of = o; is = signed (o .is) }
-      go (suc (suc (suc zero))) q h = let o = declOf is 3 q r refl in record { kind = 5; of = o; is = signed (o .is) }
-      go (suc (suc (suc (suc c)))) q h = absurd (omega arith)

@@ -9,6 +9,7 @@ pub mod Resolving
 pub mod Declaring
 pub mod Stamps
 pub mod Entries
+pub mod Decls
 pub mod Visiting
 pub mod Rooting
 pub mod Headed

@@ -9,6 +9,7 @@ use Rattle.ast.specs.Image.{nodes, last, field}
 use Rattle.ast.specs.Is.{Is}
 use Rattle.ast.specs.Items.{items}
 use Rattle.ast.specs.Kinds.{root, list, kindOf}
+use Rattle.ast.specs.Named.{moduleKind}
 use Rattle.ast.specs.Tests.{verdict}
 use Rattle.ast.specs.Tree.{Tree, Trees, none, treeAt, size, sizes}
 use Rattle.ast.specs.declared.NodeId.{NodeId}
@@ -16,6 +17,9 @@ use Rattle.ast.proofs.Accepted.{formed, last-below}
 use Rattle.ast.proofs.Count.{tree-size}
 use Rattle.ast.proofs.Row.{append, append-none, nodeOf}
 use Rattle.ast.proofs.Shapes.{tree-of, run-list}
+use Rattle.typed.specs.RowShapes.{Listed}
+use Rattle.typed.specs.declared.nodes.NodeList.{NodeList}
+use Rattle.typed.proofs.Lists.{at-list}
 use Rattle.table.specs.Layout.{allOnes, tableLength}
 use Rattle.table.specs.State.{Walked, childScope, marked}
 use Rattle.table.specs.Values.{tableOf}
@@ -33,13 +37,13 @@ use Rattle.scopes.proofs.Resolving.{begun, begun-counts, begun-newest, 
 use Rattle.scopes.proofs.Visiting.{over-start}
 
 module _ (img : List ℕ) where
-  pub root-is : verdict img ≡ 0 → Is img (kindOf 0) (last img)
+  pub root-is : verdict img ≡ 0 → Is img (kindOf moduleKind) (last img)
   root-is e = record { accepted = e; below = last-below img e; kind = ap kindOf ((formed img e) .root) }
 
   rootTrees : ℕ → Trees
   rootTrees n = append (items img n (field img n 0) 1) none
 
-  root-tree : {n : ℕ} (ws : List ℕ) (below : n < nodes img) (long : tableLength (nodes img) ≤ length ws) → Is img (kindOf 0) n
+  root-tree : {n : ℕ} (ws : List ℕ) (below : n < nodes img) (long : tableLength (nodes img) ≤ length ws) → Is img (kindOf moduleKind) n
       → (resolveTree img (treeAt img n) (record { words = ws; scopes = 0; symbols = 0 }) ≡ andThen img (enterAll img (rootTrees n) (begun img ws n below long)) (visitAll img (rootTrees n))) × (size (treeAt img n) ≡ suc (sizes (rootTrees n)))
   unfolding resolveTree size nodeOf kindOf rootTrees
   root-tree {n} ws below long is =
@@ -52,16 +56,18 @@ module _ (img : List ℕ) where
   unfolding childScope
   begun-is ws n below long p q = q ∙ ap (λ (k : Walked). marked img n (k .scope) k) p
 
-  pub record RootVisit (n count : ℕ) (ws : List ℕ) (g : Walked) : Type 0 where
-    pub list : ListRun img n 1 count g
-    pub visits : {r : Declared} {us vs : List ℕ} → Visits img (overList img n 1 count g) us r vs → us ≡ g .table .words
+  -- its list is the count items from place j of m's row on
+  pub record RootVisit (ws : List ℕ) (g : Walked) (m j count : ℕ) : Type 0 where
+    pub list : ListRun img m j count g
+    pub visits : {r : Declared} {us vs : List ℕ} → Visits img (overList img m j count g) us r vs → us ≡ g .table .words
         → Visits img (resolveTree img (treeAt img (last img)) (record { words = ws; scopes = 0; symbols = 0 })) ws r vs
 
-  pub rootVisit : {n count : ℕ} {ws : List ℕ} {f g : Walked} → Lent img ws → n ≡ last img → count ≡ field img n 0
-      → f ≡ childScope img (record { scope = allOnes; table = record { words = ws; scopes = 0; symbols = 0 } }) → g ≡ marked img n (f .scope) f → RootVisit n count ws g
+  pub rootVisit : {n : ℕ} {ws : List ℕ} {f g : Walked} {l : NodeList} → Lent img ws → n ≡ last img
+      → f ≡ childScope img (record { scope = allOnes; table = record { words = ws; scopes = 0; symbols = 0 } }) → g ≡ marked img n (f .scope) f → Listed img n 0 l
+      → RootVisit ws g (l .node .0) (l .first) (l .count)
   unfolding kindOf rootTrees
-  rootVisit {n} {count} {ws} {f} {g} p q c h k =
-      subst (λ (x : ℕ). RootVisit n x ws g) (sym c) (subst (RootVisit n (field img n 0) ws) (sym (begun-is ws n low (p .long) h k))
+  rootVisit {n} {ws} {f} {g} p q h k c =
+      at-list img (RootVisit ws g) c (subst (λ (f : Walked). RootVisit ws f n 1 (field img n 0)) (sym (begun-is ws n low (p .long) h k))
       (record {
         list = record {
           run = run-list img is refl;
@@ -77,8 +83,8 @@ module _ (img : List ℕ) where
             record { same = v .same ∙ sym whole; passed = v .passed ∙ ap (drop (tableLength (nodes img))) u ∙ begun-past img ws n low (p .long) };
       }))
     where
-      is : Is img (kindOf 0) n
-      is = subst (Is img (kindOf 0)) (sym q) (root-is (p .accepted))
+      is : Is img (kindOf moduleKind) n
+      is = subst (Is img (kindOf moduleKind)) (sym q) (root-is (p .accepted))
 
       low : n < nodes img
       low = is .below

@@ -8,11 +8,15 @@ use Rattle.ast.specs.Image.{nodes, field}
 use Rattle.ast.specs.Is.{Is, kindBy}
 use Rattle.ast.specs.Items.{items, below}
 use Rattle.ast.specs.Kinds.{outer, signature, Field, name, child, list, Kind, kindOf}
+use Rattle.ast.specs.Named.{argDeclListKind, ctorDeclKind, declKind, enumDeclKind, funcDeclKind, modelDeclKind, ruleDeclKind, stmtKind, typeDeclKind, typeExprKind}
 use Rattle.ast.specs.Tree.{Tree, node, block, Trees, none, treeAt, size, sizes}
 use Rattle.ast.proofs.Accepted.{sized}
 use Rattle.ast.proofs.Row.{append, append-none, Child, FormedFields, next, nodeOf}
 use Rattle.ast.proofs.Shapes.{row, tree-of, child-is, items-more, run-item, run-tail}
 use Rattle.ast.proofs.Small.{Small, Smalls, tree-small, items-small}
+use Rattle.typed.specs.RowShapes.{Listed as ListedAt}
+use Rattle.typed.specs.declared.nodes.NodeList.{NodeList}
+use Rattle.typed.proofs.Lists.{at-list}
 use Rattle.table.specs.Layout.{tableLength}
 use Rattle.table.specs.State.{Walked, childScope, marked, back}
 use Rattle.table.specs.Values.{walkedOf}
@@ -39,7 +43,7 @@ module _ (img : List ℕ) where
   unfolding visit nodeOf
   sig-visit {fs} {n} e is = subst (λ (u : Tree). visit img u e ≡ done (back img (e .scope) (walkSeq img occurs (below u) e))) (sym (tree-of img is)) refl
 
-  pub rule-visit : {n : ℕ} (e : Walked) → Is img (kindOf 6) n → visit img (treeAt img n) e ≡ done (back img (e .scope) (inside img occurs n e))
+  pub rule-visit : {n : ℕ} (e : Walked) → Is img (kindOf ruleDeclKind) n → visit img (treeAt img n) e ≡ done (back img (e .scope) (inside img occurs n e))
   unfolding visit nodeOf kindOf
   rule-visit {n} e is = subst (λ (u : Tree). visit img u e ≡ done (back img (e .scope) (walkSeq img occurs (below u) e))) (sym (tree-of img is)) refl
 
@@ -65,7 +69,7 @@ module _ (img : List ℕ) where
   unfolding Sizes vis size nodeOf
   sig-sizes {fs} {n} is = subst (λ (u : Tree). (size u ≡ suc (sizes (below u))) × (vis u ≡ sizes (below u))) (sym (tree-of img is)) (refl, refl)
 
-  rule-sizes : {n : ℕ} → Is img (kindOf 6) n → Sizes n
+  rule-sizes : {n : ℕ} → Is img (kindOf ruleDeclKind) n → Sizes n
   unfolding Sizes vis size nodeOf kindOf
   rule-sizes {n} is = subst (λ (u : Tree). (size u ≡ suc (sizes (below u))) × (vis u ≡ sizes (below u))) (sym (tree-of img is)) (refl, refl)
 
@@ -80,11 +84,11 @@ module _ (img : List ℕ) where
   pub sig-inside : {fs : List Field} {n : ℕ} {e : Walked} → Is img (kindBy (outer signature) fs) n → Fits img (size (treeAt img n)) (vis (treeAt img n)) e → Inside img (kindBy (outer signature) fs) n e
   sig-inside is p = inside-room is (sig-sizes is) p
 
-  pub rule-inside : {n : ℕ} {e : Walked} → Is img (kindOf 6) n → Fits img (size (treeAt img n)) (vis (treeAt img n)) e → Inside img (kindOf 6) n e
+  pub rule-inside : {n : ℕ} {e : Walked} → Is img (kindOf ruleDeclKind) n → Fits img (size (treeAt img n)) (vis (treeAt img n)) e → Inside img (kindOf ruleDeclKind) n e
   rule-inside is p = inside-room is (rule-sizes is) p
 
   -- a type has nothing inside
-  pub type-visit : {n : ℕ} (e : Walked) → Is img (kindOf 2) n → visit img (treeAt img n) e ≡ done e
+  pub type-visit : {n : ℕ} (e : Walked) → Is img (kindOf typeDeclKind) n → visit img (treeAt img n) e ≡ done e
   unfolding walk nodeOf kindOf
   type-visit {n} e is = sig-visit e is ∙ ap (λ (f : Walked). done (back img (e .scope) f)) (ap (λ (u : Tree). walkSeq img occurs (below u) e) (tree-of img is))
 
@@ -104,19 +108,19 @@ module _ (img : List ℕ) where
       subst (λ (x : ℕ). SigOne k n x e) (sym q) (record { first = record { is = child-is img (p .is) h; room = subst (Room img) w (p .room) }; inner = w })
 
   pub record SigTwo (n c d : ℕ) (e : Walked) : Type 0 where
-    pub first : Ready img (kindOf 11) c e
-    pub second : Ready img (kindOf 23) d (over img c e)
+    pub first : Ready img (kindOf argDeclListKind) c e
+    pub second : Ready img (kindOf typeExprKind) d (over img c e)
     pub inner : inside img occurs n e ≡ over img d (over img c e)
 
-  sig-two-in : {n : ℕ} (e : Walked) → Is img (kindOf 4) n → inside img occurs n e ≡ over img (field img n 2) (over img (field img n 1) e)
+  sig-two-in : {n : ℕ} (e : Walked) → Is img (kindOf funcDeclKind) n → inside img occurs n e ≡ over img (field img n 2) (over img (field img n 1) e)
   unfolding walk nodeOf kindOf
   sig-two-in e is = ap (λ (u : Tree). walkSeq img occurs (below u) e) (tree-of img is)
 
-  pub sigTwo : {n c d : ℕ} {e : Walked} → Inside img (kindOf 4) n e → c ≡ field img n 1 → d ≡ field img n 2 → SigTwo n c d e
+  pub sigTwo : {n c d : ℕ} {e : Walked} → Inside img (kindOf funcDeclKind) n e → c ≡ field img n 1 → d ≡ field img n 2 → SigTwo n c d e
   unfolding FormedFields next kindOf
   sigTwo {n} {c} {d} {e} p q r =
-      let h : Child img n 11 (field img n 1) = (row img (p .is)) .1 .0 in
-      let h2 : Child img n 23 (field img n 2) = (row img (p .is)) .1 .1 .0 in
+      let h : Child img n argDeclListKind (field img n 1) = (row img (p .is)) .1 .0 in
+      let h2 : Child img n typeExprKind (field img n 2) = (row img (p .is)) .1 .1 .0 in
       let w = sig-two-in e (p .is) in
       subst (λ (x : ℕ). SigTwo n x d e) (sym q) (subst (λ (x : ℕ). SigTwo n (field img n 1) x e) (sym r)
       (record {
@@ -125,24 +129,26 @@ module _ (img : List ℕ) where
         inner = w;
       }))
 
-  pub record RuleRun (n count : ℕ) (e : Walked) : Type 0 where
-    pub run : ReadyRun img 36 n 2 count e
-    pub inner : inside img occurs n e ≡ rest img occurs n 2 count 0 e
+  -- its body is the count items from place j of m's row on
+  pub record RuleRun (n : ℕ) (e : Walked) (m j count : ℕ) : Type 0 where
+    pub run : ReadyRun img stmtKind m j count e
+    pub inner : inside img occurs n e ≡ rest img occurs m j count 0 e
 
-  rule-in : {n : ℕ} (e : Walked) → Is img (kindOf 6) n → inside img occurs n e ≡ walkSeq img occurs (items img n (field img n 1) 2) e
+  rule-in : {n : ℕ} (e : Walked) → Is img (kindOf ruleDeclKind) n → inside img occurs n e ≡ walkSeq img occurs (items img n (field img n 1) 2) e
   unfolding nodeOf kindOf
   rule-in {n} e is = ap (λ (u : Tree). walkSeq img occurs (below u) e) (tree-of img is) ∙ ap (λ (us : Trees). walkSeq img occurs us e) (append-none (items img n (field img n 1) 2))
 
-  pub ruleRun : {n count : ℕ} {e : Walked} → Inside img (kindOf 6) n e → count ≡ field img n 1 → RuleRun n count e
+  pub ruleRun : {n : ℕ} {e : Walked} {l : NodeList} → Inside img (kindOf ruleDeclKind) n e → ListedAt img n 1 l → RuleRun n e (l .node .0) (l .first) (l .count)
   unfolding next kindOf
-  ruleRun {n} {count} {e} p q =
+  ruleRun {n} {e} p a =
       let w = rule-in e (p .is) ∙ rest-start img occurs n 2 (field img n 1) e in
-      subst (λ (x : ℕ). RuleRun n x e) (sym q)
+      at-list img (RuleRun n e) a
       (record { run = record { run = run-tail img (p .is) refl refl; room = subst (Room img) w (p .room) }; inner = w })
 
-  -- the walk back in the scope of `at`
-  pub dropped-is : (r at w : InCode) (ws : List ℕ) → (r .scope ≡ at .scope) × (r .scopes ≡ w .scopes) × (r .symbols ≡ w .symbols) → walkedOf r ws ≡ back img (at .scope .0) (walkedOf w ws)
-  dropped-is r at w ws h = λ i. record { scope = (h .0 i) .0; table = record { words = ws; scopes = h .1 i; symbols = h .2 i } }
+  -- the walk back in the scope of `current`
+  pub dropped-is : (r current after : InCode) (ws : List ℕ) → (r .scope ≡ current .scope) × (r .scopes ≡ after .scopes) × (r .symbols ≡ after .symbols)
+      → walkedOf r ws ≡ back img (current .scope .0) (walkedOf after ws)
+  dropped-is r current after ws h = λ i. record { scope = (h .0 i) .0; table = record { words = ws; scopes = h .1 i; symbols = h .2 i } }
 
   -- a walk that is done hands this back
   pub done-visits : (n : ℕ) {e : Walked} {vs : List ℕ} (w : InCode) → Fits img (size (treeAt img n)) (vis (treeAt img n)) e → done (walkedOf w vs) ≡ visit img (treeAt img n) e
@@ -247,22 +253,23 @@ module _ (img : List ℕ) where
   abbrev listTrees : ℕ → Trees
   listTrees n = append (items img n (field img n 1) 2) none
 
-  pub record EnumVisit (n count : ℕ) (e : Walked) : Type 0 where
-    pub run : VisitRun img 9 n 2 count e
-    pub whole : visit img (treeAt img n) e ≡ restVisit img n 2 count 0 e
+  -- the list is the count items from place j of m's row on
+  pub record EnumVisit (n : ℕ) (e : Walked) (m j count : ℕ) : Type 0 where
+    pub run : VisitRun img ctorDeclKind m j count e
+    pub whole : visit img (treeAt img n) e ≡ restVisit img m j count 0 e
 
-  enum-visit : {n : ℕ} (e : Walked) → Is img (kindOf 7) n → (visit img (treeAt img n) e ≡ visitAll img (listTrees n) e) × (size (treeAt img n) ≡ suc (sizes (listTrees n))) × (vis (treeAt img n) ≡ viss (listTrees n))
+  enum-visit : {n : ℕ} (e : Walked) → Is img (kindOf enumDeclKind) n → (visit img (treeAt img n) e ≡ visitAll img (listTrees n) e) × (size (treeAt img n) ≡ suc (sizes (listTrees n))) × (vis (treeAt img n) ≡ viss (listTrees n))
   unfolding visit vis size nodeOf kindOf
   enum-visit {n} e is = subst (λ (u : Tree). (visit img u e ≡ visitAll img (listTrees n) e) × (size u ≡ suc (sizes (listTrees n))) × (vis u ≡ viss (listTrees n))) (sym (tree-of img is)) (refl, refl, refl)
 
-  pub enumVisit : {n count : ℕ} {e : Walked} → Visit img (kindOf 7) n e → count ≡ field img n 1 → EnumVisit n count e
+  pub enumVisit : {n : ℕ} {e : Walked} {l : NodeList} → Visit img (kindOf enumDeclKind) n e → ListedAt img n 1 l → EnumVisit n e (l .node .0) (l .first) (l .count)
   unfolding next kindOf
-  enumVisit {n} {count} {e} p q =
+  enumVisit {n} {e} p q =
       let a = append-none (items img n (field img n 1) 2) in
       let v = enum-visit e (p .is) in
       let s = ap sizes a in
       let t = ap viss a in
-      subst (λ (x : ℕ). EnumVisit n x e) (sym q)
+      at-list img (EnumVisit n e) q
       (record {
         run = record {
           run = run-tail img (p .is) refl refl;
@@ -277,7 +284,7 @@ module _ (img : List ℕ) where
       ap (λ (l : Listed). andThen img l (visitAll img (items img n count j))) (enter-start img n j count e)
       ∙ ap (λ (k : Walked → Listed). andThen img (restEnter img n j count 0 e) k) (fun-ext (λ f. visit-start n j count f))
 
-  model-visit : {n : ℕ} (e : Walked) → Is img (kindOf 8) n
+  model-visit : {n : ℕ} (e : Walked) → Is img (kindOf modelDeclKind) n
       → (visit img (treeAt img n) e ≡ andThen img (andThen img (enterAll img (listTrees n) (opened img n e)) (λ f. visitAll img (listTrees n) f)) (λ f. done (back img (e .scope) f)))
       × (size (treeAt img n) ≡ suc (sizes (listTrees n))) × (vis (treeAt img n) ≡ ents (listTrees n) + viss (listTrees n))
   unfolding visit vis size nodeOf kindOf
@@ -291,21 +298,23 @@ module _ (img : List ℕ) where
   unfolding childScope
   opened-is n e {f} {g} p q = q ∙ ap (λ (k : Walked). marked img n (k .scope) k) p
 
-  pub record ModelVisit (n count : ℕ) (e g : Walked) : Type 0 where
-    pub list : ListRun img n 2 count g
-    pub back-in : {r : Declared} {us vs : List ℕ} (v w : InCode) → r ≡ Done w → Visits img (overList img n 2 count g) us r vs → us ≡ g .table .words
+  pub record ModelVisit (n : ℕ) (e g : Walked) (m j count : ℕ) : Type 0 where
+    pub own : m ≡ n
+    pub list : ListRun img m j count g
+    pub back-in : {r : Declared} {us vs : List ℕ} (v w : InCode) → r ≡ Done w → Visits img (overList img m j count g) us r vs → us ≡ g .table .words
         → walkedOf v vs ≡ back img (e .scope) (walkedOf w vs) → Visits img (visit img (treeAt img n) e) (e .table .words) (Done v) vs
-    pub stop : {r : Declared} {us vs : List ℕ} (x : ℕ) (a b : NodeId) → r ≡ Twice x a b → Visits img (overList img n 2 count g) us r vs → us ≡ g .table .words
+    pub stop : {r : Declared} {us vs : List ℕ} (x : ℕ) (a b : NodeId) → r ≡ Twice x a b → Visits img (overList img m j count g) us r vs → us ≡ g .table .words
         → Visits img (visit img (treeAt img n) e) (e .table .words) (Twice x a b) vs
 
-  pub model-room : {n : ℕ} {e : Walked} → Visit img (kindOf 8) n e → e .table .scopes + 1 < 2 ^ 32
+  pub model-room : {n : ℕ} {e : Walked} → Visit img (kindOf modelDeclKind) n e → e .table .scopes + 1 < 2 ^ 32
   model-room {n} {e} p = let z = (model-visit e (p .is)) .1 in let f = p .fits .scopes in let w = (sized img (p .is .accepted)) .fewNodes in omega arith
 
-  pub modelVisit : {n count : ℕ} {e g : Walked} → Visit img (kindOf 8) n e → count ≡ field img n 1 → g ≡ opened img n e → ModelVisit n count e g
+  pub modelVisit : {n : ℕ} {e g : Walked} {l : NodeList} → Visit img (kindOf modelDeclKind) n e → ListedAt img n 1 l → g ≡ opened img n e → ModelVisit n e g (l .node .0) (l .first) (l .count)
   unfolding next kindOf
-  modelVisit {n} {count} {e} {g} p q o =
-      subst (λ (x : ℕ). ModelVisit n x e g) (sym q) (subst (ModelVisit n (field img n 1) e) (sym o)
+  modelVisit {n} {e} {g} p q o =
+      at-list img (ModelVisit n e g) q (subst (λ (f : Walked). ModelVisit n e f n 2 (field img n 1)) (sym o)
       (record {
+        own = refl;
         list = record {
           run = run-tail img (p .is) refl refl;
           fits = record { scopes = (let f = p .fits .scopes in let x = c in let y = s in omega arith); symbols = (let f = p .fits .symbols in let x = c in let y = s in omega arith); kept = new .kept };
@@ -347,7 +356,7 @@ module _ (img : List ℕ) where
           ∙ ap (λ (l : Listed). andThen img l (λ f. done (back img (e .scope) f))) (over-start n 2 (field img n 1) m)
 
   -- the names of a list
-  pub list-enter : {n j count : ℕ} {e : Walked} (seen : List ℕ) → ListRun img n j count e → EnterRun img seen n j count e
+  pub list-enter : {n j count : ℕ} {e : Walked} (seen : List ℕ) → ListRun img n j count e → EnterRun img seen declKind n j count e
   list-enter {n} {j} {count} {e} seen p =
       record {
         run = p .run;
@@ -362,7 +371,7 @@ module _ (img : List ℕ) where
 
   -- then its declarations
   pub record ListVisit (n j count : ℕ) (e : Walked) (us : List ℕ) (w : InCode) (ws : List ℕ) : Type 0 where
-    pub run : VisitRun img 1 n j count (walkedOf w ws)
+    pub run : VisitRun img declKind n j count (walkedOf w ws)
     pub visits : {r : Declared} {vs : List ℕ} → Visits img (restVisit img n j count 0 (walkedOf w ws)) ws r vs → Visits img (overList img n j count e) us r vs
 
   pub listVisit : {n j count : ℕ} {e : Walked} {seen ws : List ℕ} {r : Declared} (w : InCode) → ListRun img n j count e → r ≡ Done w → Enters img (restEnter img n j count 0 e) (e .table .words) r seen ws

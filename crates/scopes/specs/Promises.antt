@@ -8,10 +8,12 @@ use lib.ListN.{length, getD, set, drop}
 use Rattle.ast.specs.Declarations.{declared, declaredAll}
 use Rattle.ast.specs.Image.{nodes, kindAt, nameOf}
 use Rattle.ast.specs.Is.{Is, Run}
+use Rattle.ast.specs.Named.{declKind}
 use Rattle.ast.specs.Items.{items}
 use Rattle.ast.specs.Kinds.{outer, inner, root, decl, signature, rule, enum, model, Kind, kindOf}
 use Rattle.ast.specs.Tests.{verdict}
 use Rattle.ast.specs.Tree.{Tree, node, block, Trees, none, _◂_, treeAt, size, sizes}
+use Rattle.typed.specs.declared.nodes.NodeList.{NodeList}
 use Rattle.table.specs.Layout.{tableLength}
 use Rattle.table.specs.Rising.{scopeOf, nodeAt}
 use Rattle.table.specs.State.{Walked}
@@ -71,6 +73,16 @@ module _ (img : List ℕ) where
   abbrev pub overList : (n j count : ℕ) → Walked → Listed
   overList n j count e = andThen img (restEnter n j count 0 e) (restVisit n j count 0)
 
+  -- the same of the nodes of a list
+  abbrev pub enterList : NodeList → Walked → Listed
+  enterList l e = restEnter (l .node .0) (l .first) (l .count) 0 e
+
+  abbrev pub visitList : NodeList → Walked → Listed
+  visitList l e = restVisit (l .node .0) (l .first) (l .count) 0 e
+
+  abbrev pub wholeList : NodeList → Walked → Listed
+  wholeList l e = overList (l .node .0) (l .first) (l .count) e
+
   -- each row of the scope that the walk stands in has its name stamped with the scope's number plus 1
   pub record Seen (seen : List ℕ) (e : Walked) : Type 0 where
     pub stamped : (j : ℕ) → j < e .table .symbols → scopeOf (nodes img) (e .table .words) j ≡ e .scope
@@ -84,6 +96,11 @@ module _ (img : List ℕ) where
     pub room : e .table .symbols + m ≤ nodes img
     pub long : tableLength (nodes img) ≤ length (e .table .words)
     pub stamps : Seen seen e
+
+  -- the name x of node n may be entered
+  pub record Naming (seen : List ℕ) (x n : ℕ) (e : Walked) : Type 0 where
+    pub name : x ≡ nameOf img n
+    pub entering : Entering seen 1 e
 
   -- what entering hands back: the definition's, with the stamps of what was entered, and the words past the table as they were
   pub record Enters (l : Listed) (ws : List ℕ) (r : Declared) (seen vs : List ℕ) : Type 0 where
@@ -119,8 +136,8 @@ module _ (img : List ℕ) where
     pub fits : Fits (size (treeAt img n)) (vis (treeAt img n)) e
 
   -- what entering the names of a list asks
-  pub record EnterRun (seen : List ℕ) (n j count : ℕ) (e : Walked) : Type 0 where
-    pub run : Run img 1 n j count
+  pub record EnterRun (seen : List ℕ) (k n j count : ℕ) (e : Walked) : Type 0 where
+    pub run : Run img k n j count
     pub entering : Entering seen (ents (items img n count j)) e
 
   -- what visiting the declarations of a list asks
@@ -130,10 +147,20 @@ module _ (img : List ℕ) where
 
   -- what the whole list asks: the walk stands in the newest scope, which has no row yet
   pub record ListRun (n j count : ℕ) (e : Walked) : Type 0 where
-    pub run : Run img 1 n j count
+    pub run : Run img declKind n j count
     pub fits : Fits (sizes (items img n count j)) (ents (items img n count j) + viss (items img n count j)) e
     pub newest : suc (e .scope) ≡ e .table .scopes
     pub fresh : (j : ℕ) → j < e .table .symbols → scopeOf (nodes img) (e .table .words) j < e .scope
+
+  -- the same of the nodes of a list
+  abbrev pub EnterAll : List ℕ → ℕ → NodeList → Walked → Type 0
+  EnterAll seen k l e = EnterRun seen k (l .node .0) (l .first) (l .count) e
+
+  abbrev pub VisitAll : ℕ → NodeList → Walked → Type 0
+  VisitAll k l e = VisitRun k (l .node .0) (l .first) (l .count) e
+
+  abbrev pub WholeAll : NodeList → Walked → Type 0
+  WholeAll l e = ListRun (l .node .0) (l .first) (l .count) e
 
 -- an accepted image, and a table of enough words
 pub record Lent (img ws : List ℕ) : Type 0 where

@@ -16,8 +16,8 @@ returns c = resolve-refused _ _ _ (c .before .test-table .ensures) (c .if1 .take
 resolve-into-requires : tie.Need-resolve-into-requires
 resolve-into-requires c κs = sym (c .before .before .test-table .ensures) ∙ c .before .if1 .left
 
-enum-known-w : tie.Need-enum-known-w
-enum-known-w c = search needs
+enum-known-walked : tie.Need-enum-known-walked
+enum-known-walked c = search needs
 
 enum-known-name : tie.Need-enum-known-name
 enum-known-name c = search needs
@@ -26,7 +26,7 @@ same-length-2 : tie.Need-same-length-2
 same-length-2 c = search needs
 
 returns-2 : tie.Need-returns-2
-returns-2 c = resolve-done _ _ (sym (c .before .before .before .before .before .before .before .before .test-table .ensures) ∙ c .before .before .before .before .before .before .before .if1 .left) (c .before .before .before .before .before .resolve-into .ensures) (c .before .w .given .1)
+returns-2 c = resolve-done _ _ (sym (c .before .before .before .before .before .before .before .before .test-table .ensures) ∙ c .before .before .before .before .before .before .before .if1 .left) (c .before .before .before .before .before .resolve-into .ensures) (c .before .walked .given .1)
 
 same-length-3 : tie.Need-same-length-3
 same-length-3 c = search needs
@@ -42,7 +42,7 @@ resolve-scopes-spec =
     same-length
     returns
     resolve-into-requires
-    enum-known-w
+    enum-known-walked
     enum-known-name
     same-length-2
     returns-2
