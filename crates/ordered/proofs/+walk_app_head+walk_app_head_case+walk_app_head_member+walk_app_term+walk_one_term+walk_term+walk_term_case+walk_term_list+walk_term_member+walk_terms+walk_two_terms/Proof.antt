@@ -1,6 +1,5 @@
 use mathlib.Core.Path.{refl, sym, ap, subst, _∙_}
 use native.Mathlib.Omega.{arith}
-use Prim.Native.Nat.{_+_, _*_, _-_}
 use Rattle.ast.specs.Kinds.{kindOf}
 use Rattle.table.specs.State.{Walked, marked, unmarked}
 use Rattle.table.specs.Values.{walkedOf}
@@ -9,7 +8,7 @@ use Rattle.ordered.specs.Promises.{Ready, over, rest}
 use Rattle.ordered.proofs.Steps.{one, two, memberOf, term-whole, head-whole, term-wrapped, term-wild, head-wrapped, head-ident}
 use Rattle.ordered.proofs.Lists.{Left, rest-end, headMemberOf, listOf, runItem}
 use Rattle.typed.proofs.Enums.{term-is, app-head-is}
-use Prim.Native.Nat.{ℕ, _<_}
+use Prim.Native.Nat.{ℕ, _+_, _*_, _-_, _<_}
 use borrow.Fn.Kinds.{In}
 use borrow.Fn.PlainCycle.{Measures, is, falls, and}
 use Rattle.ordered.proofs.walk_app_head.Reads as walk-app-head
