@@ -2,6 +2,7 @@
 use mathlib.Core.Path.{_≡_, refl, sym, ap, subst, _∙_}
 use mathlib.Core.List.{List}
 use Prim.Native.Nat.{ℕ, suc, _+_, _-_, _<_, _≤_}
+use native.Mathlib.Omega.{arith}
 use native.Mathlib.Nat.{sub-zero}
 use lib.ListN.{length}
 use Rattle.ast.specs.Image.{field}
@@ -86,50 +87,59 @@ module _ (img : List ℕ) where
   unfolding walk blocks
   blocks-step n c j e = ap (λ (f : Walked). walkSeq img occurs (blocks img n c (j + 1 + field img n j)) (back img (e .scope) f)) (rest-start img occurs n (j + 1) (field img n j) e)
 
-  pub blocks-end : (n c j : ℕ) (e : Walked) → c ≡ 0 → walkSeq img occurs (blocks img n c j) e ≡ e
+  blocks-end : (n c j : ℕ) (e : Walked) → c ≡ 0 → walkSeq img occurs (blocks img n c j) e ≡ e
   unfolding walk blocks
   blocks-end n c j e h = ap (λ (x : ℕ). walkSeq img occurs (blocks img n x j) e) h
 
+  -- the walk over the blocks that a branch's read hands back
+  abbrev overBlocks : NodeList → Walked → Walked
+  overBlocks bs e = walkSeq img occurs (blocks img (bs .node .0) (bs .count) (bs .first)) e
+
+  blocks-listed : {n : ℕ} {bs : NodeList} (e : Walked) → Listed img n 0 bs → walkSeq img occurs (blocks img n (field img n 0) 1) e ≡ overBlocks bs e
+  blocks-listed {n} e q = at-list img (λ m j c. walkSeq img occurs (blocks img n (field img n 0) 1) e ≡ walkSeq img occurs (blocks img m c j) e) q refl
+
   -- a loop over blocks: after i of them it stands at place j and at f
-  pub record BlocksLeft (n i j : ℕ) (e f : Walked) : Type 0 where
-    pub from : BlocksFrom img n (field img n 0) i j
+  pub record BlocksLeft (bs : NodeList) (i j : ℕ) (e f : Walked) : Type 0 where
+    pub from : BlocksFrom img (bs .node .0) (bs .count) i j
     pub long : length (f .table .words) ≡ length (e .table .words)
-    pub left : walkSeq img occurs (blocks img n (field img n 0) 1) e ≡ walkSeq img occurs (blocks img n (field img n 0 - i) j) f
+    pub left : overBlocks bs e ≡ walkSeq img occurs (blocks img (bs .node .0) (bs .count - i) j) f
 
-  pub branch-start : {n j : ℕ} {e : Walked} → Is img (kindOf 39) n → j ≡ 1 → BlocksLeft n 0 j e e
-  branch-start {n} {j} {e} is q =
-      subst (λ (x : ℕ). BlocksLeft n 0 x e e) (sym q)
-      (record { from = blocks-from img is refl; long = refl; left = ap (λ (c : ℕ). walkSeq img occurs (blocks img n c 1) e) (sym (sub-zero (field img n 0))) })
+  pub branch-start : {n : ℕ} {bs : NodeList} {e : Walked} → Is img (kindOf 39) n → Listed img n 0 bs → BlocksLeft bs 0 (bs .first) e e
+  branch-start {bs = bs} {e} is q =
+      record {
+        from = at-list img (λ m j c. BlocksFrom img m c 0 j) q (blocks-from img is refl);
+        long = refl;
+        left = ap (λ (c : ℕ). walkSeq img occurs (blocks img (bs .node .0) c (bs .first)) e) (sym (sub-zero (bs .count)));
+      }
 
-  pub branch-place : {n i j : ℕ} {e f : Walked} → BlocksLeft n i j e f → j ≤ 8192
+  pub branch-place : {bs : NodeList} {i j : ℕ} {e f : Walked} → BlocksLeft bs i j e f → j ≤ 8192
   branch-place p = blocks-place img (p .from)
 
-  -- one block more: s items of m's row from place k on
-  pub record BlockItem (n i m k s : ℕ) (e f : Walked) : Type 0 where
-    pub run : ReadyRun img 36 m k s f
-    pub more : (g : Walked) → g ≡ back img (f .scope) (rest img occurs m k s 0 f) → length (g .table .words) ≡ length (e .table .words) → BlocksLeft n (i + 1) (k + s) e g
+  pub branch-end : {n i j : ℕ} {bs : NodeList} {e f : Walked} → Listed img n 0 bs → BlocksLeft bs i j e f → bs .count ≤ i → f ≡ walkSeq img occurs (blocks img n (field img n 0) 1) e
+  branch-end {i = i} {j} {bs} {e} {f} q b h = sym (blocks-listed e q ∙ b .left ∙ blocks-end (bs .node .0) (bs .count - i) j f (omega arith))
 
-  -- bs are the branch's blocks, l the one at j
-  pub blockItem : {n i j : ℕ} {bs l : NodeList} {e f : Walked} → Ready img (kindOf 39) n e → Listed img n 0 bs → BlocksLeft n i j e f → i < bs .count → Listed img (bs .node .0) j l
-      → BlockItem n i (l .node .0) (l .first) (l .count) e f
+  -- one block more: s items of m's row from place k on
+  pub record BlockItem (bs : NodeList) (i m k s : ℕ) (e f : Walked) : Type 0 where
+    pub run : ReadyRun img 36 m k s f
+    pub more : (g : Walked) → g ≡ back img (f .scope) (rest img occurs m k s 0 f) → length (g .table .words) ≡ length (e .table .words) → BlocksLeft bs (i + 1) (k + s) e g
+
+  pub blockItem : {n i j : ℕ} {bs l : NodeList} {e f : Walked} → Ready img (kindOf 39) n e → Listed img n 0 bs → BlocksLeft bs i j e f → i < bs .count → Listed img (bs .node .0) j l
+      → BlockItem bs i (l .node .0) (l .first) (l .count) e f
   blockItem {n} {i} {j} {bs} {l} {e} {f} p q b h r =
-      at-list img (λ m k s. BlockItem n i m k s e f) (subst (λ (x : ℕ). Listed img x j l) (q .node) r)
+      at-list img (λ m k s. BlockItem bs i m k s e f) r
       (record {
-        run = record { run = k .run; room = part-room img p (branch-whole e (p .is) ∙ ap (marked img n (e .scope)) m) (further (back-grows img (f .scope) (stays _)) (blocks-grows n c (j + 1 + z) _)) };
-        more = λ g w long. record { from = k .from; long = long; left = m ∙ ap (walkSeq img occurs (blocks img n c (j + 1 + z))) (sym w) };
+        run = record { run = k .run; room = part-room img p (branch-whole e (p .is) ∙ ap (marked img n (e .scope)) (blocks-listed e q ∙ m)) (further (back-grows img (f .scope) (stays _)) (blocks-grows (bs .node .0) c (j + 1 + z) _)) };
+        more = λ g w long. record { from = k .from; long = long; left = m ∙ ap (walkSeq img occurs (blocks img (bs .node .0) c (j + 1 + z))) (sym w) };
       })
     where
       z : ℕ
-      z = field img n j
+      z = field img (bs .node .0) j
 
       c : ℕ
-      c = field img n 0 - (i + 1)
+      c = bs .count - (i + 1)
 
-      under : i < field img n 0
-      under = subst (λ (x : ℕ). i < x) (q .count) h
+      k : NextBlock img (bs .node .0) (bs .count) i j
+      k = next-block img (b .from) h
 
-      k : NextBlock img n (field img n 0) i j
-      k = next-block img (b .from) under
-
-      m : walkSeq img occurs (blocks img n (field img n 0) 1) e ≡ walkSeq img occurs (blocks img n c (j + 1 + z)) (back img (f .scope) (rest img occurs n (j + 1) z 0 f))
-      m = b .left ∙ ap (λ (x : ℕ). walkSeq img occurs (blocks img n x j) f) (one-more under) ∙ blocks-step n c j f
+      m : overBlocks bs e ≡ walkSeq img occurs (blocks img (bs .node .0) c (j + 1 + z)) (back img (f .scope) (rest img occurs (bs .node .0) (j + 1) z 0 f))
+      m = b .left ∙ ap (λ (x : ℕ). walkSeq img occurs (blocks img (bs .node .0) x j) f) (one-more h) ∙ blocks-step (bs .node .0) c j f
