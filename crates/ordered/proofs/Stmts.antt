@@ -32,6 +32,7 @@ module _ (img : List ℕ) where
       ap (λ (u : Tree). walk img occurs u e) (tree-of img is)
       ∙ ap (λ (us : Trees). marked img n (e .scope) (back img (e .scope) (walkSeq img occurs us (over img (field img n 0) e)))) (append-none (items img n (field img n 1) 2))
 
+  -- c is its pattern, its statements are count items of m's row from place j on
   pub record MatchCase (n c m j count : ℕ) (e : Walked) : Type 0 where
     pub first : Ready img (kindOf 12) c e
     pub second : ReadyRun img 36 m j count (over img c e)
@@ -50,6 +51,7 @@ module _ (img : List ℕ) where
       }))
 
   -- a match: its term, then its cases, each of which drops what it adds ------------------------------------------------
+  -- c is its term, its cases are count items of m's row from place j on
   pub record MatchOf (n c m j count : ℕ) (e : Walked) : Type 0 where
     pub first : Ready img (kindOf 12) c e
     pub second : ReadyRun img 35 m j count (over img c e)
