@@ -1,6 +1,6 @@
 -- The words and the names of a row: it ends past its location, the names that it holds, and the name of a node.
-use mathlib.Core.Bool.{Bool, true, false, not, _||_}
-use mathlib.Core.Path.{_≡_}
+use mathlib.Core.Bool.{Bool, true, false, not, _||_, true≢false}
+use mathlib.Core.Path.{_≡_, refl, sym, ap, _∙_}
 use mathlib.Core.List.{List, [], _∷_, _++_}
 use Prim.Native.Nat.{ℕ, zero, suc, _+_, _-_, _<_, _≤_}
 use native.Mathlib.Nat.{add-zero}
@@ -8,12 +8,13 @@ use native.Mathlib.Omega.{arith}
 use lib.Dec.{T, eqb, eqb→eq}
 use lib.ListN.{getD}
 use Rattle.ast.specs.Image.{names, kindAt, startAt, opAt, field, nameOf}
+use Rattle.ast.specs.Is.{Is}
 use Rattle.ast.specs.Kinds.{Field, name, optName, child, optChild, list, lists, cases, noChild, Kind, kinds, kindOf}
 use Rattle.ast.specs.Rows.{after, afterBlocks, afterFields, fieldsAt}
 use Rattle.ast.proofs.Formed.{FormedField, FormedFields}
 use Rattle.ast.proofs.Unfold.{All, nil, cons, All-append}
 use Rattle.ast.proofs.Vars.{every-kind}
-use Rattle.ast.proofs.Words.{name-rule, name-arg}
+use Rattle.ast.proofs.Words.{name-rule, name-arg, name-plain}
 
 module _ (img : List ℕ) where
   -- the name numbers that a row holds
@@ -118,3 +119,11 @@ module _ (img : List ℕ) (n : ℕ) where
       go true b f g t = name-rule img n (f tt)
       go false true f g t = name-arg img n (g tt)
       go false false f g t = absurd t
+
+  -- an ident term's row is its name
+  pub ident-word : Is img (kindOf 13) n → nameOf img n ≡ field img n 0
+  unfolding optFirst kindOf
+  ident-word is = name-plain img n (λ h. other 6 h refl) (λ h. other 10 h refl)
+    where
+      other : (k : ℕ) → kindAt img n ≡ k → optFirst (kindOf k .fields) ≡ true → ⊥
+      other k h e = true≢false (sym e ∙ ap (λ (j : ℕ). optFirst (kindOf j .fields)) (sym h) ∙ ap (λ (kd : Kind). optFirst (kd .fields)) (is .kind))

@@ -5,7 +5,7 @@ use mathlib.Core.List.{List, [], _∷_}
 use Prim.Native.Nat.{ℕ, zero, suc, _<_}
 use native.Mathlib.Omega.{arith}
 use lib.Dec.{eqb}
-use lib.ListN.{length, getD}
+use lib.ListN.{getD}
 use Rattle.ast.specs.Image.{field, nameOf}
 use Rattle.ast.specs.Is.{kindBy, Is}
 use Rattle.ast.specs.Kinds.{inner, plain, Field, name, cases, noChild, kindOf}
@@ -13,7 +13,7 @@ use Rattle.ast.specs.Tree.{Tree, Trees, none, _◂_, swap, ordered, treeAt}
 use Rattle.table.specs.State.{Walked, introduce, marked}
 use Rattle.table.specs.Table.{climb, isKind}
 use Rattle.ast.proofs.Row.{append, next, nodeOf, Child, FormedFields}
-use Rattle.ast.proofs.Shapes.{row, tree-of, child-is, case-last, termKinds, term-last}
+use Rattle.ast.proofs.Shapes.{row, tree-of, child-is, termKinds, term-last}
 use Rattle.ordered.specs.Walk.{Role, occurs, declares, defines, walkIdent, walk, walkFirst}
 use Rattle.ordered.specs.Promises.{over, inside, Room, Ready, Variable}
 use Rattle.ordered.proofs.Grows.{stays, marked-grows}
@@ -36,9 +36,6 @@ module _ (img : List ℕ) where
         ready = record { is = k .is; room = part-room img p (plain-whole img e (p .is) ∙ ap (marked img n (e .scope)) (k .inner)) (stays _) };
         inner = k .inner;
       }
-
-  pub plain-last : (ks : List ℕ) {n : ℕ} → Is img (kindBy (inner plain) (cases ks ∷ [])) n → field img n 0 < length ks
-  plain-last ks is = case-last img (inner plain) ks is
 
   -- the term of a variable: an ident that is looked up from the scope b, or any other term ------------------------------
   pub var-known : (n b : ℕ) (e : Walked) (x : ℕ) → x ≡ nameOf img n → isKind img 13 (climb img (suc b) (e .table .words) (e .table .symbols) b x) ≡ true → walkIdent img (defines b) n e ≡ e
@@ -189,14 +186,3 @@ module _ (img : List ℕ) where
       go : (x : ℕ) → field img n 0 ≡ x → Room img (over img (field img n 1) e)
       go zero z = part-room img p (w0 z) (stays _)
       go (suc m) s = part-room img p (w1 m s) (tree-grows img _ _ _)
-
-  -- a type expression that is no member
-  pub type-leaf : {n d : ℕ} (e : Walked) → Ready img (kindOf 23) n e → (field img n 0 ≡ 1 → ⊥) → d ≡ field img n 1 → inside img occurs n e ≡ marked img d (e .scope) e
-  unfolding kindOf
-  type-leaf {n} {d} e p z q2 = go (field img n 0) refl (plain-last (24 ∷ 17 ∷ 25 ∷ []) (p .is)) z
-    where
-      go : (c : ℕ) → c ≡ field img n 0 → c < 3 → (c ≡ 1 → ⊥) → inside img occurs n e ≡ marked img d (e .scope) e
-      go zero q l y = let w = plain-wrapped (24 ∷ 17 ∷ 25 ∷ []) p 0 q q2 refl in w .inner ∙ leaf-step e (w .ready .is)
-      go (suc zero) q l y = absurd (y refl)
-      go (suc (suc zero)) q l y = let w = plain-wrapped (24 ∷ 17 ∷ 25 ∷ []) p 2 q q2 refl in w .inner ∙ leaf-step e (w .ready .is)
-      go (suc (suc (suc c))) q l y = absurd (omega arith)

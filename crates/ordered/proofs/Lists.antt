@@ -7,13 +7,16 @@ use native.Mathlib.Nat.{add-zero, sub-zero}
 use lib.ListN.{length}
 use Rattle.ast.specs.Image.{field}
 use Rattle.ast.specs.Items.{items}
-use Rattle.ast.specs.Is.{Is, kindBy}
+use Rattle.ast.specs.Is.{Is, Run, kindBy}
 use Rattle.ast.specs.Kinds.{inner, plain, list, kindOf}
 use Rattle.ast.specs.Tree.{Tree, Trees, treeAt}
+use Rattle.typed.specs.RowShapes.{Listed, WordList}
+use Rattle.typed.specs.declared.nodes.NodeList.{NodeList}
 use Rattle.table.specs.State.{Walked, marked, unmarked}
 use Rattle.ast.proofs.Row.{append-none, Child, FormedFields, next, nodeOf}
-use Rattle.ast.proofs.Shapes.{row, tree-of, child-is, items-more, run-item, run-list}
+use Rattle.ast.proofs.Shapes.{row, tree-of, child-is, items-more, run-item, run-list, run-tail}
 use Rattle.ast.proofs.Small.{items-small}
+use Rattle.typed.proofs.Lists.{at-list}
 use Rattle.ordered.specs.Walk.{Role, occurs, names, walk, walkSeq}
 use Rattle.ordered.specs.Promises.{over, rest, Ready, ReadyRun}
 use Rattle.ordered.proofs.Grows.{Grows, stays, unmarked-grows, seq-grows}
@@ -38,7 +41,7 @@ module _ (img : List ℕ) where
   unfolding rest
   rest-grows r n j count i e = seq-grows img r _ (items-small img n (count - i) (j + i)) e
 
-  pub list-whole : {k n : ℕ} (e : Walked) → Is img (kindBy (inner plain) (list k ∷ [])) n → over img n e ≡ marked img n (e .scope) (rest img occurs n 1 (field img n 0) 0 e)
+  list-whole : {k n : ℕ} (e : Walked) → Is img (kindBy (inner plain) (list k ∷ [])) n → over img n e ≡ marked img n (e .scope) (rest img occurs n 1 (field img n 0) 0 e)
   unfolding walk nodeOf rest
   list-whole {k} {n} e is =
       ap (λ (u : Tree). walk img occurs u e) (tree-of img is)
@@ -66,17 +69,22 @@ module _ (img : List ℕ) where
         more = m;
       })
 
-  -- a plain list as a run of its items
-  pub list-run : {k n count : ℕ} {e : Walked} → Ready img (kindBy (inner plain) (list k ∷ [])) n e → count ≡ field img n 0 → ReadyRun img k n 1 count e
-  list-run {k} {n} {count} {e} p q =
-      subst (λ (x : ℕ). ReadyRun img k n 1 x e) (sym q)
-      (record { run = run-list img (p .is) refl; room = part-room img p (list-whole e (p .is)) (stays _) })
+  -- a plain list: the nodes that its read hands back, and the walk over it
+  pub record ListOf (k n m j count : ℕ) (e : Walked) : Type 0 where
+    pub at : m ≡ n
+    pub run : ReadyRun img k m j count e
+    pub whole : over img n e ≡ marked img n (e .scope) (rest img occurs m j count 0 e)
+
+  pub listOf : {k n : ℕ} {l : NodeList} {e : Walked} → Ready img (kindBy (inner plain) (list k ∷ [])) n e → Listed img n 0 l → ListOf k n (l .node .0) (l .first) (l .count) e
+  listOf {k} {n} {l} {e} p q = at-list img (λ m j c. ListOf k n m j c e) q (let w = list-whole e (p .is) in
+      record { at = refl; run = record { run = run-list img (p .is) refl; room = part-room img p w (stays _) }; whole = w })
 
   -- an app head's member: a term, and names that introduce nothing -----------------------------------------------------
-  pub record HeadMember (n c : ℕ) (e : Walked) : Type 0 where
+  pub record HeadMember (n c m j count : ℕ) (e : Walked) : Type 0 where
     pub low : c < n
     pub first : Ready img (kindOf 12) c e
-    pub whole : over img n e ≡ unmarked img n (rest img names n 2 (field img n 1) 0 (over img c e))
+    pub idents : Run img 13 m j count
+    pub whole : over img n e ≡ unmarked img n (rest img names m j count 0 (over img c e))
 
   headMember-whole : {n : ℕ} (e : Walked) → Is img (kindOf 16) n → over img n e ≡ unmarked img n (rest img names n 2 (field img n 1) 0 (over img (field img n 0) e))
   unfolding walk nodeOf kindOf rest
@@ -84,24 +92,23 @@ module _ (img : List ℕ) where
       ap (λ (u : Tree). walk img occurs u e) (tree-of img is)
       ∙ ap (λ (us : Trees). unmarked img n (walkSeq img names us (over img (field img n 0) e))) (append-none _ ∙ ap (λ (c : ℕ). items img n c 2) (sym (sub-zero (field img n 1))))
 
-  pub headMemberOf : {n c : ℕ} {e : Walked} → Ready img (kindOf 16) n e → c ≡ field img n 0 → HeadMember n c e
-  unfolding FormedFields kindOf
-  headMemberOf {n} {c} {e} p q =
+  pub headMemberOf : {n c : ℕ} {l : NodeList} {e : Walked} → Ready img (kindOf 16) n e → WordList img n c l → HeadMember n c (l .node .0) (l .first) (l .count) e
+  unfolding FormedFields next kindOf
+  headMemberOf {n} {c} {l} {e} p q =
       let h : Child img n 12 (field img n 0) = (row img (p .is)) .0 in
       let w = headMember-whole e (p .is) in
-      subst (λ (i : ℕ). HeadMember n i e) (sym q)
+      at-list img (λ m j k. HeadMember n c m j k e) (q .list) (subst (λ (i : ℕ). HeadMember n i n 2 (field img n 1) e) (sym (q .first))
       (record {
         low = h .below;
         first = record { is = child-is img (p .is) h; room = room-in img w (unmarked-grows img (p .is .below) (rest-grows names n 2 (field img n 1) 0 _)) (p .room) };
+        idents = run-tail img (p .is) refl refl;
         whole = w;
-      })
+      }))
 
   -- a name of it, marked
-  pub name-more : {n i c : ℕ} (e f : Walked) → Is img (kindOf 16) n → i < field img n 1 → c ≡ field img n (2 + i)
-      → rest img names n 2 (field img n 1) 0 e ≡ rest img names n 2 (field img n 1) i f
-      → rest img names n 2 (field img n 1) 0 e ≡ rest img names n 2 (field img n 1) (i + 1) (marked img c (f .scope) f)
-  unfolding FormedFields next kindOf
-  name-more {n} {i} {c} e f is l q w =
-      let h : Child img n 13 (field img n (2 + i)) = (row img is) .1 .0 i l in
-      w ∙ rest-more names n 2 (field img n 1) i f l
-      ∙ ap (rest img names n 2 (field img n 1) (i + 1)) (name-step img f (child-is img is h) ∙ ap (λ (x : ℕ). marked img x (f .scope) f) (sym q))
+  pub name-more : {n j count i c : ℕ} (e f : Walked) → Run img 13 n j count → i < count → c ≡ field img n (j + i)
+      → rest img names n j count 0 e ≡ rest img names n j count i f
+      → rest img names n j count 0 e ≡ rest img names n j count (i + 1) (marked img c (f .scope) f)
+  name-more {n} {j} {count} {i} {c} e f p l q w =
+      w ∙ rest-more names n j count i f l
+      ∙ ap (rest img names n j count (i + 1)) (name-step img f ((run-item img p l refl) .1) ∙ ap (λ (x : ℕ). marked img x (f .scope) f) (sym q))

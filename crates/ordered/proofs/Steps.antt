@@ -2,11 +2,9 @@
 use mathlib.Core.Path.{_≡_, refl, sym, ap, subst, _∙_}
 use mathlib.Core.Bool.{Bool, true, false}
 use mathlib.Core.Option.{Option}
-use mathlib.Core.Logic.{⊎-elim}
 use mathlib.Core.List.{List, [], _∷_}
-use Prim.Native.Nat.{ℕ, suc, _-_, _<_, _≤_}
+use Prim.Native.Nat.{ℕ, suc, _<_}
 use native.Mathlib.Omega.{arith}
-use native.Mathlib.Nat.{eq-or-lt-of-le}
 use lib.Dec.{eqb}
 use lib.ListN.{getD}
 use Rattle.ast.specs.Image.{nodes, field, nameOf}
@@ -212,15 +210,6 @@ module _ (img : List ℕ) where
         ready = record { is = k .is; room = part-room p (term-whole e (p .is) ∙ ap (marked img n (e .scope)) (k .inner)) (stays _) };
         inner = k .inner;
       }
-
-  -- Dom, Cod and Id have one form of row
-  pub term-wrapped-one : {n d x : ℕ} {e : Walked} → Ready img (kindOf 12) n e → 4 ≤ x → x ≤ 6 → x ≡ field img n 0 → d ≡ field img n 1
-      → Wrapped occurs (kindBy (inner plain) (child 12 ∷ [])) n d e
-  unfolding kindOf
-  term-wrapped-one {x = x} p l h q q2 =
-      ⊎-elim (λ i. term-wrapped p 4 (i ∙ q) q2 refl)
-      (λ m. ⊎-elim (λ i. term-wrapped p 5 (i ∙ q) q2 refl) (λ m2. term-wrapped p 6 ((let z : 6 ≡ x = omega arith in z) ∙ q) q2 refl) (eq-or-lt-of-le m))
-      (eq-or-lt-of-le l)
 
   pub head-wrapped : {n d : ℕ} {e : Walked} → Ready img (kindOf 15) n e → (c : ℕ) → suc c ≡ field img n 0 → d ≡ field img n 1 → eqb (getD headKinds (suc c) noChild) noChild ≡ false
       → Wrapped (headRole img (field img n 0 ∷ [])) (kindOf (getD headKinds (suc c) noChild)) n d e

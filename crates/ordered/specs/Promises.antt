@@ -7,6 +7,8 @@ use Rattle.ast.specs.Kinds.{Kind, kindOf}
 use Rattle.ast.specs.Tree.{treeAt}
 use Rattle.ast.specs.Items.{items, below}
 use Rattle.ast.specs.Is.{Is, Run}
+use Rattle.ast.specs.Named.{termKind}
+use Rattle.typed.specs.declared.nodes.NodeList.{NodeList}
 use Rattle.table.specs.Table.{Table}
 use Rattle.table.specs.Rising.{Sorted}
 use Rattle.table.specs.State.{Walked}
@@ -25,6 +27,10 @@ module _ (img : List ℕ) where
   unfoldable pub rest : Role → (n j count i : ℕ) → Walked → Walked
   unfolding items
   rest r n j count i e = walkSeq img r (items img n (count - i) (j + i)) e
+
+  -- the walk over the nodes of a list
+  abbrev pub overAll : Role → NodeList → Walked → Walked
+  overAll r l e = rest r (l .node .0) (l .first) (l .count) 0 e
 
 -- the counts are within the arrays
 pub record Few (img : List ℕ) (t : Table) : Type 0 where
@@ -46,10 +52,17 @@ pub record Ready (img : List ℕ) (kd : Kind) (n : ℕ) (e : Walked) : Type 0 wh
 
 -- the same of the term of a variable that is looked up from the scope b
 pub record Variable (img : List ℕ) (b n : ℕ) (e : Walked) : Type 0 where
-  pub is : Is img (kindOf 12) n
+  pub is : Is img (kindOf termKind) n
   pub room : Room img (walk img (defines b) (treeAt img n) e)
 
 -- the same of a run of children
 pub record ReadyRun (img : List ℕ) (k n j count : ℕ) (e : Walked) : Type 0 where
   pub run : Run img k n j count
   pub room : Room img (rest img occurs n j count 0 e)
+
+-- of the nodes of a list
+abbrev pub RunAll : List ℕ → ℕ → NodeList → Type 0
+RunAll img k l = Run img k (l .node .0) (l .first) (l .count)
+
+abbrev pub ReadyAll : List ℕ → ℕ → NodeList → Walked → Type 0
+ReadyAll img k l e = ReadyRun img k (l .node .0) (l .first) (l .count) e

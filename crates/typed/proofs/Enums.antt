@@ -1,8 +1,10 @@
 -- The case that an enum's read hands back, by the row: its number and its child, for a node of an accepted image.
 use mathlib.Core.Path.{_≡_, refl, sym, subst, _∙_}
 use mathlib.Core.List.{List, [], _∷_}
+use mathlib.Core.Logic.{⊎-elim}
 use Prim.Native.Nat.{ℕ, zero, suc, _<_}
 use native.Mathlib.Omega.{arith}
+use types.Run.{OneOf}
 use Rattle.ast.specs.Image.{field}
 use Rattle.ast.specs.Is.{Is}
 use Rattle.ast.specs.Kinds.{noChild, kindOf}
@@ -192,3 +194,7 @@ module _ (img : List ℕ) where
       go (term.Cod i) r = off ((term-is is q r) .number)
       go (term.Id i) r = off ((term-is is q r) .number)
       go (term.Comp i) r = off ((term-is is q r) .number)
+
+-- a tag that is one of those after the first: what an arm `_` after the first case of a term knows
+pub after-first : {x : ℕ} → OneOf (1 ∷ 2 ∷ 3 ∷ 4 ∷ 5 ∷ 6 ∷ 7 ∷ []) x → x ≡ 0 → ⊥
+after-first {x} s z = ⊎-elim (λ (i : x ≡ 1). omega arith) (λ s. ⊎-elim (λ (i : x ≡ 2). omega arith) (λ s. ⊎-elim (λ (i : x ≡ 3). omega arith) (λ s. ⊎-elim (λ (i : x ≡ 4). omega arith) (λ s. ⊎-elim (λ (i : x ≡ 5). omega arith) (λ s. ⊎-elim (λ (i : x ≡ 6). omega arith) (λ (i : x ≡ 7). omega arith) s) s) s) s) s) s

@@ -1,19 +1,18 @@
 use borrow.Author.Needs.{needs}
 use mathlib.Core.Path.{refl, sym, ap, subst, _∙_}
+use mathlib.Core.List.{[], _∷_}
 use native.Mathlib.Omega.{arith}
-use Rattle.ast.specs.Image.{field}
+use Prim.Native.Nat.{ℕ, _+_, _*_, _-_, _<_}
 use Rattle.ast.specs.Kinds.{kindOf}
+use Rattle.typed.proofs.Enums.{stmt-is}
 use Rattle.table.specs.State.{Walked, marked, back}
 use Rattle.table.specs.Values.{walkedOf}
 use Rattle.ordered.specs.Walk.{occurs}
 use Rattle.ordered.specs.Promises.{rest, ReadyRun}
-use Rattle.ordered.proofs.Atoms.{plain-wrapped, plain-last}
+use Rattle.ordered.proofs.Atoms.{plain-wrapped}
 use Rattle.ordered.proofs.Lists.{Left, rest-end, runItem}
 use Rattle.ordered.proofs.Steps.{plain-whole}
-use Rattle.ordered.proofs.Stmts.{matchCase, matchOf, branch-whole, branch-start, branch-place, blocks-end, BlocksLeft, blockItem}
-use mathlib.Core.List.{[], _∷_}
-use Prim.Native.Nat.{_+_, _*_, _-_}
-use Prim.Native.Nat.{ℕ, _<_}
+use Rattle.ordered.proofs.Stmts.{matchCase, matchOf, branch-whole, branch-start, branch-place, branch-end, BlocksLeft, blockItem}
 use borrow.Fn.Kinds.{In}
 use borrow.Fn.PlainCycle.{Measures, is, falls, and}
 use Rattle.ordered.proofs.walk_blocks.Reads as walk-blocks
@@ -40,42 +39,43 @@ use Rattle.ordered.proofs.+walk_blocks+walk_branch+walk_cases+walk_matc
 use Rattle.ordered.proofs.walk_stmt_case.Reads as walk-stmt-case
 use Rattle.ordered.proofs.walk_stmt_case.Kinds as walk-stmt-case-kinds
 use Rattle.ordered.proofs.+walk_blocks+walk_branch+walk_cases+walk_match+walk_match_case+walk_stmt+walk_stmt_block+walk_stmt_case.Lts-walk_stmt_case as walk-stmt-case-lts
-use Rattle.ast.proofs.field.Reads as field-reads
-use Rattle.table.proofs.leave.Reads as leave-reads
 use Rattle.ordered.proofs.walk_if_stmt.Reads as walk-if-stmt-reads
 use Rattle.ordered.proofs.walk_term.Reads as walk-term-reads
 use Rattle.ordered.proofs.walk_then_stmt.Reads as walk-then-stmt-reads
-use Rattle.ast.proofs.wide.Reads as wide-reads
-use Rattle.ordered.proofs.+walk_blocks+walk_branch+walk_cases+walk_match+walk_match_case+walk_stmt+walk_stmt_block+walk_stmt_case.{
-  statement,
-}
-use Rattle.ordered.proofs.+walk_blocks+walk_branch+walk_cases+walk_match+walk_match_case+walk_stmt+walk_stmt_block+walk_stmt_case.Tie.{
-  close,
-}
+use Rattle.table.proofs.leave.Reads as leave-reads
+use Rattle.typed.proofs.block.Reads as block-reads
+use Rattle.typed.proofs.branch_stmt.Reads as branch-stmt-reads
+use Rattle.typed.proofs.match_case.Reads as match-case-reads
+use Rattle.typed.proofs.match_stmt.Reads as match-stmt-reads
+use Rattle.typed.proofs.nth_case.Reads as nth-case-reads
+use Rattle.typed.proofs.nth_stmt.Reads as nth-stmt-reads
+use Rattle.typed.proofs.stmt.Reads as stmt-reads
+use Rattle.ordered.proofs.+walk_blocks+walk_branch+walk_cases+walk_match+walk_match_case+walk_stmt+walk_stmt_block+walk_stmt_case.{statement}
+use Rattle.ordered.proofs.+walk_blocks+walk_branch+walk_cases+walk_match+walk_match_case+walk_stmt+walk_stmt_block+walk_stmt_case.Tie.{close}
 
 abbrev μ-walk-blocks : Measures 2 walk-blocks-kinds.ps ℕ
-μ-walk-blocks κs a = 4 * a .1 .1 .1 .0 .0 + 1
+μ-walk-blocks κs a = 4 * a .1 .1 .1 .0 .0 .0 + 1
 
 abbrev μ-walk-branch : Measures 2 walk-branch-kinds.ps ℕ
-μ-walk-branch κs a = 4 * a .1 .1 .1 .0 .0 + 3
+μ-walk-branch κs a = 4 * a .1 .1 .1 .0 .0 .0 + 3
 
 abbrev μ-walk-cases : Measures 2 walk-cases-kinds.ps ℕ
-μ-walk-cases κs a = 4 * a .1 .1 .1 .0 .0 + 1
+μ-walk-cases κs a = 4 * a .1 .1 .1 .0 .0 .node .0 + 1
 
 abbrev μ-walk-match : Measures 2 walk-match-kinds.ps ℕ
-μ-walk-match κs a = 4 * a .1 .1 .1 .0 .0 + 3
+μ-walk-match κs a = 4 * a .1 .1 .1 .0 .0 .0 + 3
 
 abbrev μ-walk-match-case : Measures 2 walk-match-case-kinds.ps ℕ
-μ-walk-match-case κs a = 4 * a .1 .1 .1 .0 .0 + 3
+μ-walk-match-case κs a = 4 * a .1 .1 .1 .0 .0 .0 + 3
 
 abbrev μ-walk-stmt : Measures 2 walk-stmt-kinds.ps ℕ
-μ-walk-stmt κs a = 4 * a .1 .1 .1 .0 .0 + 3
+μ-walk-stmt κs a = 4 * a .1 .1 .1 .0 .0 .0 + 3
 
 abbrev μ-walk-stmt-block : Measures 2 walk-stmt-block-kinds.ps ℕ
-μ-walk-stmt-block κs a = 4 * a .1 .1 .1 .0 .0
+μ-walk-stmt-block κs a = 4 * a .1 .1 .1 .0 .0 .node .0
 
 abbrev μ-walk-stmt-case : Measures 2 walk-stmt-case-kinds.ps ℕ
-μ-walk-stmt-case κs a = 4 * a .1 .1 .1 .0 .0 + 2
+μ-walk-stmt-case κs a = 4 * a .1 .1 .1 .0 .0 .0 + 2
 
 abbrev walk-blocks-at : ℕ → In 2 walk-blocks-kinds.ps
 walk-blocks-at t =
@@ -165,61 +165,49 @@ walk-stmt-case-below t =
     walk-stmt-case.Pre
 
 abbrev walk-blocks-Inv-loop : walk-blocks-lts.InvT-loop
-walk-blocks-Inv-loop image table₀ id count i₀ j₀ w₀ table i j w = BlocksLeft image (id .0) i j (walkedOf w₀ table₀) (walkedOf w table)
+walk-blocks-Inv-loop image table₀ blocks i₀ place₀ cur₀ table i place cur = BlocksLeft image (blocks .0) i place (walkedOf cur₀ table₀) (walkedOf cur table)
 
 abbrev walk-blocks-μ-loop : walk-blocks-lts.MeasureT-loop
-walk-blocks-μ-loop image table₀ id count i₀ j₀ w₀ table i j w = count - i
+walk-blocks-μ-loop image table₀ blocks i₀ place₀ cur₀ table i place cur = blocks .0 .count - i
 
 abbrev walk-blocks-claims : ℕ → walk-blocks-lts.Claims
-walk-blocks-claims t = (field-reads.Asked, field-reads.Learnt, wide-reads.Asked, wide-reads.Learnt, walk-stmt-block-below t, walk-stmt-block.Post)
+walk-blocks-claims t = (branch-stmt-reads.Asked, branch-stmt-reads.Learnt, block-reads.Asked, block-reads.Learnt, walk-stmt-block-below t, walk-stmt-block.Post)
 
 abbrev walk-branch-claims : ℕ → walk-branch-lts.Claims
 walk-branch-claims t = (walk-blocks-below t, walk-blocks.Post, leave-reads.Asked, leave-reads.Learnt)
 
 abbrev walk-cases-claims : ℕ → walk-cases-lts.Claims
-walk-cases-claims t = (field-reads.Asked, field-reads.Learnt, wide-reads.Asked, wide-reads.Learnt, walk-match-case-below t, walk-match-case.Post)
+walk-cases-claims t = (nth-case-reads.Asked, nth-case-reads.Learnt, walk-match-case-below t, walk-match-case.Post)
 
 abbrev walk-match-claims : ℕ → walk-match-lts.Claims
-walk-match-claims t = (field-reads.Asked, field-reads.Learnt, walk-term-reads.Asked, walk-term-reads.Learnt, walk-cases-below t, walk-cases.Post, leave-reads.Asked, leave-reads.Learnt)
+walk-match-claims t = (match-stmt-reads.Asked, match-stmt-reads.Learnt, walk-term-reads.Asked, walk-term-reads.Learnt, walk-cases-below t, walk-cases.Post, leave-reads.Asked, leave-reads.Learnt)
 
 abbrev walk-match-case-claims : ℕ → walk-match-case-lts.Claims
-walk-match-case-claims t = (field-reads.Asked, field-reads.Learnt, wide-reads.Asked, wide-reads.Learnt, walk-term-reads.Asked, walk-term-reads.Learnt, walk-stmt-block-below t, walk-stmt-block.Post, leave-reads.Asked, leave-reads.Learnt)
+walk-match-case-claims t = (match-case-reads.Asked, match-case-reads.Learnt, walk-term-reads.Asked, walk-term-reads.Learnt, walk-stmt-block-below t, walk-stmt-block.Post, leave-reads.Asked, leave-reads.Learnt)
 
 abbrev walk-stmt-claims : ℕ → walk-stmt-lts.Claims
 walk-stmt-claims t = (walk-stmt-case-below t, walk-stmt-case.Post, leave-reads.Asked, leave-reads.Learnt)
 
 abbrev walk-stmt-block-claims : ℕ → walk-stmt-block-lts.Claims
-walk-stmt-block-claims t = (field-reads.Asked, field-reads.Learnt, walk-stmt-below t, walk-stmt.Post)
+walk-stmt-block-claims t = (nth-stmt-reads.Asked, nth-stmt-reads.Learnt, walk-stmt-below t, walk-stmt.Post)
 
 abbrev walk-stmt-case-claims : ℕ → walk-stmt-case-lts.Claims
-walk-stmt-case-claims t = (field-reads.Asked, field-reads.Learnt, walk-if-stmt-reads.Asked, walk-if-stmt-reads.Learnt, walk-then-stmt-reads.Asked, walk-then-stmt-reads.Learnt, walk-branch-below t, walk-branch.Post, walk-match-below t, walk-match.Post)
+walk-stmt-case-claims t = (stmt-reads.Asked, stmt-reads.Learnt, walk-if-stmt-reads.Asked, walk-if-stmt-reads.Learnt, walk-then-stmt-reads.Asked, walk-then-stmt-reads.Learnt, walk-branch-below t, walk-branch.Post, walk-match-below t, walk-match.Post)
 
-walk-blocks-field-requires : (t : ℕ) → walk-blocks-lts.Need-field-requires (walk-blocks-claims t) (walk-blocks-at t) walk-blocks.Post walk-blocks-Inv-loop walk-blocks-μ-loop
-walk-blocks-field-requires t c κs = search needs
-
-walk-blocks-wide-requires : (t : ℕ) → walk-blocks-lts.Need-wide-requires (walk-blocks-claims t) (walk-blocks-at t) walk-blocks.Post walk-blocks-Inv-loop walk-blocks-μ-loop
-walk-blocks-wide-requires t c κs = search needs
+walk-blocks-branch-stmt-requires : (t : ℕ) → walk-blocks-lts.Need-branch-stmt-requires (walk-blocks-claims t) (walk-blocks-at t) walk-blocks.Post walk-blocks-Inv-loop walk-blocks-μ-loop
+walk-blocks-branch-stmt-requires t c κs = search needs
 
 walk-blocks-loop-holds : (t : ℕ) → walk-blocks-lts.Need-loop-holds (walk-blocks-claims t) (walk-blocks-at t) walk-blocks.Post walk-blocks-Inv-loop walk-blocks-μ-loop
-walk-blocks-loop-holds t c = branch-start _ (c .before .before .before .before .pre .1 .is)
+walk-blocks-loop-holds t c = branch-start _ (c .before .before .before .before .pre .1 .is) (c .before .branch-stmt .ensures)
 
-walk-blocks-field-requires-2 : (t : ℕ) → walk-blocks-lts.Need-field-requires-2 (walk-blocks-claims t) (walk-blocks-at t) walk-blocks.Post walk-blocks-Inv-loop walk-blocks-μ-loop
-walk-blocks-field-requires-2 t c κs = let b = branch-place _ (c .before .loop .inv) in omega arith
-
-walk-blocks-wide-requires-2 : (t : ℕ) → walk-blocks-lts.Need-wide-requires-2 (walk-blocks-claims t) (walk-blocks-at t) walk-blocks.Post walk-blocks-Inv-loop walk-blocks-μ-loop
-walk-blocks-wide-requires-2 t c κs = search needs
-
-walk-blocks-add-walk-stmt-block : (t : ℕ) → walk-blocks-lts.Need-add-walk-stmt-block (walk-blocks-claims t) (walk-blocks-at t) walk-blocks.Post walk-blocks-Inv-loop walk-blocks-μ-loop
-walk-blocks-add-walk-stmt-block t c = let b = branch-place _ (c .before .before .before .before .loop .inv) in omega arith
+walk-blocks-block-requires : (t : ℕ) → walk-blocks-lts.Need-block-requires (walk-blocks-claims t) (walk-blocks-at t) walk-blocks.Post walk-blocks-Inv-loop walk-blocks-μ-loop
+walk-blocks-block-requires t c κs = branch-place _ (c .before .before .loop .inv)
 
 walk-blocks-walk-stmt-block-requires : (t : ℕ) → walk-blocks-lts.Need-walk-stmt-block-requires (walk-blocks-claims t) (walk-blocks-at t) walk-blocks.Post walk-blocks-Inv-loop walk-blocks-μ-loop
-walk-blocks-walk-stmt-block-requires t c κs = (omega arith, (blockItem _ (c .before .before .before .before .before .before .before .before .before .pre .1) (c .before .before .before .before .loop .inv) (omega arith) (c .before .wide2 .ensures ∙ c .before .before .field2 .ensures)) .run)
+walk-blocks-walk-stmt-block-requires t c κs = (let m = c .before .before .before .before .before .before .branch-stmt .ensures .node in let l = c .before .block .ensures .node in omega arith, (blockItem _ (c .before .before .before .before .before .before .before .before .before .pre .1) (c .before .before .before .before .before .before .branch-stmt .ensures) (c .before .before .before .before .loop .inv) (c .before .before .if1 .taken) (c .before .block .ensures)) .run)
 
-walk-blocks-add-j : (t : ℕ) → walk-blocks-lts.Need-add-j (walk-blocks-claims t) (walk-blocks-at t) walk-blocks.Post walk-blocks-Inv-loop walk-blocks-μ-loop
-walk-blocks-add-j t c = let b = (blockItem _ (c .before .before .before .before .before .before .before .before .before .before .before .before .before .pre .1) (c .before .before .before .before .before .before .before .before .loop .inv) (omega arith) (c .before .before .before .before .before .wide2 .ensures ∙ c .before .before .before .before .before .before .field2 .ensures)) .run .run .short in omega arith
-
-walk-blocks-add-j-2 : (t : ℕ) → walk-blocks-lts.Need-add-j-2 (walk-blocks-claims t) (walk-blocks-at t) walk-blocks.Post walk-blocks-Inv-loop walk-blocks-μ-loop
-walk-blocks-add-j-2 t c = let b = (blockItem _ (c .before .before .before .before .before .before .before .before .before .before .before .before .before .pre .1) (c .before .before .before .before .before .before .before .before .loop .inv) (omega arith) (c .before .before .before .before .before .wide2 .ensures ∙ c .before .before .before .before .before .before .field2 .ensures)) .run .run .short in omega arith
+walk-blocks-add-place : (t : ℕ) → walk-blocks-lts.Need-add-place (walk-blocks-claims t) (walk-blocks-at t) walk-blocks.Post walk-blocks-Inv-loop walk-blocks-μ-loop
+walk-blocks-add-place t c = let b = (blockItem _ (c .before .before .before .before .before .before .before .before .before .before .before .before .before .before .pre .1) (c .before .before .before .before .before .before .before .before .before .before .before .branch-stmt .ensures) (c .before .before .before .before .before .before .before .before .before .loop .inv) (c .before .before .before .before .before .before .before .if1 .taken) (c .before .before .before .before .before .before .block .ensures)) .run .run .short in omega arith
 
 walk-blocks-add-i : (t : ℕ) → walk-blocks-lts.Need-add-i (walk-blocks-claims t) (walk-blocks-at t) walk-blocks.Post walk-blocks-Inv-loop walk-blocks-μ-loop
 walk-blocks-add-i t c = search needs
@@ -228,13 +216,13 @@ walk-blocks-loop-less : (t : ℕ) → walk-blocks-lts.Need-loop-less (walk-block
 walk-blocks-loop-less t c = search needs
 
 walk-blocks-loop-again : (t : ℕ) → walk-blocks-lts.Need-loop-again (walk-blocks-claims t) (walk-blocks-at t) walk-blocks.Post walk-blocks-Inv-loop walk-blocks-μ-loop
-walk-blocks-loop-again t c = (blockItem _ (c .before .before .before .before .before .before .before .before .before .before .before .before .before .pre .1) (c .before .before .before .before .before .before .before .before .loop .inv) (omega arith) (c .before .before .before .before .before .wide2 .ensures ∙ c .before .before .before .before .before .before .field2 .ensures)) .more _ (ap (back (c .before .before .before .before .before .before .before .before .before .before .before .before .before .args .image .now) _) (c .before .before .before .walk-stmt-block .ensures)) (c .before .before .before .walk-stmt-block .kept .1 .0 ∙ c .before .before .before .before .before .before .before .before .loop .inv .long)
+walk-blocks-loop-again t c = (blockItem _ (c .before .before .before .before .before .before .before .before .before .before .before .before .before .before .pre .1) (c .before .before .before .before .before .before .before .before .before .before .before .branch-stmt .ensures) (c .before .before .before .before .before .before .before .before .before .loop .inv) (c .before .before .before .before .before .before .before .if1 .taken) (c .before .before .before .before .before .before .block .ensures)) .more _ (ap (back (c .before .before .before .before .before .before .before .before .before .before .before .before .before .before .args .image .now) _) (c .before .before .before .before .walk-stmt-block .ensures)) (c .before .before .before .before .walk-stmt-block .kept .1 .0 ∙ c .before .before .before .before .before .before .before .before .before .loop .inv .long)
 
 walk-blocks-same-length : (t : ℕ) → walk-blocks-lts.Need-same-length (walk-blocks-claims t) (walk-blocks-at t) walk-blocks.Post walk-blocks-Inv-loop walk-blocks-μ-loop
-walk-blocks-same-length t c = c .before .loop .inv .long
+walk-blocks-same-length t c = c .before .before .loop .inv .long
 
 walk-blocks-returns : (t : ℕ) → walk-blocks-lts.Need-returns (walk-blocks-claims t) (walk-blocks-at t) walk-blocks.Post walk-blocks-Inv-loop walk-blocks-μ-loop
-walk-blocks-returns t c = sym (c .before .loop .inv .left ∙ blocks-end _ _ _ _ _ (omega arith))
+walk-blocks-returns t c = branch-end _ (c .before .before .before .before .branch-stmt .ensures) (c .before .before .loop .inv) (omega arith)
 
 walk-branch-walk-blocks-requires : (t : ℕ) → walk-branch-lts.Need-walk-blocks-requires (walk-branch-claims t) (walk-branch-at t) walk-branch.Post
 walk-branch-walk-blocks-requires t c κs = (omega arith, c .before .before .before .pre .1)
@@ -249,28 +237,19 @@ walk-branch-returns : (t : ℕ) → walk-branch-lts.Need-returns (walk-branch-cl
 walk-branch-returns t c = c .before .before .leave .ensures ∙ ap (marked _ _ _) (c .before .before .before .before .before .before .walk-blocks .ensures) ∙ sym (branch-whole _ _ (c .before .before .before .before .before .before .before .before .before .before .pre .1 .is))
 
 abbrev walk-cases-Inv-loop : walk-cases-lts.InvT-loop
-walk-cases-Inv-loop image table₀ id count i₀ w₀ table i w = Left image occurs (id .0) 2 (field image (id .0) 1) i (walkedOf w₀ table₀) (walkedOf w table)
+walk-cases-Inv-loop image table₀ cases i₀ cur₀ table i cur = Left image occurs (cases .0 .node .0) (cases .0 .first) (cases .0 .count) i (walkedOf cur₀ table₀) (walkedOf cur table)
 
 abbrev walk-cases-μ-loop : walk-cases-lts.MeasureT-loop
-walk-cases-μ-loop image table₀ id count i₀ w₀ table i w = count - i
-
-walk-cases-field-requires : (t : ℕ) → walk-cases-lts.Need-field-requires (walk-cases-claims t) (walk-cases-at t) walk-cases.Post walk-cases-Inv-loop walk-cases-μ-loop
-walk-cases-field-requires t c κs = search needs
-
-walk-cases-wide-requires : (t : ℕ) → walk-cases-lts.Need-wide-requires (walk-cases-claims t) (walk-cases-at t) walk-cases.Post walk-cases-Inv-loop walk-cases-μ-loop
-walk-cases-wide-requires t c κs = search needs
+walk-cases-μ-loop image table₀ cases i₀ cur₀ table i cur = cases .0 .count - i
 
 walk-cases-loop-holds : (t : ℕ) → walk-cases-lts.Need-loop-holds (walk-cases-claims t) (walk-cases-at t) walk-cases.Post walk-cases-Inv-loop walk-cases-μ-loop
 walk-cases-loop-holds t c = record { within = omega arith; long = refl; left = refl }
 
-walk-cases-add-field : (t : ℕ) → walk-cases-lts.Need-add-field (walk-cases-claims t) (walk-cases-at t) walk-cases.Post walk-cases-Inv-loop walk-cases-μ-loop
-walk-cases-add-field t c = search needs
-
-walk-cases-field-requires-2 : (t : ℕ) → walk-cases-lts.Need-field-requires-2 (walk-cases-claims t) (walk-cases-at t) walk-cases.Post walk-cases-Inv-loop walk-cases-μ-loop
-walk-cases-field-requires-2 t c κs = search needs
+walk-cases-nth-case-requires : (t : ℕ) → walk-cases-lts.Need-nth-case-requires (walk-cases-claims t) (walk-cases-at t) walk-cases.Post walk-cases-Inv-loop walk-cases-μ-loop
+walk-cases-nth-case-requires t c κs = let b = c .before .before .before .before .before .pre .1 .run .short in omega arith
 
 walk-cases-walk-match-case-requires : (t : ℕ) → walk-cases-lts.Need-walk-match-case-requires (walk-cases-claims t) (walk-cases-at t) walk-cases.Post walk-cases-Inv-loop walk-cases-μ-loop
-walk-cases-walk-match-case-requires t c κs = let o = runItem _ (c .before .before .before .before .before .before .before .before .pre .1) (omega arith) (c .before .field2 .ensures) (c .before .before .before .loop .inv .left) in (let l = o .low in omega arith, o .ready)
+walk-cases-walk-match-case-requires t c κs = let o = runItem _ (c .before .before .before .before .before .before .before .pre .1) (c .before .before .if1 .taken) (c .before .nth-case .ensures) (c .before .before .before .before .loop .inv .left) in (let l = o .low in omega arith, o .ready)
 
 walk-cases-add-i : (t : ℕ) → walk-cases-lts.Need-add-i (walk-cases-claims t) (walk-cases-at t) walk-cases.Post walk-cases-Inv-loop walk-cases-μ-loop
 walk-cases-add-i t c = search needs
@@ -279,22 +258,22 @@ walk-cases-loop-less : (t : ℕ) → walk-cases-lts.Need-loop-less (walk-cases-c
 walk-cases-loop-less t c = search needs
 
 walk-cases-loop-again : (t : ℕ) → walk-cases-lts.Need-loop-again (walk-cases-claims t) (walk-cases-at t) walk-cases.Post walk-cases-Inv-loop walk-cases-μ-loop
-walk-cases-loop-again t c = record { within = omega arith; long = c .before .before .walk-match-case .kept .1 .0 ∙ c .before .before .before .before .before .before .loop .inv .long; left = (runItem _ (c .before .before .before .before .before .before .before .before .before .before .before .pre .1) (omega arith) (c .before .before .before .before .field2 .ensures) (c .before .before .before .before .before .before .loop .inv .left)) .more ∙ ap (rest _ occurs _ 2 _ _) (sym (c .before .before .walk-match-case .ensures)) }
+walk-cases-loop-again t c = record { within = omega arith; long = c .before .before .walk-match-case .kept .1 .0 ∙ c .before .before .before .before .before .before .before .loop .inv .long; left = (runItem _ (c .before .before .before .before .before .before .before .before .before .before .pre .1) (c .before .before .before .before .before .if1 .taken) (c .before .before .before .before .nth-case .ensures) (c .before .before .before .before .before .before .before .loop .inv .left)) .more ∙ ap (rest _ occurs _ _ _ _) (sym (c .before .before .walk-match-case .ensures)) }
 
 walk-cases-same-length : (t : ℕ) → walk-cases-lts.Need-same-length (walk-cases-claims t) (walk-cases-at t) walk-cases.Post walk-cases-Inv-loop walk-cases-μ-loop
-walk-cases-same-length t c = c .before .loop .inv .long
+walk-cases-same-length t c = c .before .before .loop .inv .long
 
 walk-cases-returns : (t : ℕ) → walk-cases-lts.Need-returns (walk-cases-claims t) (walk-cases-at t) walk-cases.Post walk-cases-Inv-loop walk-cases-μ-loop
-walk-cases-returns t c = sym (c .before .loop .inv .left ∙ rest-end _ _ _ _ _ (c .before .loop .i) _ (omega arith))
+walk-cases-returns t c = sym (c .before .before .loop .inv .left ∙ rest-end _ _ _ _ _ (c .before .before .loop .i) _ (omega arith))
 
-walk-match-field-requires : (t : ℕ) → walk-match-lts.Need-field-requires (walk-match-claims t) (walk-match-at t) walk-match.Post
-walk-match-field-requires t c κs = search needs
+walk-match-match-stmt-requires : (t : ℕ) → walk-match-lts.Need-match-stmt-requires (walk-match-claims t) (walk-match-at t) walk-match.Post
+walk-match-match-stmt-requires t c κs = search needs
 
 walk-match-walk-term-requires : (t : ℕ) → walk-match-lts.Need-walk-term-requires (walk-match-claims t) (walk-match-at t) walk-match.Post
-walk-match-walk-term-requires t c κs = (matchOf _ (c .before .before .before .before .pre .1) (c .before .field .ensures)) .first
+walk-match-walk-term-requires t c κs = (matchOf _ (c .before .before .before .before .before .before .pre .1) (c .before .before .before .match-stmt .ensures)) .first
 
 walk-match-walk-cases-requires : (t : ℕ) → walk-match-lts.Need-walk-cases-requires (walk-match-claims t) (walk-match-at t) walk-match.Post
-walk-match-walk-cases-requires t c κs = (omega arith, subst (ReadyRun _ 35 _ 2 _) (sym (c .before .before .before .walk-term .ensures)) ((matchOf _ (c .before .before .before .before .before .before .before .before .pre .1) (c .before .before .before .before .before .field .ensures)) .second))
+walk-match-walk-cases-requires t c κs = (let l = c .before .before .before .before .before .before .before .match-stmt .ensures .list .node in omega arith, subst (ReadyRun _ 35 _ _ _) (sym (c .before .before .before .walk-term .ensures)) ((matchOf _ (c .before .before .before .before .before .before .before .before .before .before .pre .1) (c .before .before .before .before .before .before .before .match-stmt .ensures)) .second))
 
 walk-match-leave-requires : (t : ℕ) → walk-match-lts.Need-leave-requires (walk-match-claims t) (walk-match-at t) walk-match.Post
 walk-match-leave-requires t c κs = search needs
@@ -303,23 +282,17 @@ walk-match-same-length : (t : ℕ) → walk-match-lts.Need-same-length (walk-mat
 walk-match-same-length t c = search needs
 
 walk-match-returns : (t : ℕ) → walk-match-lts.Need-returns (walk-match-claims t) (walk-match-at t) walk-match.Post
-walk-match-returns t c = c .before .before .leave .ensures ∙ ap (marked _ _ _) (c .before .before .before .before .before .before .walk-cases .ensures ∙ ap (rest _ occurs _ 2 _ 0) (c .before .before .before .before .before .before .before .before .before .before .walk-term .ensures)) ∙ sym ((matchOf _ (c .before .before .before .before .before .before .before .before .before .before .before .before .before .before .before .pre .1) (c .before .before .before .before .before .before .before .before .before .before .before .before .field .ensures)) .whole)
+walk-match-returns t c = c .before .before .leave .ensures ∙ ap (marked _ _ _) (c .before .before .before .before .before .before .walk-cases .ensures ∙ ap (rest _ occurs _ _ _ 0) (c .before .before .before .before .before .before .before .before .before .before .walk-term .ensures)) ∙ sym ((matchOf _ (c .before .before .before .before .before .before .before .before .before .before .before .before .before .before .before .before .before .pre .1) (c .before .before .before .before .before .before .before .before .before .before .before .before .before .before .match-stmt .ensures)) .whole)
 
-walk-match-case-field-requires : (t : ℕ) → walk-match-case-lts.Need-field-requires (walk-match-case-claims t) (walk-match-case-at t) walk-match-case.Post
-walk-match-case-field-requires t c κs = search needs
-
-walk-match-case-field-requires-2 : (t : ℕ) → walk-match-case-lts.Need-field-requires-2 (walk-match-case-claims t) (walk-match-case-at t) walk-match-case.Post
-walk-match-case-field-requires-2 t c κs = search needs
-
-walk-match-case-wide-requires : (t : ℕ) → walk-match-case-lts.Need-wide-requires (walk-match-case-claims t) (walk-match-case-at t) walk-match-case.Post
-walk-match-case-wide-requires t c κs = search needs
+walk-match-case-match-case-requires : (t : ℕ) → walk-match-case-lts.Need-match-case-requires (walk-match-case-claims t) (walk-match-case-at t) walk-match-case.Post
+walk-match-case-match-case-requires t c κs = search needs
 
 walk-match-case-walk-term-requires : (t : ℕ) → walk-match-case-lts.Need-walk-term-requires (walk-match-case-claims t) (walk-match-case-at t) walk-match-case.Post
-walk-match-case-walk-term-requires t c κs = (matchCase _ (c .before .before .before .before .before .before .pre .1) (c .before .before .before .field .ensures) (c .before .wide .ensures ∙ c .before .before .field2 .ensures)) .first
+walk-match-case-walk-term-requires t c κs = (matchCase _ (c .before .before .before .before .before .before .pre .1) (c .before .before .before .match-case .ensures)) .first
 
 walk-match-case-walk-stmt-block-requires :
     (t : ℕ) → walk-match-case-lts.Need-walk-stmt-block-requires (walk-match-case-claims t) (walk-match-case-at t) walk-match-case.Post
-walk-match-case-walk-stmt-block-requires t c κs = (omega arith, subst (ReadyRun _ 36 _ 2 _) (sym (c .before .before .before .walk-term .ensures)) ((matchCase _ (c .before .before .before .before .before .before .before .before .before .before .pre .1) (c .before .before .before .before .before .before .before .field .ensures) (c .before .before .before .before .before .wide .ensures ∙ c .before .before .before .before .before .before .field2 .ensures)) .second))
+walk-match-case-walk-stmt-block-requires t c κs = (let l = c .before .before .before .before .before .before .before .match-case .ensures .list .node in omega arith, subst (ReadyRun _ 36 _ _ _) (sym (c .before .before .before .walk-term .ensures)) ((matchCase _ (c .before .before .before .before .before .before .before .before .before .before .pre .1) (c .before .before .before .before .before .before .before .match-case .ensures)) .second))
 
 walk-match-case-leave-requires : (t : ℕ) → walk-match-case-lts.Need-leave-requires (walk-match-case-claims t) (walk-match-case-at t) walk-match-case.Post
 walk-match-case-leave-requires t c κs = search needs
@@ -328,7 +301,7 @@ walk-match-case-same-length : (t : ℕ) → walk-match-case-lts.Need-same-length
 walk-match-case-same-length t c = search needs
 
 walk-match-case-returns : (t : ℕ) → walk-match-case-lts.Need-returns (walk-match-case-claims t) (walk-match-case-at t) walk-match-case.Post
-walk-match-case-returns t c = c .before .before .leave .ensures ∙ ap (λ (f : Walked). marked (c .before .before .before .before .before .before .before .before .before .before .before .before .before .before .before .before .before .before .args .image .now) (c .before .before .before .before .before .before .before .before .before .before .before .before .before .before .before .before .before .before .args .id .0) (c .before .before .before .before .before .before .before .before .before .before .before .before .before .before .before .before .before .before .args .at .scope .0) (back (c .before .before .before .before .before .before .before .before .before .before .before .before .before .before .before .before .before .before .args .image .now) (c .before .before .before .before .before .before .before .before .before .before .before .before .before .before .before .before .before .before .args .at .scope .0) f)) (c .before .before .before .before .before .before .before .walk-stmt-block .ensures ∙ ap (rest _ occurs _ 2 _ 0) (c .before .before .before .before .before .before .before .before .before .before .before .walk-term .ensures)) ∙ sym ((matchCase _ (c .before .before .before .before .before .before .before .before .before .before .before .before .before .before .before .before .before .before .pre .1) (c .before .before .before .before .before .before .before .before .before .before .before .before .before .before .before .field .ensures) (c .before .before .before .before .before .before .before .before .before .before .before .before .before .wide .ensures ∙ c .before .before .before .before .before .before .before .before .before .before .before .before .before .before .field2 .ensures)) .whole)
+walk-match-case-returns t c = c .before .before .leave .ensures ∙ ap (λ (f : Walked). marked (c .before .before .before .before .before .before .before .before .before .before .before .before .before .before .before .before .before .before .args .image .now) (c .before .before .before .before .before .before .before .before .before .before .before .before .before .before .before .before .before .before .args .case .0 .0) (c .before .before .before .before .before .before .before .before .before .before .before .before .before .before .before .before .before .before .args .current .scope .0) (back (c .before .before .before .before .before .before .before .before .before .before .before .before .before .before .before .before .before .before .args .image .now) (c .before .before .before .before .before .before .before .before .before .before .before .before .before .before .before .before .before .before .args .current .scope .0) f)) (c .before .before .before .before .before .before .before .walk-stmt-block .ensures ∙ ap (rest _ occurs _ _ _ 0) (c .before .before .before .before .before .before .before .before .before .before .before .walk-term .ensures)) ∙ sym ((matchCase _ (c .before .before .before .before .before .before .before .before .before .before .before .before .before .before .before .before .before .before .pre .1) (c .before .before .before .before .before .before .before .before .before .before .before .before .before .before .before .match-case .ensures)) .whole)
 
 walk-stmt-walk-stmt-case-requires : (t : ℕ) → walk-stmt-lts.Need-walk-stmt-case-requires (walk-stmt-claims t) (walk-stmt-at t) walk-stmt.Post
 walk-stmt-walk-stmt-case-requires t c κs = (omega arith, c .before .before .before .pre .1)
@@ -344,87 +317,93 @@ unfolding kindOf
 walk-stmt-returns t c = c .before .before .leave .ensures ∙ ap (marked _ _ _) (c .before .before .before .before .before .before .walk-stmt-case .ensures) ∙ sym (plain-whole _ _ (c .before .before .before .before .before .before .before .before .before .before .pre .1 .is))
 
 abbrev walk-stmt-block-Inv-loop : walk-stmt-block-lts.InvT-loop
-walk-stmt-block-Inv-loop image table₀ node first count done₀ w₀ table done w = Left image occurs (node .0) first count done (walkedOf w₀ table₀) (walkedOf w table)
+walk-stmt-block-Inv-loop image table₀ stmts i₀ cur₀ table i cur = Left image occurs (stmts .0 .node .0) (stmts .0 .first) (stmts .0 .count) i (walkedOf cur₀ table₀) (walkedOf cur table)
 
 abbrev walk-stmt-block-μ-loop : walk-stmt-block-lts.MeasureT-loop
-walk-stmt-block-μ-loop image table₀ node first count done₀ w₀ table done w = count - done
+walk-stmt-block-μ-loop image table₀ stmts i₀ cur₀ table i cur = stmts .0 .count - i
 
 walk-stmt-block-loop-holds : (t : ℕ) → walk-stmt-block-lts.Need-loop-holds (walk-stmt-block-claims t) (walk-stmt-block-at t) walk-stmt-block.Post walk-stmt-block-Inv-loop walk-stmt-block-μ-loop
 walk-stmt-block-loop-holds t c = record { within = omega arith; long = refl; left = refl }
 
-walk-stmt-block-add-field : (t : ℕ) → walk-stmt-block-lts.Need-add-field (walk-stmt-block-claims t) (walk-stmt-block-at t) walk-stmt-block.Post walk-stmt-block-Inv-loop walk-stmt-block-μ-loop
-walk-stmt-block-add-field t c = let b = c .before .before .before .before .pre .1 .run .short in omega arith
-
-walk-stmt-block-field-requires : (t : ℕ) → walk-stmt-block-lts.Need-field-requires (walk-stmt-block-claims t) (walk-stmt-block-at t) walk-stmt-block.Post walk-stmt-block-Inv-loop walk-stmt-block-μ-loop
-walk-stmt-block-field-requires t c κs = let b = c .before .before .before .before .pre .1 .run .short in omega arith
+walk-stmt-block-nth-stmt-requires : (t : ℕ) → walk-stmt-block-lts.Need-nth-stmt-requires (walk-stmt-block-claims t) (walk-stmt-block-at t) walk-stmt-block.Post walk-stmt-block-Inv-loop walk-stmt-block-μ-loop
+walk-stmt-block-nth-stmt-requires t c κs = let b = c .before .before .before .before .before .pre .1 .run .short in omega arith
 
 walk-stmt-block-walk-stmt-requires : (t : ℕ) → walk-stmt-block-lts.Need-walk-stmt-requires (walk-stmt-block-claims t) (walk-stmt-block-at t) walk-stmt-block.Post walk-stmt-block-Inv-loop walk-stmt-block-μ-loop
-walk-stmt-block-walk-stmt-requires t c κs = let o = runItem _ (c .before .before .before .before .before .before .pre .1) (c .before .before .loop-test .taken) (c .before .field .ensures) (c .before .before .before .loop .inv .left) in (let l = o .low in omega arith, o .ready)
+walk-stmt-block-walk-stmt-requires t c κs = let o = runItem _ (c .before .before .before .before .before .before .before .pre .1) (c .before .before .if1 .taken) (c .before .nth-stmt .ensures) (c .before .before .before .before .loop .inv .left) in (let l = o .low in omega arith, o .ready)
 
-walk-stmt-block-add-done : (t : ℕ) → walk-stmt-block-lts.Need-add-done (walk-stmt-block-claims t) (walk-stmt-block-at t) walk-stmt-block.Post walk-stmt-block-Inv-loop walk-stmt-block-μ-loop
-walk-stmt-block-add-done t c = search needs
+walk-stmt-block-add-i : (t : ℕ) → walk-stmt-block-lts.Need-add-i (walk-stmt-block-claims t) (walk-stmt-block-at t) walk-stmt-block.Post walk-stmt-block-Inv-loop walk-stmt-block-μ-loop
+walk-stmt-block-add-i t c = search needs
 
 walk-stmt-block-loop-less : (t : ℕ) → walk-stmt-block-lts.Need-loop-less (walk-stmt-block-claims t) (walk-stmt-block-at t) walk-stmt-block.Post walk-stmt-block-Inv-loop walk-stmt-block-μ-loop
 walk-stmt-block-loop-less t c = search needs
 
 walk-stmt-block-loop-again : (t : ℕ) → walk-stmt-block-lts.Need-loop-again (walk-stmt-block-claims t) (walk-stmt-block-at t) walk-stmt-block.Post walk-stmt-block-Inv-loop walk-stmt-block-μ-loop
-walk-stmt-block-loop-again t c = record { within = omega arith; long = c .before .before .walk-stmt .kept .1 .0 ∙ c .before .before .before .before .before .before .loop .inv .long; left = (runItem _ (c .before .before .before .before .before .before .before .before .before .pre .1) (c .before .before .before .before .before .loop-test .taken) (c .before .before .before .before .field .ensures) (c .before .before .before .before .before .before .loop .inv .left)) .more ∙ ap (rest _ occurs _ _ _ _) (sym (c .before .before .walk-stmt .ensures)) }
+walk-stmt-block-loop-again t c = record { within = omega arith; long = c .before .before .walk-stmt .kept .1 .0 ∙ c .before .before .before .before .before .before .before .loop .inv .long; left = (runItem _ (c .before .before .before .before .before .before .before .before .before .before .pre .1) (c .before .before .before .before .before .if1 .taken) (c .before .before .before .before .nth-stmt .ensures) (c .before .before .before .before .before .before .before .loop .inv .left)) .more ∙ ap (rest _ occurs _ _ _ _) (sym (c .before .before .walk-stmt .ensures)) }
 
 walk-stmt-block-same-length : (t : ℕ) → walk-stmt-block-lts.Need-same-length (walk-stmt-block-claims t) (walk-stmt-block-at t) walk-stmt-block.Post walk-stmt-block-Inv-loop walk-stmt-block-μ-loop
-walk-stmt-block-same-length t c = c .before .loop .inv .long
+walk-stmt-block-same-length t c = c .before .before .loop .inv .long
 
 walk-stmt-block-returns : (t : ℕ) → walk-stmt-block-lts.Need-returns (walk-stmt-block-claims t) (walk-stmt-block-at t) walk-stmt-block.Post walk-stmt-block-Inv-loop walk-stmt-block-μ-loop
-walk-stmt-block-returns t c = sym (c .before .loop .inv .left ∙ rest-end _ _ _ _ _ (c .before .loop .done) _ (omega arith))
+walk-stmt-block-returns t c = sym (c .before .before .loop .inv .left ∙ rest-end _ _ _ _ _ (c .before .before .loop .i) _ (omega arith))
 
-walk-stmt-case-field-requires : (t : ℕ) → walk-stmt-case-lts.Need-field-requires (walk-stmt-case-claims t) (walk-stmt-case-at t) walk-stmt-case.Post
-walk-stmt-case-field-requires t c κs = search needs
+walk-stmt-case-stmt-requires : (t : ℕ) → walk-stmt-case-lts.Need-stmt-requires (walk-stmt-case-claims t) (walk-stmt-case-at t) walk-stmt-case.Post
+walk-stmt-case-stmt-requires t c κs = search needs
 
-walk-stmt-case-field-requires-2 : (t : ℕ) → walk-stmt-case-lts.Need-field-requires-2 (walk-stmt-case-claims t) (walk-stmt-case-at t) walk-stmt-case.Post
-walk-stmt-case-field-requires-2 t c κs = search needs
+walk-stmt-case-enum-known-id : (t : ℕ) → walk-stmt-case-lts.Need-enum-known-id (walk-stmt-case-claims t) (walk-stmt-case-at t) walk-stmt-case.Post
+walk-stmt-case-enum-known-id t c = search needs
 
 walk-stmt-case-walk-if-stmt-requires : (t : ℕ) → walk-stmt-case-lts.Need-walk-if-stmt-requires (walk-stmt-case-claims t) (walk-stmt-case-at t) walk-stmt-case.Post
 unfolding kindOf
-walk-stmt-case-walk-if-stmt-requires t c κs = (plain-wrapped _ (37 ∷ 38 ∷ 39 ∷ 40 ∷ []) (c .before .before .before .before .before .before .pre .1) 0 (sym (c .before .match .keys1) ∙ c .before .before .before .field .ensures) (c .before .before .field2 .ensures) refl) .ready
+walk-stmt-case-walk-if-stmt-requires t c κs = let k = stmt-is _ (c .before .before .before .before .before .before .before .pre .1 .is) (c .before .before .before .before .stmt .ensures) (c .before .before .id .given .1) in (plain-wrapped _ (37 ∷ 38 ∷ 39 ∷ 40 ∷ []) (c .before .before .before .before .before .before .before .pre .1) 0 (k .number) (k .child) refl) .ready
+
+walk-stmt-case-enum-known-id-2 : (t : ℕ) → walk-stmt-case-lts.Need-enum-known-id-2 (walk-stmt-case-claims t) (walk-stmt-case-at t) walk-stmt-case.Post
+walk-stmt-case-enum-known-id-2 t c = search needs
 
 walk-stmt-case-walk-then-stmt-requires : (t : ℕ) → walk-stmt-case-lts.Need-walk-then-stmt-requires (walk-stmt-case-claims t) (walk-stmt-case-at t) walk-stmt-case.Post
 unfolding kindOf
-walk-stmt-case-walk-then-stmt-requires t c κs = (plain-wrapped _ (37 ∷ 38 ∷ 39 ∷ 40 ∷ []) (c .before .before .before .before .before .before .pre .1) 1 (sym (c .before .match .keys2) ∙ c .before .before .before .field .ensures) (c .before .before .field2 .ensures) refl) .ready
+walk-stmt-case-walk-then-stmt-requires t c κs = let k = stmt-is _ (c .before .before .before .before .before .before .before .pre .1 .is) (c .before .before .before .before .stmt .ensures) (c .before .before .id2 .given .1) in (plain-wrapped _ (37 ∷ 38 ∷ 39 ∷ 40 ∷ []) (c .before .before .before .before .before .before .before .pre .1) 1 (k .number) (k .child) refl) .ready
+
+walk-stmt-case-enum-known-id-3 : (t : ℕ) → walk-stmt-case-lts.Need-enum-known-id-3 (walk-stmt-case-claims t) (walk-stmt-case-at t) walk-stmt-case.Post
+walk-stmt-case-enum-known-id-3 t c = search needs
 
 walk-stmt-case-walk-branch-requires : (t : ℕ) → walk-stmt-case-lts.Need-walk-branch-requires (walk-stmt-case-claims t) (walk-stmt-case-at t) walk-stmt-case.Post
 unfolding kindOf
-walk-stmt-case-walk-branch-requires t c κs = let o = plain-wrapped _ (37 ∷ 38 ∷ 39 ∷ 40 ∷ []) (c .before .before .before .before .before .before .pre .1) 2 (sym (c .before .match .keys3) ∙ c .before .before .before .field .ensures) (c .before .before .field2 .ensures) refl in (let l = o .low in omega arith, o .ready)
+walk-stmt-case-walk-branch-requires t c κs = let k = stmt-is _ (c .before .before .before .before .before .before .before .pre .1 .is) (c .before .before .before .before .stmt .ensures) (c .before .before .id3 .given .1) in let o = plain-wrapped _ (37 ∷ 38 ∷ 39 ∷ 40 ∷ []) (c .before .before .before .before .before .before .before .pre .1) 2 (k .number) (k .child) refl in (let l = o .low in omega arith, o .ready)
+
+walk-stmt-case-enum-known-stmt : (t : ℕ) → walk-stmt-case-lts.Need-enum-known-stmt (walk-stmt-case-claims t) (walk-stmt-case-at t) walk-stmt-case.Post
+walk-stmt-case-enum-known-stmt t c = search needs
 
 walk-stmt-case-walk-match-requires : (t : ℕ) → walk-stmt-case-lts.Need-walk-match-requires (walk-stmt-case-claims t) (walk-stmt-case-at t) walk-stmt-case.Post
 unfolding kindOf
-walk-stmt-case-walk-match-requires t c κs = let o = plain-wrapped _ (37 ∷ 38 ∷ 39 ∷ 40 ∷ []) (c .before .before .before .before .before .before .pre .1) 3 (let l = plain-last _ (37 ∷ 38 ∷ 39 ∷ 40 ∷ []) (c .before .before .before .before .before .before .pre .1 .is) in omega arith) (c .before .before .field2 .ensures) refl in (let l = o .low in omega arith, o .ready)
+walk-stmt-case-walk-match-requires t c κs = let k = stmt-is _ (c .before .before .before .before .before .before .before .pre .1 .is) (c .before .before .before .before .stmt .ensures) (c .before .before .stmt2 .given .1) in let o = plain-wrapped _ (37 ∷ 38 ∷ 39 ∷ 40 ∷ []) (c .before .before .before .before .before .before .before .pre .1) 3 (k .number) (k .child) refl in (let l = o .low in omega arith, o .ready)
 
 walk-stmt-case-same-length : (t : ℕ) → walk-stmt-case-lts.Need-same-length (walk-stmt-case-claims t) (walk-stmt-case-at t) walk-stmt-case.Post
 walk-stmt-case-same-length t c = search needs
 
 walk-stmt-case-returns : (t : ℕ) → walk-stmt-case-lts.Need-returns (walk-stmt-case-claims t) (walk-stmt-case-at t) walk-stmt-case.Post
 unfolding kindOf
-walk-stmt-case-returns t c = c .before .before .walk-if-stmt .ensures ∙ sym ((plain-wrapped _ (37 ∷ 38 ∷ 39 ∷ 40 ∷ []) (c .before .before .before .before .before .before .before .before .before .pre .1) 0 (sym (c .before .before .before .before .match .keys1) ∙ c .before .before .before .before .before .before .field .ensures) (c .before .before .before .before .before .field2 .ensures) refl) .inner)
+walk-stmt-case-returns t c = c .before .before .walk-if-stmt .ensures ∙ sym (let k = stmt-is _ (c .before .before .before .before .before .before .before .before .before .before .pre .1 .is) (c .before .before .before .before .before .before .before .stmt .ensures) (c .before .before .before .before .before .id .given .1) in (plain-wrapped _ (37 ∷ 38 ∷ 39 ∷ 40 ∷ []) (c .before .before .before .before .before .before .before .before .before .before .pre .1) 0 (k .number) (k .child) refl) .inner)
 
 walk-stmt-case-same-length-2 : (t : ℕ) → walk-stmt-case-lts.Need-same-length-2 (walk-stmt-case-claims t) (walk-stmt-case-at t) walk-stmt-case.Post
 walk-stmt-case-same-length-2 t c = search needs
 
 walk-stmt-case-returns-2 : (t : ℕ) → walk-stmt-case-lts.Need-returns-2 (walk-stmt-case-claims t) (walk-stmt-case-at t) walk-stmt-case.Post
 unfolding kindOf
-walk-stmt-case-returns-2 t c = c .before .before .walk-then-stmt .ensures ∙ sym ((plain-wrapped _ (37 ∷ 38 ∷ 39 ∷ 40 ∷ []) (c .before .before .before .before .before .before .before .before .before .pre .1) 1 (sym (c .before .before .before .before .match .keys2) ∙ c .before .before .before .before .before .before .field .ensures) (c .before .before .before .before .before .field2 .ensures) refl) .inner)
+walk-stmt-case-returns-2 t c = c .before .before .walk-then-stmt .ensures ∙ sym (let k = stmt-is _ (c .before .before .before .before .before .before .before .before .before .before .pre .1 .is) (c .before .before .before .before .before .before .before .stmt .ensures) (c .before .before .before .before .before .id2 .given .1) in (plain-wrapped _ (37 ∷ 38 ∷ 39 ∷ 40 ∷ []) (c .before .before .before .before .before .before .before .before .before .before .pre .1) 1 (k .number) (k .child) refl) .inner)
 
 walk-stmt-case-same-length-3 : (t : ℕ) → walk-stmt-case-lts.Need-same-length-3 (walk-stmt-case-claims t) (walk-stmt-case-at t) walk-stmt-case.Post
 walk-stmt-case-same-length-3 t c = search needs
 
 walk-stmt-case-returns-3 : (t : ℕ) → walk-stmt-case-lts.Need-returns-3 (walk-stmt-case-claims t) (walk-stmt-case-at t) walk-stmt-case.Post
 unfolding kindOf
-walk-stmt-case-returns-3 t c = c .before .before .walk-branch .ensures ∙ sym ((plain-wrapped _ (37 ∷ 38 ∷ 39 ∷ 40 ∷ []) (c .before .before .before .before .before .before .before .before .before .pre .1) 2 (sym (c .before .before .before .before .match .keys3) ∙ c .before .before .before .before .before .before .field .ensures) (c .before .before .before .before .before .field2 .ensures) refl) .inner)
+walk-stmt-case-returns-3 t c = c .before .before .walk-branch .ensures ∙ sym (let k = stmt-is _ (c .before .before .before .before .before .before .before .before .before .before .pre .1 .is) (c .before .before .before .before .before .before .before .stmt .ensures) (c .before .before .before .before .before .id3 .given .1) in (plain-wrapped _ (37 ∷ 38 ∷ 39 ∷ 40 ∷ []) (c .before .before .before .before .before .before .before .before .before .before .pre .1) 2 (k .number) (k .child) refl) .inner)
 
 walk-stmt-case-same-length-4 : (t : ℕ) → walk-stmt-case-lts.Need-same-length-4 (walk-stmt-case-claims t) (walk-stmt-case-at t) walk-stmt-case.Post
 walk-stmt-case-same-length-4 t c = search needs
 
 walk-stmt-case-returns-4 : (t : ℕ) → walk-stmt-case-lts.Need-returns-4 (walk-stmt-case-claims t) (walk-stmt-case-at t) walk-stmt-case.Post
 unfolding kindOf
-walk-stmt-case-returns-4 t c = c .before .before .walk-match .ensures ∙ sym ((plain-wrapped _ (37 ∷ 38 ∷ 39 ∷ 40 ∷ []) (c .before .before .before .before .before .before .before .before .before .pre .1) 3 (let l = plain-last _ (37 ∷ 38 ∷ 39 ∷ 40 ∷ []) (c .before .before .before .before .before .before .before .before .before .pre .1 .is) in omega arith) (c .before .before .before .before .before .field2 .ensures) refl) .inner)
+walk-stmt-case-returns-4 t c = c .before .before .walk-match .ensures ∙ sym (let k = stmt-is _ (c .before .before .before .before .before .before .before .before .before .before .pre .1 .is) (c .before .before .before .before .before .before .before .stmt .ensures) (c .before .before .before .before .before .stmt2 .given .1) in (plain-wrapped _ (37 ∷ 38 ∷ 39 ∷ 40 ∷ []) (c .before .before .before .before .before .before .before .before .before .before .pre .1) 3 (k .number) (k .child) refl) .inner)
 
 pub +walk-blocks+walk-branch+walk-cases+walk-match+walk-match-case+walk-stmt+walk-stmt-block+walk-stmt-case-spec :
     {M : Type 1} → statement M
@@ -443,15 +422,11 @@ pub +walk-blocks+walk-branch+walk-cases+walk-match+walk-match-case+walk-stmt+wal
     walk-blocks.Post
     walk-blocks-Inv-loop
     walk-blocks-μ-loop
-    (walk-blocks-field-requires t)
-    (walk-blocks-wide-requires t)
+    (walk-blocks-branch-stmt-requires t)
     (walk-blocks-loop-holds t)
-    (walk-blocks-field-requires-2 t)
-    (walk-blocks-wide-requires-2 t)
-    (walk-blocks-add-walk-stmt-block t)
+    (walk-blocks-block-requires t)
     (walk-blocks-walk-stmt-block-requires t)
-    (walk-blocks-add-j t)
-    (walk-blocks-add-j-2 t)
+    (walk-blocks-add-place t)
     (walk-blocks-add-i t)
     (walk-blocks-loop-less t)
     (walk-blocks-loop-again t)
@@ -469,11 +444,8 @@ pub +walk-blocks+walk-branch+walk-cases+walk-match+walk-match-case+walk-stmt+wal
     walk-cases.Post
     walk-cases-Inv-loop
     walk-cases-μ-loop
-    (walk-cases-field-requires t)
-    (walk-cases-wide-requires t)
     (walk-cases-loop-holds t)
-    (walk-cases-add-field t)
-    (walk-cases-field-requires-2 t)
+    (walk-cases-nth-case-requires t)
     (walk-cases-walk-match-case-requires t)
     (walk-cases-add-i t)
     (walk-cases-loop-less t)
@@ -483,7 +455,7 @@ pub +walk-blocks+walk-branch+walk-cases+walk-match+walk-match-case+walk-stmt+wal
     (λ t. walk-match-lts.spec (walk-match-claims t)
     (walk-match-at t)
     walk-match.Post
-    (walk-match-field-requires t)
+    (walk-match-match-stmt-requires t)
     (walk-match-walk-term-requires t)
     (walk-match-walk-cases-requires t)
     (walk-match-leave-requires t)
@@ -492,9 +464,7 @@ pub +walk-blocks+walk-branch+walk-cases+walk-match+walk-match-case+walk-stmt+wal
     (λ t. walk-match-case-lts.spec (walk-match-case-claims t)
     (walk-match-case-at t)
     walk-match-case.Post
-    (walk-match-case-field-requires t)
-    (walk-match-case-field-requires-2 t)
-    (walk-match-case-wide-requires t)
+    (walk-match-case-match-case-requires t)
     (walk-match-case-walk-term-requires t)
     (walk-match-case-walk-stmt-block-requires t)
     (walk-match-case-leave-requires t)
@@ -513,10 +483,9 @@ pub +walk-blocks+walk-branch+walk-cases+walk-match+walk-match-case+walk-stmt+wal
     walk-stmt-block-Inv-loop
     walk-stmt-block-μ-loop
     (walk-stmt-block-loop-holds t)
-    (walk-stmt-block-add-field t)
-    (walk-stmt-block-field-requires t)
+    (walk-stmt-block-nth-stmt-requires t)
     (walk-stmt-block-walk-stmt-requires t)
-    (walk-stmt-block-add-done t)
+    (walk-stmt-block-add-i t)
     (walk-stmt-block-loop-less t)
     (walk-stmt-block-loop-again t)
     (walk-stmt-block-same-length t)
@@ -524,11 +493,14 @@ pub +walk-blocks+walk-branch+walk-cases+walk-match+walk-match-case+walk-stmt+wal
     λ t. walk-stmt-case-lts.spec (walk-stmt-case-claims t)
     (walk-stmt-case-at t)
     walk-stmt-case.Post
-    (walk-stmt-case-field-requires t)
-    (walk-stmt-case-field-requires-2 t)
+    (walk-stmt-case-stmt-requires t)
+    (walk-stmt-case-enum-known-id t)
     (walk-stmt-case-walk-if-stmt-requires t)
+    (walk-stmt-case-enum-known-id-2 t)
     (walk-stmt-case-walk-then-stmt-requires t)
+    (walk-stmt-case-enum-known-id-3 t)
     (walk-stmt-case-walk-branch-requires t)
+    (walk-stmt-case-enum-known-stmt t)
     (walk-stmt-case-walk-match-requires t)
     (walk-stmt-case-same-length t)
     (walk-stmt-case-returns t)

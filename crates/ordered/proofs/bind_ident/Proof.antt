@@ -3,17 +3,18 @@ use native.Mathlib.Omega.{arith}
 use Rattle.table.specs.State.{introduce, childScope, ownSymbol}
 use Rattle.table.specs.Table.{newScope, newSymbol}
 use Rattle.table.specs.Values.{walkedOf}
+use Rattle.ast.proofs.RowNames.{ident-word}
 use Rattle.ordered.specs.Promises.{Room}
 use Rattle.ordered.proofs.Steps.{ident-rising, ident-known, ident-new}
 use borrow.Author.Needs.{needs}
 use Rattle.ordered.proofs.bind_ident.Statement.{statement}
 use Rattle.ordered.proofs.bind_ident.Tie as tie
 
-name-of-requires : tie.Need-name-of-requires
-name-of-requires c κs = search needs
+ident-term-requires : tie.Need-ident-term-requires
+ident-term-requires c κs = search needs
 
 seek-requires : tie.Need-seek-requires
-seek-requires c κs = ident-rising _ _ _ _ (c .before .before .before .before .before .pre)
+seek-requires c κs = ident-rising _ _ _ _ (c .before .before .before .before .before .pre .1)
 
 is-value-requires : tie.Need-is-value-requires
 is-value-requires c κs = search needs
@@ -22,23 +23,23 @@ same-length : tie.Need-same-length
 same-length c = search needs
 
 returns : tie.Need-returns
-returns c = sym (ident-known _ _ _ _ _ (c .before .before .before .before .before .name-of .ensures) (c .before .before .seek .ensures) (sym (c .before .is-value .ensures) ∙ c .if1 .taken))
+returns c = sym (ident-known _ _ _ _ _ (c .before .before .before .before .before .ident-term .ensures ∙ sym (ident-word _ _ (c .before .before .before .before .before .before .before .before .pre .0))) (c .before .before .seek .ensures) (sym (c .before .is-value .ensures) ∙ c .if1 .taken))
 
 insert-var-symbol-requires : tie.Need-insert-var-symbol-requires
 unfolding introduce childScope ownSymbol newScope newSymbol
-insert-var-symbol-requires c κs = let r = subst (Room (c .before .before .before .before .before .before .before .before .before .args .image .now)) (ident-new _ _ (walkedOf (c .before .before .before .before .before .before .before .before .before .args .at) (c .before .before .before .before .before .before .before .before .before .args .table .now)) _ _ (c .before .before .before .before .before .before .name-of .ensures) (c .before .before .before .seek .ensures) (sym (c .before .before .is-value .ensures) ∙ c .before .if1 .left)) (c .before .before .before .before .before .before .before .before .before .pre) in omega arith
+insert-var-symbol-requires c κs = let r = subst (Room (c .before .before .before .before .before .before .before .before .before .args .image .now)) (ident-new _ _ (walkedOf (c .before .before .before .before .before .before .before .before .before .args .current) (c .before .before .before .before .before .before .before .before .before .args .table .now)) _ _ (c .before .before .before .before .before .before .ident-term .ensures ∙ sym (ident-word _ _ (c .before .before .before .before .before .before .before .before .before .pre .0))) (c .before .before .before .seek .ensures) (sym (c .before .before .is-value .ensures) ∙ c .before .if1 .left)) (c .before .before .before .before .before .before .before .before .before .pre .1) in omega arith
 
 same-length-2 : tie.Need-same-length-2
 same-length-2 c = search needs
 
 returns-2 : tie.Need-returns-2
-returns-2 c = c .before .before .insert-var-symbol .ensures ∙ sym (ident-new _ _ (walkedOf (c .before .before .before .before .before .before .before .before .before .before .before .before .args .at) (c .before .before .before .before .before .before .before .before .before .before .before .before .args .table .now)) _ _ (c .before .before .before .before .before .before .before .before .before .name-of .ensures) (c .before .before .before .before .before .before .seek .ensures) (sym (c .before .before .before .before .before .is-value .ensures) ∙ c .before .before .before .before .if1 .left))
+returns-2 c = c .before .before .insert-var-symbol .ensures ∙ sym (ident-new _ _ (walkedOf (c .before .before .before .before .before .before .before .before .before .before .before .before .args .current) (c .before .before .before .before .before .before .before .before .before .before .before .before .args .table .now)) _ _ (c .before .before .before .before .before .before .before .before .before .ident-term .ensures ∙ sym (ident-word _ _ (c .before .before .before .before .before .before .before .before .before .before .before .before .pre .0))) (c .before .before .before .before .before .before .seek .ensures) (sym (c .before .before .before .before .before .is-value .ensures) ∙ c .before .before .before .before .if1 .left))
 
 pub bind-ident-spec : {M : Type 1} → statement M
 bind-ident-spec =
     tie.close
     (tie.spec
-    name-of-requires
+    ident-term-requires
     seek-requires
     is-value-requires
     same-length

@@ -7,7 +7,7 @@ use Rattle.ordered.proofs.walk_ident_term.Statement.{statement}
 use Rattle.ordered.proofs.walk_ident_term.Tie as tie
 
 bind-ident-requires : tie.Need-bind-ident-requires
-bind-ident-requires c κs = ident-room _ (c .before .before .before .pre)
+bind-ident-requires c κs = (c .before .before .before .pre .is, ident-room _ (c .before .before .before .pre))
 
 leave-requires : tie.Need-leave-requires
 leave-requires c κs = search needs

@@ -1,5 +1,4 @@
 use mathlib.Core.Path.{sym, ap, _∙_}
-use Prim.Native.Nat.{_-_}
 use Rattle.ast.specs.Kinds.{kindOf}
 use Rattle.table.specs.State.{marked}
 use Rattle.ordered.proofs.Steps.{one}
@@ -7,12 +6,12 @@ use borrow.Author.Needs.{needs}
 use Rattle.ordered.proofs.walk_if_stmt.Statement.{statement}
 use Rattle.ordered.proofs.walk_if_stmt.Tie as tie
 
-field-requires : tie.Need-field-requires
-field-requires c κs = search needs
+if-stmt-requires : tie.Need-if-stmt-requires
+if-stmt-requires c κs = search needs
 
 walk-if-atom-requires : tie.Need-walk-if-atom-requires
 unfolding kindOf
-walk-if-atom-requires c κs = (one _ (c .before .before .before .before .pre) (c .before .field .ensures)) .first
+walk-if-atom-requires c κs = (one _ (c .before .before .before .before .before .pre) (c .before .before .if-stmt .ensures)) .first
 
 leave-requires : tie.Need-leave-requires
 leave-requires c κs = search needs
@@ -22,8 +21,8 @@ same-length c = search needs
 
 returns : tie.Need-returns
 unfolding kindOf
-returns c = c .before .before .leave .ensures ∙ ap (marked _ _ _) (c .before .before .before .before .before .before .walk-if-atom .ensures) ∙ sym ((one _ (c .before .before .before .before .before .before .before .before .before .before .before .pre) (c .before .before .before .before .before .before .before .before .field .ensures)) .whole)
+returns c = c .before .before .leave .ensures ∙ ap (marked _ _ _) (c .before .before .before .before .before .before .walk-if-atom .ensures) ∙ sym ((one _ (c .before .before .before .before .before .before .before .before .before .before .before .before .pre) (c .before .before .before .before .before .before .before .before .before .if-stmt .ensures)) .whole)
 
 pub walk-if-stmt-spec : {M : Type 1} → statement M
 walk-if-stmt-spec =
-    tie.close (tie.spec field-requires walk-if-atom-requires leave-requires same-length returns)
+    tie.close (tie.spec if-stmt-requires walk-if-atom-requires leave-requires same-length returns)

@@ -1,35 +1,25 @@
-use borrow.Author.Needs.{needs}
 use mathlib.Core.Path.{refl, sym, ap, _∙_}
 use native.Mathlib.Omega.{arith}
-use Rattle.ast.specs.Image.{field}
 use Rattle.table.specs.Values.{walkedOf}
-use Rattle.ordered.specs.Walk.{names}
+use Rattle.ordered.specs.Walk as roles
 use Rattle.ordered.specs.Promises.{rest}
 use Rattle.ordered.proofs.Lists.{Left, rest-end, name-more}
 use Prim.Native.Nat.{_-_}
 use Rattle.ordered.proofs.walk_names.Statement.{statement}
 use Rattle.ordered.proofs.walk_names.Tie as tie
+use borrow.Author.Needs.{needs}
 
 abbrev Inv-loop : tie.InvT-loop
-Inv-loop image table₀ node count i₀ w₀ table i w = Left image names (node .0) 2 (field image (node .0) 1) i (walkedOf w₀ table₀) (walkedOf w table)
+Inv-loop image table₀ names i₀ cur₀ table i cur = Left image roles.names (names .0 .node .0) (names .0 .first) (names .0 .count) i (walkedOf cur₀ table₀) (walkedOf cur table)
 
 abbrev μ-loop : tie.MeasureT-loop
-μ-loop image table₀ node count i₀ w₀ table i w = count - i
-
-field-requires : tie.Need-field-requires Inv-loop μ-loop
-field-requires c κs = search needs
-
-wide-requires : tie.Need-wide-requires Inv-loop μ-loop
-wide-requires c κs = search needs
+μ-loop image table₀ names i₀ cur₀ table i cur = names .0 .count - i
 
 loop-holds : tie.Need-loop-holds Inv-loop μ-loop
 loop-holds c = record { within = omega arith; long = refl; left = refl }
 
-add-field : tie.Need-add-field Inv-loop μ-loop
-add-field c = search needs
-
-field-requires-2 : tie.Need-field-requires-2 Inv-loop μ-loop
-field-requires-2 c κs = search needs
+nth-name-requires : tie.Need-nth-name-requires Inv-loop μ-loop
+nth-name-requires c κs = let s = c .before .before .before .before .before .pre .short in omega arith
 
 leave-requires : tie.Need-leave-requires Inv-loop μ-loop
 leave-requires c κs = search needs
@@ -41,13 +31,13 @@ loop-less : tie.Need-loop-less Inv-loop μ-loop
 loop-less c = search needs
 
 loop-again : tie.Need-loop-again Inv-loop μ-loop
-loop-again c = let l = c .before .before .before .before .before .before .loop .inv in record { within = omega arith; long = c .before .before .leave .kept .1 .0 ∙ l .long; left = name-more (c .before .before .before .before .before .before .before .before .before .before .before .args .image .now) _ _ (c .before .before .before .before .before .before .before .before .before .before .before .pre) (omega arith) (c .before .before .before .before .field2 .ensures) (l .left) ∙ ap (rest (c .before .before .before .before .before .before .before .before .before .before .before .args .image .now) names (c .before .before .before .before .before .before .before .before .before .before .before .args .node .0) 2 _ _) (sym (c .before .before .leave .ensures)) }
+loop-again c = let l = c .before .before .before .before .before .before .before .loop .inv in record { within = omega arith; long = c .before .before .leave .kept .1 .0 ∙ l .long; left = name-more (c .before .before .before .before .before .before .before .before .before .before .args .image .now) _ _ (c .before .before .before .before .before .before .before .before .before .before .pre) (omega arith) (c .before .before .before .before .nth-name .ensures) (l .left) ∙ ap (rest (c .before .before .before .before .before .before .before .before .before .before .args .image .now) roles.names (c .before .before .before .before .before .before .before .before .before .before .args .names .0 .node .0) (c .before .before .before .before .before .before .before .before .before .before .args .names .0 .first) _ _) (sym (c .before .before .leave .ensures)) }
 
 same-length : tie.Need-same-length Inv-loop μ-loop
-same-length c = c .before .loop .inv .long
+same-length c = c .before .before .loop .inv .long
 
 returns : tie.Need-returns Inv-loop μ-loop
-returns c = sym (c .before .loop .inv .left ∙ rest-end _ _ _ _ _ (c .before .loop .i) _ (omega arith))
+returns c = sym (c .before .before .loop .inv .left ∙ rest-end _ _ _ _ _ (c .before .before .loop .i) _ (omega arith))
 
 pub walk-names-spec : {M : Type 1} → statement M
 walk-names-spec =
@@ -55,11 +45,8 @@ walk-names-spec =
     (tie.spec
     Inv-loop
     μ-loop
-    field-requires
-    wide-requires
     loop-holds
-    add-field
-    field-requires-2
+    nth-name-requires
     leave-requires
     add-i
     loop-less

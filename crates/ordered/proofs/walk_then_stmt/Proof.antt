@@ -1,5 +1,4 @@
 use mathlib.Core.Path.{sym, ap, _∙_}
-use Prim.Native.Nat.{_-_}
 use Rattle.ast.specs.Kinds.{kindOf}
 use Rattle.table.specs.State.{marked}
 use Rattle.ordered.proofs.Steps.{one}
@@ -7,12 +6,12 @@ use borrow.Author.Needs.{needs}
 use Rattle.ordered.proofs.walk_then_stmt.Statement.{statement}
 use Rattle.ordered.proofs.walk_then_stmt.Tie as tie
 
-field-requires : tie.Need-field-requires
-field-requires c κs = search needs
+then-stmt-requires : tie.Need-then-stmt-requires
+then-stmt-requires c κs = search needs
 
 walk-then-atom-requires : tie.Need-walk-then-atom-requires
 unfolding kindOf
-walk-then-atom-requires c κs = (one _ (c .before .before .before .before .pre) (c .before .field .ensures)) .first
+walk-then-atom-requires c κs = (one _ (c .before .before .before .before .before .pre) (c .before .before .then-stmt .ensures)) .first
 
 leave-requires : tie.Need-leave-requires
 leave-requires c κs = search needs
@@ -22,8 +21,9 @@ same-length c = search needs
 
 returns : tie.Need-returns
 unfolding kindOf
-returns c = c .before .before .leave .ensures ∙ ap (marked _ _ _) (c .before .before .before .before .before .before .walk-then-atom .ensures) ∙ sym ((one _ (c .before .before .before .before .before .before .before .before .before .before .before .pre) (c .before .before .before .before .before .before .before .before .field .ensures)) .whole)
+returns c = c .before .before .leave .ensures ∙ ap (marked _ _ _) (c .before .before .before .before .before .before .walk-then-atom .ensures) ∙ sym ((one _ (c .before .before .before .before .before .before .before .before .before .before .before .before .pre) (c .before .before .before .before .before .before .before .before .before .then-stmt .ensures)) .whole)
 
 pub walk-then-stmt-spec : {M : Type 1} → statement M
 walk-then-stmt-spec =
-    tie.close (tie.spec field-requires walk-then-atom-requires leave-requires same-length returns)
+    tie.close
+    (tie.spec then-stmt-requires walk-then-atom-requires leave-requires same-length returns)
