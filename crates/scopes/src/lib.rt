@@ -459,7 +459,7 @@ fn visit_pred_decl(image: &[u8], table: &mut [u32], current: Walked, id: PredDec
     ensures { λ r. ⌜ walkedOf r (now (table .exit)) ≡ back (now (image .entry)) (current .scope .0) (inside (now (image .entry)) occurs (id .0 .0) (walkedOf current (now (table .entry)))) ⌝ }
 {
     let args = typed::pred_decl(image, id).args;
-    let after_args = ordered::walk_arg_decl_list(image, table, current, args.0);
+    let after_args = ordered::walk_arg_decl_list(image, table, current, args);
     dropped(current, after_args)
 }
 
@@ -468,8 +468,8 @@ fn visit_func_decl(image: &[u8], table: &mut [u32], current: Walked, id: FuncDec
     ensures { λ r. ⌜ walkedOf r (now (table .exit)) ≡ back (now (image .entry)) (current .scope .0) (inside (now (image .entry)) occurs (id .0 .0) (walkedOf current (now (table .entry)))) ⌝ }
 {
     let FuncDecl { args, result, .. } = typed::func_decl(image, id);
-    let after_args = ordered::walk_arg_decl_list(image, table, current, args.0);
-    let after_result = ordered::walk_type_expr(image, table, after_args, result.0);
+    let after_args = ordered::walk_arg_decl_list(image, table, current, args);
+    let after_result = ordered::walk_type_expr(image, table, after_args, result);
     dropped(current, after_result)
 }
 
@@ -478,7 +478,7 @@ fn visit_const_decl(image: &[u8], table: &mut [u32], current: Walked, id: ConstD
     ensures { λ r. ⌜ walkedOf r (now (table .exit)) ≡ back (now (image .entry)) (current .scope .0) (inside (now (image .entry)) occurs (id .0 .0) (walkedOf current (now (table .entry)))) ⌝ }
 {
     let result = typed::const_decl(image, id).result;
-    let after_result = ordered::walk_type_expr(image, table, current, result.0);
+    let after_result = ordered::walk_type_expr(image, table, current, result);
     dropped(current, after_result)
 }
 
@@ -487,8 +487,7 @@ fn visit_rule_decl(image: &[u8], table: &mut [u32], current: Walked, id: RuleDec
     ensures { λ r. ⌜ walkedOf r (now (table .exit)) ≡ back (now (image .entry)) (current .scope .0) (inside (now (image .entry)) occurs (id .0 .0) (walkedOf current (now (table .entry)))) ⌝ }
 {
     let body = typed::rule_decl(image, id).body;
-    let node = body.0.node;
-    let after_body = ordered::walk_stmt_block(image, table, current, node, body.0.first, body.0.count);
+    let after_body = ordered::walk_stmt_block(image, table, current, body);
     dropped(current, after_body)
 }
 
@@ -503,7 +502,7 @@ fn visit_enum_decl(image: &[u8], table: &mut [u32], current: Walked, id: EnumDec
     while i < ctors.0.count {
         let ctor = typed::nth_ctor(image, ctors, i);
         let args = typed::ctor_decl(image, ctor).args;
-        let after_args = ordered::walk_arg_decl_list(image, table, cur, args.0);
+        let after_args = ordered::walk_arg_decl_list(image, table, cur, args);
         cur = dropped(cur, after_args);
         i += 1;
     }

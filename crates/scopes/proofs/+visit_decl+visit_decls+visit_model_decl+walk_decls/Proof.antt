@@ -321,7 +321,7 @@ visit-model-decl-same-length-2 t c = search needs
 
 -- src/lib.rt:514:1
 visit-model-decl-returns : (t : ℕ) → visit-model-decl-lts.Need-returns (visit-model-decl-claims t) (visit-model-decl-at t) visit-model-decl.Post
-visit-model-decl-returns t c = let m = modelVisit _ (c .before .before .before .before .before .before .before .before .before .before .before .before .before .before .before .before .before .before .before .before .before .before .before .before .pre .1) (c .before .before .before .before .before .before .before .before .before .before .before .before .before .before .before .before .before .before .before .before .model-decl .ensures .list) (opened-is _ _ _ (c .before .before .before .before .before .before .before .before .before .before .before .before .before .before .before .before .before .new-scope .ensures) (c .before .before .before .before .before .before .before .before .before .before .before .before .before .insert-unordered .ensures)) in m .back-in _ _ (c .before .before .visited .given .1) (c .before .before .before .before .before .before .before .before .walk-decls .ensures) refl (dropped-is (c .before .before .before .before .before .before .before .before .before .before .before .before .before .before .before .before .before .before .before .before .before .before .before .before .args .image .now) (c .dropped .result) (c .before .before .before .before .before .before .before .before .before .before .before .before .before .before .before .before .before .before .before .before .before .before .before .before .args .current) _ _ (c .dropped .ensures))
+visit-model-decl-returns t c = let m = modelVisit _ (c .before .before .before .before .before .before .before .before .before .before .before .before .before .before .before .before .before .before .before .before .before .before .before .before .pre .1) (c .before .before .before .before .before .before .before .before .before .before .before .before .before .before .before .before .before .before .before .before .model-decl .ensures .list) (opened-is _ _ _ (c .before .before .before .before .before .before .before .before .before .before .before .before .before .before .before .before .before .new-scope .ensures) (c .before .before .before .before .before .before .before .before .before .before .before .before .before .insert-unordered .ensures)) in m .back-in _ _ (c .before .before .visited .given .1) (c .before .before .before .before .before .before .before .before .walk-decls .ensures) refl (dropped-is (c .before .before .before .before .before .before .before .before .before .before .before .before .before .before .before .before .before .before .before .before .before .before .before .before .args .image .now) (c .dropped .result) (c .before .before .before .before .before .before .before .before .before .before .before .before .before .before .before .before .before .before .before .before .before .before .before .before .args .current) (c .before .before .visited .given .0 .0) _ (c .dropped .ensures))
 
 -- src/lib.rt:514:1
 visit-model-decl-same-length-3 : (t : ℕ) → visit-model-decl-lts.Need-same-length-3 (visit-model-decl-claims t) (visit-model-decl-at t) visit-model-decl.Post

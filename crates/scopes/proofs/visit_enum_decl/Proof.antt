@@ -23,49 +23,49 @@ Inv-loop image table₀ ctors i₀ cur₀ table i cur = VisitLeft image (ctors .
 abbrev μ-loop : tie.MeasureT-loop
 μ-loop image table₀ ctors i₀ cur₀ table i cur = ctors .0 .count - i
 
--- src/lib.rt:500:17
+-- src/lib.rt:499:17
 enum-decl-requires : tie.Need-enum-decl-requires Inv-loop μ-loop
 enum-decl-requires c κs = search needs
 
--- src/lib.rt:503:5
+-- src/lib.rt:502:5
 loop-holds : tie.Need-loop-holds Inv-loop μ-loop
 loop-holds c = visit-begin _ ((enumVisit _ (c .before .before .before .before .pre) (c .before .enum-decl .ensures .list)) .run)
 
--- src/lib.rt:504:13
+-- src/lib.rt:503:13
 nth-ctor-requires : tie.Need-nth-ctor-requires Inv-loop μ-loop
 nth-ctor-requires c κs = let b = (enumVisit _ (c .before .before .before .before .before .before .before .pre) (c .before .before .before .before .enum-decl .ensures .list)) .run .run .short in omega arith
 
--- src/lib.rt:505:20
+-- src/lib.rt:504:20
 ctor-decl-requires : tie.Need-ctor-decl-requires Inv-loop μ-loop
 ctor-decl-requires c κs = search needs
 
--- src/lib.rt:506:13
+-- src/lib.rt:505:13
 walk-arg-decl-list-requires : tie.Need-walk-arg-decl-list-requires Inv-loop μ-loop
 unfolding kindOf
 walk-arg-decl-list-requires c κs = let o = visitItem _ ((enumVisit _ (c .before .before .before .before .before .before .before .before .before .before .before .pre) (c .before .before .before .before .before .before .before .before .enum-decl .ensures .list)) .run) (c .before .before .before .before .before .before .loop .inv) (c .before .before .before .before .if1 .taken) (c .before .before .before .nth-ctor .ensures) in (sigOne _ (sig-inside _ (o .ready .is) (o .ready .fits)) (c .before .before .ctor-decl .ensures .second)) .first
 
--- src/lib.rt:507:9
+-- src/lib.rt:506:9
 dropped-requires : tie.Need-dropped-requires Inv-loop μ-loop
 dropped-requires c κs = search needs
 
--- src/lib.rt:508:9
+-- src/lib.rt:507:9
 add-i : tie.Need-add-i Inv-loop μ-loop
 add-i c = let b = (enumVisit _ (c .before .before .before .before .before .before .before .before .before .before .before .before .before .before .before .pre) (c .before .before .before .before .before .before .before .before .before .before .before .before .enum-decl .ensures .list)) .run .run .short in let t = c .before .before .before .before .before .before .before .before .if1 .taken in omega arith
 
--- src/lib.rt:503:5
+-- src/lib.rt:502:5
 loop-less : tie.Need-loop-less Inv-loop μ-loop
 loop-less c = search needs
 
--- src/lib.rt:503:5
+-- src/lib.rt:502:5
 loop-again : tie.Need-loop-again Inv-loop μ-loop
 unfolding kindOf
 loop-again c = let o = visitItem _ ((enumVisit _ (c .before .before .before .before .before .before .before .before .before .before .before .before .before .before .before .pre) (c .before .before .before .before .before .before .before .before .before .before .before .before .enum-decl .ensures .list)) .run) (c .before .before .before .before .before .before .before .before .before .before .loop .inv) (c .before .before .before .before .before .before .before .before .if1 .taken) (c .before .before .before .before .before .before .before .nth-ctor .ensures) in let d = dropped-is (c .before .before .before .before .before .before .before .before .before .before .before .before .before .before .before .args .image .now) (c .dropped .result) (c .before .before .before .before .before .before .before .before .before .before .loop .cur) (c .before .before .before .walk-arg-decl-list .result) (c .before .before .before .walk-arg-decl-list .last .1 .0) (c .dropped .ensures) ∙ ap (back (c .before .before .before .before .before .before .before .before .before .before .before .before .before .before .before .args .image .now) _) (c .before .before .before .walk-arg-decl-list .ensures ∙ sym ((sigOne _ (sig-inside _ (o .ready .is) (o .ready .fits)) (c .before .before .before .before .before .before .ctor-decl .ensures .second)) .inner)) in o .more _ refl (done-visits _ _ _ (o .ready .fits) (ap done d ∙ sym (sig-visit _ _ (o .ready .is))))
 
--- src/lib.rt:496:1
+-- src/lib.rt:495:1
 same-length : tie.Need-same-length Inv-loop μ-loop
 same-length c = c .before .before .loop .inv .long
 
--- src/lib.rt:496:1
+-- src/lib.rt:495:1
 returns : tie.Need-returns Inv-loop μ-loop
 returns c = visit-ended _ _ (c .before .before .loop .inv) (c .if1 .left) .same ∙ sym ((enumVisit _ (c .before .before .before .before .before .before .before .pre) (c .before .before .before .before .enum-decl .ensures .list)) .whole)
 

@@ -14,11 +14,11 @@ use Rattle.typed.proofs.rule_decl.Reads as rule-decl-reads
 rule-decl-requires : tie.Need-rule-decl-requires
 rule-decl-requires c κs = search needs
 
--- src/lib.rt:491:9
+-- src/lib.rt:490:9
 walk-stmt-block-requires : tie.Need-walk-stmt-block-requires
-walk-stmt-block-requires c κs = (ruleRun _ (c .before .before .before .before .before .before .pre) (c .before .before .before .rule-decl .ensures .list)) .run
+walk-stmt-block-requires c κs = (ruleRun _ (c .before .before .before .before .before .pre) (c .before .before .rule-decl .ensures .list)) .run
 
--- src/lib.rt:492:5
+-- src/lib.rt:491:5
 dropped-requires : tie.Need-dropped-requires
 dropped-requires c κs = search needs
 
@@ -28,7 +28,7 @@ same-length c = search needs
 
 -- src/lib.rt:485:1
 returns : tie.Need-returns
-returns c = dropped-is (c .before .before .before .before .before .before .before .before .before .before .args .image .now) (c .dropped .result) (c .before .before .before .before .before .before .before .before .before .before .args .current) (c .before .before .before .walk-stmt-block .result) (c .before .before .before .walk-stmt-block .last .1 .0) (c .dropped .ensures) ∙ ap (back (c .before .before .before .before .before .before .before .before .before .before .args .image .now) _) (c .before .before .before .walk-stmt-block .ensures ∙ sym ((ruleRun _ (c .before .before .before .before .before .before .before .before .before .before .pre) (c .before .before .before .before .before .before .before .rule-decl .ensures .list)) .inner))
+returns c = dropped-is (c .before .before .before .before .before .before .before .before .before .args .image .now) (c .dropped .result) (c .before .before .before .before .before .before .before .before .before .args .current) (c .before .before .before .walk-stmt-block .result) (c .before .before .before .walk-stmt-block .last .1 .0) (c .dropped .ensures) ∙ ap (back (c .before .before .before .before .before .before .before .before .before .args .image .now) _) (c .before .before .before .walk-stmt-block .ensures ∙ sym ((ruleRun _ (c .before .before .before .before .before .before .before .before .before .pre) (c .before .before .before .before .before .before .rule-decl .ensures .list)) .inner))
 
 pub visit-rule-decl-spec : {M : Type 1} → statement M
 visit-rule-decl-spec =
