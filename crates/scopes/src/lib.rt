@@ -143,7 +143,8 @@ fn walk_module(image: &[u8], table: &mut [u32]) -> Declared
     requires { ⌜ Lent (now image) (now table) ⌝ }
     ensures { λ r. ⌜ Visits (now (image .entry)) (resolveTree (now (image .entry)) (treeAt (now (image .entry)) («image-spec».last (now (image .entry)))) (record { words = now (table .entry); scopes = 0; symbols = 0 })) (now (table .entry)) r (now (table .exit)) ⌝ }
 {
-    let module = ModuleId(NodeId(ast::node_count(image) - 1));
+    let last = ast::node_count(image) - 1;
+    let module = ModuleId(NodeId(last));
     let none = Walked {
         scopes: 0,
         symbols: 0,
