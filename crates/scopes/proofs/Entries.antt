@@ -216,8 +216,7 @@ module _ (img : List ℕ) where
   pub rule-named : {n x : ℕ} (e : Walked) → Is img (kindOf ruleDeclKind) n → suc x ≡ field img n 0 → (enter img (treeAt img n) e ≡ enterName img n (marked img n (e .scope) e)) × (ent (treeAt img n) ≡ 1)
   unfolding enterNames ruleNode
   rule-named {n} e is q =
-      let r = rule-enter e is in
-      (
+      let r = rule-enter e is in (
         r .0 ∙ ap (λ (y : ℕ). enterNames img (ruleNode (ruleShape n y) n) (marked img n (e .scope) e)) (sym q) ∙ and-nothing img (enterName img n (marked img n (e .scope) e)),
         ap length (r .1 ∙ ap (λ (y : ℕ). ruleNode (ruleShape n y) n) (sym q)),
       )
@@ -317,7 +316,7 @@ module _ (img : List ℕ) where
       record { same = sym g; stamps = λ f d. subst (Seen img seen) (done-same (walkedOf w vs) f (sym g ∙ d)) (b .entering .stamps); passed = b .passed }
 
   -- an enum: its own name, then its constructors' -----------------------------------------------------------------------------
-  pub ctor-is : {n i c : ℕ} → Is img (kindOf enumDeclKind) n → i < field img n 1 → c ≡ field img n (2 + i) → Is img (kindBy (outer signature) (name ∷ child argDeclListKind ∷ [])) c
+  ctor-is : {n i c : ℕ} → Is img (kindOf enumDeclKind) n → i < field img n 1 → c ≡ field img n (2 + i) → Is img (kindBy (outer signature) (name ∷ child argDeclListKind ∷ [])) c
   unfolding FormedFields next kindOf
   ctor-is {n} {i} {c} is l q =
       let h : Child img n ctorDeclKind (field img n (2 + i)) = (row img is) .1 .0 i l in
@@ -341,7 +340,7 @@ module _ (img : List ℕ) where
       let b = sig-ents n c (j + 1) (λ i l. subst (λ (x : ℕ). Signature img (field img n x)) (let q : j + suc i ≡ j + 1 + i = omega arith in q) (h (suc i) (omega arith))) in
       omega arith
 
-  pub ctor-ents : {n : ℕ} → Is img (kindOf enumDeclKind) n → ents (items img n (field img n 1) 2) ≡ field img n 1
+  ctor-ents : {n : ℕ} → Is img (kindOf enumDeclKind) n → ents (items img n (field img n 1) 2) ≡ field img n 1
   ctor-ents {n} is = sig-ents n (field img n 1) 2 (λ i l. signed (ctor-is {i = i} is l refl))
 
   pub sig-entering : {seen : List ℕ} {n : ℕ} {e : Walked} → Signature img n → Entering img seen (ent (treeAt img n)) e → Entering img seen 1 e

@@ -1,9 +1,8 @@
 // The unordered part of scopes.rs: Lookup, Resolve and the declaration lists.
 ghost use mathlib.Core.Path.{_≡_};
-ghost use Prim.Native.Nat.{_+_, _-_, _<_, _^_};
+ghost use Prim.Native.Nat.{_+_, _<_, _^_};
 ghost use mathlib.Core.List.{[], _∷_};
 ghost use mathlib.Core.Option.{some};
-ghost use lib.ListN.{drop};
 ghost use Rattle.ast.specs.Image as «image-spec»;
 ghost use Rattle.ast.specs.Is.{Is, kindBy};
 ghost use Rattle.ast.specs.Kinds.{outer, signature, name, child, kindOf};

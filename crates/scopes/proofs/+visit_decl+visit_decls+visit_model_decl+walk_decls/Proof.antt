@@ -102,121 +102,93 @@ visit-model-decl-claims t = (model-decl-reads.Asked, model-decl-reads.Learnt, ne
 abbrev walk-decls-claims : ℕ → walk-decls-lts.Claims
 walk-decls-claims t = (enter-decls-reads.Asked, enter-decls-reads.Learnt, visit-decls-below t, visit-decls.Post)
 
--- src/lib.rt:446:11
 visit-decl-decl-requires : (t : ℕ) → visit-decl-lts.Need-decl-requires (visit-decl-claims t) (visit-decl-at t) visit-decl.Post
 visit-decl-decl-requires t c κs = search needs
 
--- src/lib.rt:447:26
 visit-decl-enum-told : (t : ℕ) → visit-decl-lts.Need-enum-told (visit-decl-claims t) (visit-decl-at t) visit-decl.Post
 visit-decl-enum-told t c = search needs
 
--- src/lib.rt:448:20
 visit-decl-enum-known-id : (t : ℕ) → visit-decl-lts.Need-enum-known-id (visit-decl-claims t) (visit-decl-at t) visit-decl.Post
 visit-decl-enum-known-id t c = search needs
 
--- src/lib.rt:448:42
 visit-decl-visit-pred-decl-requires : (t : ℕ) → visit-decl-lts.Need-visit-pred-decl-requires (visit-decl-claims t) (visit-decl-at t) visit-decl.Post
 unfolding kindOf
 visit-decl-visit-pred-decl-requires t c κs = let o = decl-case _ (c .before .before .before .before .before .before .before .before .pre .1 .is) (c .before .before .before .before .decl .ensures) _ (c .before .before .id .given .1) in sig-inside _ (o .is) (decl-fits _ o (c .before .before .before .before .before .before .before .before .pre .1 .fits))
 
--- src/lib.rt:449:20
 visit-decl-enum-known-id-2 : (t : ℕ) → visit-decl-lts.Need-enum-known-id-2 (visit-decl-claims t) (visit-decl-at t) visit-decl.Post
 visit-decl-enum-known-id-2 t c = search needs
 
--- src/lib.rt:449:42
 visit-decl-visit-func-decl-requires : (t : ℕ) → visit-decl-lts.Need-visit-func-decl-requires (visit-decl-claims t) (visit-decl-at t) visit-decl.Post
 unfolding kindOf
 visit-decl-visit-func-decl-requires t c κs = let o = decl-case _ (c .before .before .before .before .before .before .before .before .pre .1 .is) (c .before .before .before .before .decl .ensures) _ (c .before .before .id2 .given .1) in sig-inside _ (o .is) (decl-fits _ o (c .before .before .before .before .before .before .before .before .pre .1 .fits))
 
--- src/lib.rt:450:21
 visit-decl-enum-known-id-3 : (t : ℕ) → visit-decl-lts.Need-enum-known-id-3 (visit-decl-claims t) (visit-decl-at t) visit-decl.Post
 visit-decl-enum-known-id-3 t c = search needs
 
--- src/lib.rt:450:43
 visit-decl-visit-const-decl-requires : (t : ℕ) → visit-decl-lts.Need-visit-const-decl-requires (visit-decl-claims t) (visit-decl-at t) visit-decl.Post
 unfolding kindOf
 visit-decl-visit-const-decl-requires t c κs = let o = decl-case _ (c .before .before .before .before .before .before .before .before .pre .1 .is) (c .before .before .before .before .decl .ensures) _ (c .before .before .id3 .given .1) in sig-inside _ (o .is) (decl-fits _ o (c .before .before .before .before .before .before .before .before .pre .1 .fits))
 
--- src/lib.rt:451:20
 visit-decl-enum-known-id-4 : (t : ℕ) → visit-decl-lts.Need-enum-known-id-4 (visit-decl-claims t) (visit-decl-at t) visit-decl.Post
 visit-decl-enum-known-id-4 t c = search needs
 
--- src/lib.rt:451:42
 visit-decl-visit-rule-decl-requires : (t : ℕ) → visit-decl-lts.Need-visit-rule-decl-requires (visit-decl-claims t) (visit-decl-at t) visit-decl.Post
 visit-decl-visit-rule-decl-requires t c κs = let o = decl-case _ (c .before .before .before .before .before .before .before .before .pre .1 .is) (c .before .before .before .before .decl .ensures) _ (c .before .before .id4 .given .1) in rule-inside _ (o .is) (decl-fits _ o (c .before .before .before .before .before .before .before .before .pre .1 .fits))
 
--- src/lib.rt:452:20
 visit-decl-enum-known-id-5 : (t : ℕ) → visit-decl-lts.Need-enum-known-id-5 (visit-decl-claims t) (visit-decl-at t) visit-decl.Post
 visit-decl-enum-known-id-5 t c = search needs
 
--- src/lib.rt:452:42
 visit-decl-visit-enum-decl-requires : (t : ℕ) → visit-decl-lts.Need-visit-enum-decl-requires (visit-decl-claims t) (visit-decl-at t) visit-decl.Post
 visit-decl-visit-enum-decl-requires t c κs = let o = decl-case _ (c .before .before .before .before .before .before .before .before .pre .1 .is) (c .before .before .before .before .decl .ensures) _ (c .before .before .id5 .given .1) in record { is = o .is; fits = decl-fits _ o (c .before .before .before .before .before .before .before .before .pre .1 .fits) }
 
--- src/lib.rt:453:21
 visit-decl-enum-known-id-6 : (t : ℕ) → visit-decl-lts.Need-enum-known-id-6 (visit-decl-claims t) (visit-decl-at t) visit-decl.Post
 visit-decl-enum-known-id-6 t c = search needs
 
--- src/lib.rt:453:28
 visit-decl-visit-model-decl-requires : (t : ℕ) → visit-decl-lts.Need-visit-model-decl-requires (visit-decl-claims t) (visit-decl-at t) visit-decl.Post
 visit-decl-visit-model-decl-requires t c κs = let o = decl-case _ (c .before .before .before .before .before .before .before .before .before .pre .1 .is) (c .before .before .before .before .before .decl .ensures) _ (c .before .before .before .id6 .given .1) in (let l = o .low in let m = c .before .before .before .before .before .before .before .before .before .pre .0 in omega arith, record { is = o .is; fits = decl-fits _ o (c .before .before .before .before .before .before .before .before .before .pre .1 .fits) })
 
--- src/lib.rt:436:1
 visit-decl-returns : (t : ℕ) → visit-decl-lts.Need-returns (visit-decl-claims t) (visit-decl-at t) visit-decl.Post
 visit-decl-returns t c = let o = decl-case _ (c .before .before .before .before .before .before .pre .1 .is) (c .before .before .decl .ensures) _ (c .enum-told .given .1) in done-visits _ _ _ (c .before .before .before .before .before .before .pre .1 .fits) (sym (decl-visited _ o _ ∙ type-visit _ _ (o .is)))
 
--- src/lib.rt:436:1
 visit-decl-same-length : (t : ℕ) → visit-decl-lts.Need-same-length (visit-decl-claims t) (visit-decl-at t) visit-decl.Post
 visit-decl-same-length t c = search needs
 
--- src/lib.rt:436:1
 visit-decl-returns-2 : (t : ℕ) → visit-decl-lts.Need-returns-2 (visit-decl-claims t) (visit-decl-at t) visit-decl.Post
 unfolding kindOf
 visit-decl-returns-2 t c = let o = decl-case _ (c .before .before .before .before .before .before .before .before .before .before .before .pre .1 .is) (c .before .before .before .before .before .before .before .decl .ensures) _ (c .before .before .before .before .before .id .given .1) in done-visits _ _ _ (c .before .before .before .before .before .before .before .before .before .before .before .pre .1 .fits) (ap done (c .before .before .visit-pred-decl .ensures) ∙ sym (decl-visited _ o _ ∙ sig-visit _ _ (o .is)))
 
--- src/lib.rt:436:1
 visit-decl-same-length-2 : (t : ℕ) → visit-decl-lts.Need-same-length-2 (visit-decl-claims t) (visit-decl-at t) visit-decl.Post
 visit-decl-same-length-2 t c = search needs
 
--- src/lib.rt:436:1
 visit-decl-returns-3 : (t : ℕ) → visit-decl-lts.Need-returns-3 (visit-decl-claims t) (visit-decl-at t) visit-decl.Post
 unfolding kindOf
 visit-decl-returns-3 t c = let o = decl-case _ (c .before .before .before .before .before .before .before .before .before .before .before .pre .1 .is) (c .before .before .before .before .before .before .before .decl .ensures) _ (c .before .before .before .before .before .id2 .given .1) in done-visits _ _ _ (c .before .before .before .before .before .before .before .before .before .before .before .pre .1 .fits) (ap done (c .before .before .visit-func-decl .ensures) ∙ sym (decl-visited _ o _ ∙ sig-visit _ _ (o .is)))
 
--- src/lib.rt:436:1
 visit-decl-same-length-3 : (t : ℕ) → visit-decl-lts.Need-same-length-3 (visit-decl-claims t) (visit-decl-at t) visit-decl.Post
 visit-decl-same-length-3 t c = search needs
 
--- src/lib.rt:436:1
 visit-decl-returns-4 : (t : ℕ) → visit-decl-lts.Need-returns-4 (visit-decl-claims t) (visit-decl-at t) visit-decl.Post
 unfolding kindOf
 visit-decl-returns-4 t c = let o = decl-case _ (c .before .before .before .before .before .before .before .before .before .before .before .pre .1 .is) (c .before .before .before .before .before .before .before .decl .ensures) _ (c .before .before .before .before .before .id3 .given .1) in done-visits _ _ _ (c .before .before .before .before .before .before .before .before .before .before .before .pre .1 .fits) (ap done (c .before .before .visit-const-decl .ensures) ∙ sym (decl-visited _ o _ ∙ sig-visit _ _ (o .is)))
 
--- src/lib.rt:436:1
 visit-decl-same-length-4 : (t : ℕ) → visit-decl-lts.Need-same-length-4 (visit-decl-claims t) (visit-decl-at t) visit-decl.Post
 visit-decl-same-length-4 t c = search needs
 
--- src/lib.rt:436:1
 visit-decl-returns-5 : (t : ℕ) → visit-decl-lts.Need-returns-5 (visit-decl-claims t) (visit-decl-at t) visit-decl.Post
 visit-decl-returns-5 t c = let o = decl-case _ (c .before .before .before .before .before .before .before .before .before .before .before .pre .1 .is) (c .before .before .before .before .before .before .before .decl .ensures) _ (c .before .before .before .before .before .id4 .given .1) in done-visits _ _ _ (c .before .before .before .before .before .before .before .before .before .before .before .pre .1 .fits) (ap done (c .before .before .visit-rule-decl .ensures) ∙ sym (decl-visited _ o _ ∙ rule-visit _ _ (o .is)))
 
--- src/lib.rt:436:1
 visit-decl-same-length-5 : (t : ℕ) → visit-decl-lts.Need-same-length-5 (visit-decl-claims t) (visit-decl-at t) visit-decl.Post
 visit-decl-same-length-5 t c = search needs
 
--- src/lib.rt:436:1
 visit-decl-returns-6 : (t : ℕ) → visit-decl-lts.Need-returns-6 (visit-decl-claims t) (visit-decl-at t) visit-decl.Post
 visit-decl-returns-6 t c = let o = decl-case _ (c .before .before .before .before .before .before .before .before .before .before .before .pre .1 .is) (c .before .before .before .before .before .before .before .decl .ensures) _ (c .before .before .before .before .before .id5 .given .1) in done-visits _ _ _ (c .before .before .before .before .before .before .before .before .before .before .before .pre .1 .fits) (c .before .before .visit-enum-decl .ensures ∙ sym (decl-visited _ o _))
 
--- src/lib.rt:436:1
 visit-decl-same-length-6 : (t : ℕ) → visit-decl-lts.Need-same-length-6 (visit-decl-claims t) (visit-decl-at t) visit-decl.Post
 visit-decl-same-length-6 t c = search needs
 
--- src/lib.rt:436:1
 visit-decl-same-length-7 : (t : ℕ) → visit-decl-lts.Need-same-length-7 (visit-decl-claims t) (visit-decl-at t) visit-decl.Post
 visit-decl-same-length-7 t c = search needs
 
--- src/lib.rt:436:1
 visit-decl-returns-7 : (t : ℕ) → visit-decl-lts.Need-returns-7 (visit-decl-claims t) (visit-decl-at t) visit-decl.Post
 visit-decl-returns-7 t c = let o = decl-case _ (c .before .before .before .before .before .before .before .before .before .before .before .before .before .before .pre .1 .is) (c .before .before .before .before .before .before .before .before .before .before .decl .ensures) _ (c .before .before .before .before .before .before .before .before .id6 .given .1) in visits-as _ (sym (decl-visited _ o _)) (c .before .before .before .before .visit-model-decl .ensures)
 
@@ -226,152 +198,115 @@ visit-decls-Inv-loop image table₀ seen₀ decls i₀ cur₀ table seen i cur =
 abbrev visit-decls-μ-loop : visit-decls-lts.MeasureT-loop
 visit-decls-μ-loop image table₀ seen₀ decls i₀ cur₀ table seen i cur = decls .0 .count - i
 
--- src/lib.rt:420:5
 visit-decls-loop-holds : (t : ℕ) → visit-decls-lts.Need-loop-holds (visit-decls-claims t) (visit-decls-at t) visit-decls.Post visit-decls-Inv-loop visit-decls-μ-loop
 visit-decls-loop-holds t c = (refl, visit-begin _ (c .before .before .before .pre .1))
 
--- src/lib.rt:421:13
 visit-decls-nth-decl-requires : (t : ℕ) → visit-decls-lts.Need-nth-decl-requires (visit-decls-claims t) (visit-decls-at t) visit-decls.Post visit-decls-Inv-loop visit-decls-μ-loop
 visit-decls-nth-decl-requires t c κs = let b = c .before .before .before .before .before .before .pre .1 .run .short in let t = c .if1 .taken in omega arith
 
--- src/lib.rt:422:15
 visit-decls-visit-decl-requires : (t : ℕ) → visit-decls-lts.Need-visit-decl-requires (visit-decls-claims t) (visit-decls-at t) visit-decls.Post visit-decls-Inv-loop visit-decls-μ-loop
 visit-decls-visit-decl-requires t c κs = let o = visitItem _ (c .before .before .before .before .before .before .before .before .before .pre .1) (c .before .before .before .before .before .loop .inv .1) (c .before .before .before .if1 .taken) (c .before .before .nth-decl .ensures) in (let l = o .low in let m = c .before .before .before .before .before .before .before .before .before .pre .0 in omega arith, o .ready)
 
--- src/lib.rt:423:28
 visit-decls-enum-known-visited : (t : ℕ) → visit-decls-lts.Need-enum-known-visited (visit-decls-claims t) (visit-decls-at t) visit-decls.Post visit-decls-Inv-loop visit-decls-μ-loop
 visit-decls-enum-known-visited t c = search needs
 
--- src/lib.rt:426:29
 visit-decls-enum-known-name : (t : ℕ) → visit-decls-lts.Need-enum-known-name (visit-decls-claims t) (visit-decls-at t) visit-decls.Post visit-decls-Inv-loop visit-decls-μ-loop
 visit-decls-enum-known-name t c = search needs
 
--- src/lib.rt:427:17
 visit-decls-same-length : (t : ℕ) → visit-decls-lts.Need-same-length (visit-decls-claims t) (visit-decls-at t) visit-decls.Post visit-decls-Inv-loop visit-decls-μ-loop
 visit-decls-same-length t c = c .before .before .before .before .before .before .before .visit-decl .kept .1 .0 ∙ c .before .before .before .before .before .before .before .before .before .before .before .before .before .loop .inv .1 .long
 
--- src/lib.rt:427:17
 visit-decls-same-length-2 : (t : ℕ) → visit-decls-lts.Need-same-length-2 (visit-decls-claims t) (visit-decls-at t) visit-decls.Post visit-decls-Inv-loop visit-decls-μ-loop
 visit-decls-same-length-2 t c = c .before .before .before .before .before .before .before .visit-decl .kept .1 .1 .0 ∙ c .before .before .before .before .before .before .before .before .before .before .before .before .before .loop .inv .0
 
--- src/lib.rt:427:17
 visit-decls-returns : (t : ℕ) → visit-decls-lts.Need-returns (visit-decls-claims t) (visit-decls-at t) visit-decls.Post visit-decls-Inv-loop visit-decls-μ-loop
 visit-decls-returns t c = (visitItem _ (c .before .before .before .before .before .before .before .before .before .before .before .before .before .before .before .before .before .pre .1) (c .before .before .before .before .before .before .before .before .before .before .before .before .before .loop .inv .1) (c .before .before .before .before .before .before .before .before .before .before .before .if1 .taken) (c .before .before .before .before .before .before .before .before .before .before .nth-decl .ensures)) .stop _ _ _ (c .before .name .given .1) (c .before .before .before .before .before .before .before .visit-decl .ensures)
 
--- src/lib.rt:430:9
 visit-decls-add-i : (t : ℕ) → visit-decls-lts.Need-add-i (visit-decls-claims t) (visit-decls-at t) visit-decls.Post visit-decls-Inv-loop visit-decls-μ-loop
 visit-decls-add-i t c = let b = c .before .before .before .before .before .before .before .before .before .before .before .before .before .before .before .before .before .pre .1 .run .short in let t = c .before .before .before .before .before .before .before .before .before .before .before .if1 .taken in omega arith
 
--- src/lib.rt:420:5
 visit-decls-loop-less : (t : ℕ) → visit-decls-lts.Need-loop-less (visit-decls-claims t) (visit-decls-at t) visit-decls.Post visit-decls-Inv-loop visit-decls-μ-loop
 visit-decls-loop-less t c = search needs
 
--- src/lib.rt:420:5
 visit-decls-loop-again : (t : ℕ) → visit-decls-lts.Need-loop-again (visit-decls-claims t) (visit-decls-at t) visit-decls.Post visit-decls-Inv-loop visit-decls-μ-loop
 visit-decls-loop-again t c = (c .before .before .before .before .before .before .before .visit-decl .kept .1 .1 .0 ∙ c .before .before .before .before .before .before .before .before .before .before .before .before .before .loop .inv .0, (visitItem _ (c .before .before .before .before .before .before .before .before .before .before .before .before .before .before .before .before .before .pre .1) (c .before .before .before .before .before .before .before .before .before .before .before .before .before .loop .inv .1) (c .before .before .before .before .before .before .before .before .before .before .before .if1 .taken) (c .before .before .before .before .before .before .before .before .before .before .nth-decl .ensures)) .more _ (c .before .visited .given .1) (c .before .before .before .before .before .before .before .visit-decl .ensures))
 
--- src/lib.rt:408:1
 visit-decls-same-length-3 : (t : ℕ) → visit-decls-lts.Need-same-length-3 (visit-decls-claims t) (visit-decls-at t) visit-decls.Post visit-decls-Inv-loop visit-decls-μ-loop
 visit-decls-same-length-3 t c = c .before .before .loop .inv .1 .long
 
--- src/lib.rt:408:1
 visit-decls-same-length-4 : (t : ℕ) → visit-decls-lts.Need-same-length-4 (visit-decls-claims t) (visit-decls-at t) visit-decls.Post visit-decls-Inv-loop visit-decls-μ-loop
 visit-decls-same-length-4 t c = c .before .before .loop .inv .0
 
--- src/lib.rt:408:1
 visit-decls-returns-2 : (t : ℕ) → visit-decls-lts.Need-returns-2 (visit-decls-claims t) (visit-decls-at t) visit-decls.Post visit-decls-Inv-loop visit-decls-μ-loop
 visit-decls-returns-2 t c = visit-ended _ _ (c .before .before .loop .inv .1) (c .if1 .left)
 
--- src/lib.rt:524:16
 visit-model-decl-model-decl-requires : (t : ℕ) → visit-model-decl-lts.Need-model-decl-requires (visit-model-decl-claims t) (visit-model-decl-at t) visit-model-decl.Post
 visit-model-decl-model-decl-requires t c κs = search needs
 
--- src/lib.rt:525:9
 visit-model-decl-new-scope-requires : (t : ℕ) → visit-model-decl-lts.Need-new-scope-requires (visit-model-decl-claims t) (visit-model-decl-at t) visit-model-decl.Post
 visit-model-decl-new-scope-requires t c κs = model-room _ (c .before .before .before .before .before .before .pre .1)
 
--- src/lib.rt:526:5
 visit-model-decl-insert-unordered-requires :
     (t : ℕ) → visit-model-decl-lts.Need-insert-unordered-requires (visit-model-decl-claims t) (visit-model-decl-at t) visit-model-decl.Post
 visit-model-decl-insert-unordered-requires t c κs = search needs
 
--- src/lib.rt:527:11
 visit-model-decl-walk-decls-requires : (t : ℕ) → visit-model-decl-lts.Need-walk-decls-requires (visit-model-decl-claims t) (visit-model-decl-at t) visit-model-decl.Post
 visit-model-decl-walk-decls-requires t c κs = let m = modelVisit _ (c .before .before .before .before .before .before .before .before .before .before .before .before .before .before .before .pre .1) (c .before .before .before .before .before .before .before .before .before .before .before .model-decl .ensures .list) (opened-is _ _ _ (c .before .before .before .before .before .before .before .before .new-scope .ensures) (c .before .before .before .before .insert-unordered .ensures)) in (let q = m .own in let l = c .before .before .before .before .before .before .before .before .before .before .before .before .before .before .before .pre .0 in omega arith, m .list)
 
--- src/lib.rt:528:24
 visit-model-decl-enum-known-visited : (t : ℕ) → visit-model-decl-lts.Need-enum-known-visited (visit-model-decl-claims t) (visit-model-decl-at t) visit-model-decl.Post
 visit-model-decl-enum-known-visited t c = search needs
 
--- src/lib.rt:528:51
 visit-model-decl-dropped-requires : (t : ℕ) → visit-model-decl-lts.Need-dropped-requires (visit-model-decl-claims t) (visit-model-decl-at t) visit-model-decl.Post
 visit-model-decl-dropped-requires t c κs = search needs
 
--- src/lib.rt:529:25
 visit-model-decl-enum-known-name : (t : ℕ) → visit-model-decl-lts.Need-enum-known-name (visit-model-decl-claims t) (visit-model-decl-at t) visit-model-decl.Post
 visit-model-decl-enum-known-name t c = search needs
 
--- src/lib.rt:514:1
 visit-model-decl-same-length : (t : ℕ) → visit-model-decl-lts.Need-same-length (visit-model-decl-claims t) (visit-model-decl-at t) visit-model-decl.Post
 visit-model-decl-same-length t c = search needs
 
--- src/lib.rt:514:1
 visit-model-decl-same-length-2 : (t : ℕ) → visit-model-decl-lts.Need-same-length-2 (visit-model-decl-claims t) (visit-model-decl-at t) visit-model-decl.Post
 visit-model-decl-same-length-2 t c = search needs
 
--- src/lib.rt:514:1
 visit-model-decl-returns : (t : ℕ) → visit-model-decl-lts.Need-returns (visit-model-decl-claims t) (visit-model-decl-at t) visit-model-decl.Post
 visit-model-decl-returns t c = let m = modelVisit _ (c .before .before .before .before .before .before .before .before .before .before .before .before .before .before .before .before .before .before .before .before .before .before .before .before .pre .1) (c .before .before .before .before .before .before .before .before .before .before .before .before .before .before .before .before .before .before .before .before .model-decl .ensures .list) (opened-is _ _ _ (c .before .before .before .before .before .before .before .before .before .before .before .before .before .before .before .before .before .new-scope .ensures) (c .before .before .before .before .before .before .before .before .before .before .before .before .before .insert-unordered .ensures)) in m .back-in _ _ (c .before .before .visited .given .1) (c .before .before .before .before .before .before .before .before .walk-decls .ensures) refl (dropped-is (c .before .before .before .before .before .before .before .before .before .before .before .before .before .before .before .before .before .before .before .before .before .before .before .before .args .image .now) (c .dropped .result) (c .before .before .before .before .before .before .before .before .before .before .before .before .before .before .before .before .before .before .before .before .before .before .before .before .args .current) (c .before .before .visited .given .0 .0) _ (c .dropped .ensures))
 
--- src/lib.rt:514:1
 visit-model-decl-same-length-3 : (t : ℕ) → visit-model-decl-lts.Need-same-length-3 (visit-model-decl-claims t) (visit-model-decl-at t) visit-model-decl.Post
 visit-model-decl-same-length-3 t c = search needs
 
--- src/lib.rt:514:1
 visit-model-decl-same-length-4 : (t : ℕ) → visit-model-decl-lts.Need-same-length-4 (visit-model-decl-claims t) (visit-model-decl-at t) visit-model-decl.Post
 visit-model-decl-same-length-4 t c = search needs
 
--- src/lib.rt:514:1
 visit-model-decl-returns-2 : (t : ℕ) → visit-model-decl-lts.Need-returns-2 (visit-model-decl-claims t) (visit-model-decl-at t) visit-model-decl.Post
 visit-model-decl-returns-2 t c = let m = modelVisit _ (c .before .before .before .before .before .before .before .before .before .before .before .before .before .before .before .before .before .before .before .before .before .before .before .pre .1) (c .before .before .before .before .before .before .before .before .before .before .before .before .before .before .before .before .before .before .before .model-decl .ensures .list) (opened-is _ _ _ (c .before .before .before .before .before .before .before .before .before .before .before .before .before .before .before .before .new-scope .ensures) (c .before .before .before .before .before .before .before .before .before .before .before .before .insert-unordered .ensures)) in m .stop _ _ _ (c .before .name .given .1) (c .before .before .before .before .before .before .before .walk-decls .ensures) refl
 
--- src/lib.rt:253:11
 walk-decls-enter-decls-requires : (t : ℕ) → walk-decls-lts.Need-enter-decls-requires (walk-decls-claims t) (walk-decls-at t) walk-decls.Post
 walk-decls-enter-decls-requires t c κs = list-enter _ _ (c .before .before .before .before .before .pre .1)
 
--- src/lib.rt:254:24
 walk-decls-enum-known-entered : (t : ℕ) → walk-decls-lts.Need-enum-known-entered (walk-decls-claims t) (walk-decls-at t) walk-decls.Post
 walk-decls-enum-known-entered t c = search needs
 
--- src/lib.rt:254:36
 walk-decls-visit-decls-requires : (t : ℕ) → walk-decls-lts.Need-visit-decls-requires (walk-decls-claims t) (walk-decls-at t) walk-decls.Post
 walk-decls-visit-decls-requires t c κs = (let m = c .before .before .before .before .before .before .before .before .before .before .before .before .before .before .before .pre .0 in omega arith, (listVisit _ _ (c .before .before .before .before .before .before .before .before .before .before .before .before .before .before .before .pre .1) (c .before .before .before .entered .given .1) (c .before .before .before .before .before .before .before .before .before .enter-decls .ensures)) .run)
 
--- src/lib.rt:255:25
 walk-decls-enum-known-name : (t : ℕ) → walk-decls-lts.Need-enum-known-name (walk-decls-claims t) (walk-decls-at t) walk-decls.Post
 walk-decls-enum-known-name t c = search needs
 
--- src/lib.rt:243:1
 walk-decls-same-length : (t : ℕ) → walk-decls-lts.Need-same-length (walk-decls-claims t) (walk-decls-at t) walk-decls.Post
 walk-decls-same-length t c = search needs
 
--- src/lib.rt:243:1
 walk-decls-same-length-2 : (t : ℕ) → walk-decls-lts.Need-same-length-2 (walk-decls-claims t) (walk-decls-at t) walk-decls.Post
 walk-decls-same-length-2 t c = search needs
 
--- src/lib.rt:243:1
 walk-decls-returns : (t : ℕ) → walk-decls-lts.Need-returns (walk-decls-claims t) (walk-decls-at t) walk-decls.Post
 walk-decls-returns t c = (listVisit _ _ (c .before .before .before .before .before .before .before .before .before .before .before .before .before .before .before .before .before .before .before .before .pre .1) (c .before .before .before .before .before .before .before .before .entered .given .1) (c .before .before .before .before .before .before .before .before .before .before .before .before .before .before .enter-decls .ensures)) .visits (c .before .before .before .before .visit-decls .ensures)
 
--- src/lib.rt:243:1
 walk-decls-same-length-3 : (t : ℕ) → walk-decls-lts.Need-same-length-3 (walk-decls-claims t) (walk-decls-at t) walk-decls.Post
 walk-decls-same-length-3 t c = search needs
 
--- src/lib.rt:243:1
 walk-decls-same-length-4 : (t : ℕ) → walk-decls-lts.Need-same-length-4 (walk-decls-claims t) (walk-decls-at t) walk-decls.Post
 walk-decls-same-length-4 t c = search needs
 
--- src/lib.rt:243:1
 walk-decls-returns-2 : (t : ℕ) → walk-decls-lts.Need-returns-2 (walk-decls-claims t) (walk-decls-at t) walk-decls.Post
 walk-decls-returns-2 t c = list-stop _ _ _ _ _ _ _ _ (c .before .name .given .1) (c .before .before .before .before .before .before .before .enter-decls .ensures)
 

@@ -8,11 +8,6 @@ use Rattle.ast.proofs.Shapes.{run-item}
 use Rattle.scopes.proofs.Entries.{EnterLeft, enter-begin, enterItem, enter-ended, signed, sig-name, sig-entering}
 use Rattle.scopes.proofs.enter_ctors.Statement.{statement}
 use Rattle.scopes.proofs.enter_ctors.Tie as tie
-use Rattle.scopes.proofs.enter_ctors.Reads as reads
-use Rattle.scopes.proofs.enter_ctors.Lts as lts
-use Rattle.scopes.proofs.enter_signature.Reads as enter-signature-reads
-use Rattle.typed.proofs.ctor_decl.Reads as ctor-decl-reads
-use Rattle.typed.proofs.nth_ctor.Reads as nth-ctor-reads
 use borrow.Author.Needs.{needs}
 
 abbrev Inv-loop : tie.InvT-loop
@@ -21,64 +16,49 @@ Inv-loop image table₀ seen₀ ctors i₀ cur₀ table seen i cur = (length see
 abbrev μ-loop : tie.MeasureT-loop
 μ-loop image table₀ seen₀ ctors i₀ cur₀ table seen i cur = ctors .0 .count - i
 
--- src/lib.rt:391:5
 loop-holds : tie.Need-loop-holds Inv-loop μ-loop
 loop-holds c = (refl, enter-begin _ (c .before .before .before .pre .entering))
 
--- src/lib.rt:392:13
 nth-ctor-requires : tie.Need-nth-ctor-requires Inv-loop μ-loop
 nth-ctor-requires c κs = let b = c .before .before .before .before .before .before .pre .run .short in omega arith
 
--- src/lib.rt:393:20
 ctor-decl-requires : tie.Need-ctor-decl-requires Inv-loop μ-loop
 ctor-decl-requires c κs = search needs
 
--- src/lib.rt:394:15
 enter-signature-requires : tie.Need-enter-signature-requires Inv-loop μ-loop
 unfolding kindOf
 enter-signature-requires c κs = let s = (signed _ (run-item _ (c .before .before .before .before .before .before .before .before .before .before .pre .run) (c .before .before .before .before .if1 .taken) (c .before .before .before .nth-ctor .ensures) .1)) in (s, record { name = sig-name _ s (c .before .before .ctor-decl .ensures .first); entering = sig-entering _ s ((enterItem _ (c .before .before .before .before .before .before .loop .inv .1) (c .before .before .before .before .if1 .taken) (c .before .before .before .nth-ctor .ensures)) .entering) })
 
--- src/lib.rt:395:28
 enum-known-entered : tie.Need-enum-known-entered Inv-loop μ-loop
 enum-known-entered c = search needs
 
--- src/lib.rt:398:29
 enum-known-name : tie.Need-enum-known-name Inv-loop μ-loop
 enum-known-name c = search needs
 
--- src/lib.rt:399:17
 same-length : tie.Need-same-length Inv-loop μ-loop
 same-length c = c .before .before .before .before .before .before .before .enter-signature .kept .1 .0 ∙ c .before .before .before .before .before .before .before .before .before .before .before .before .before .before .loop .inv .1 .long
 
--- src/lib.rt:399:17
 same-length-2 : tie.Need-same-length-2 Inv-loop μ-loop
 same-length-2 c = c .before .before .before .before .before .before .before .enter-signature .kept .1 .1 .0 ∙ c .before .before .before .before .before .before .before .before .before .before .before .before .before .before .loop .inv .0
 
--- src/lib.rt:399:17
 returns : tie.Need-returns Inv-loop μ-loop
 returns c = (enterItem _ (c .before .before .before .before .before .before .before .before .before .before .before .before .before .before .loop .inv .1) (c .before .before .before .before .before .before .before .before .before .before .before .before .if1 .taken) (c .before .before .before .before .before .before .before .before .before .before .before .nth-ctor .ensures)) .stop _ _ _ (c .before .name .given .1) (c .before .before .before .before .before .before .before .enter-signature .ensures)
 
--- src/lib.rt:402:9
 add-i : tie.Need-add-i Inv-loop μ-loop
 add-i c = let b = c .before .before .before .before .before .before .before .before .before .before .before .before .before .before .before .before .before .before .pre .run .short in let t = c .before .before .before .before .before .before .before .before .before .before .before .before .if1 .taken in omega arith
 
--- src/lib.rt:391:5
 loop-less : tie.Need-loop-less Inv-loop μ-loop
 loop-less c = search needs
 
--- src/lib.rt:391:5
 loop-again : tie.Need-loop-again Inv-loop μ-loop
 loop-again c = (c .before .before .before .before .before .before .before .enter-signature .kept .1 .1 .0 ∙ c .before .before .before .before .before .before .before .before .before .before .before .before .before .before .loop .inv .0, (enterItem _ (c .before .before .before .before .before .before .before .before .before .before .before .before .before .before .loop .inv .1) (c .before .before .before .before .before .before .before .before .before .before .before .before .if1 .taken) (c .before .before .before .before .before .before .before .before .before .before .before .nth-ctor .ensures)) .more _ (c .before .entered .given .1) (c .before .before .before .before .before .before .before .enter-signature .ensures))
 
--- src/lib.rt:379:1
 same-length-3 : tie.Need-same-length-3 Inv-loop μ-loop
 same-length-3 c = c .before .before .loop .inv .1 .long
 
--- src/lib.rt:379:1
 same-length-4 : tie.Need-same-length-4 Inv-loop μ-loop
 same-length-4 c = c .before .before .loop .inv .0
 
--- src/lib.rt:379:1
 returns-2 : tie.Need-returns-2 Inv-loop μ-loop
 returns-2 c = enter-ended _ _ (c .before .before .loop .inv .1) (c .if1 .left)
 

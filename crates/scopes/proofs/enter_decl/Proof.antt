@@ -6,189 +6,134 @@ use Rattle.scopes.proofs.Entries.{entering-less, declEnter, signed, sig
 use borrow.Author.Needs.{needs}
 use Rattle.scopes.proofs.enter_decl.Statement.{statement}
 use Rattle.scopes.proofs.enter_decl.Tie as tie
-use Rattle.scopes.proofs.enter_decl.Reads as reads
-use Rattle.scopes.proofs.enter_decl.Lts as lts
-use Rattle.scopes.proofs.enter_enum.Reads as enter-enum-reads
-use Rattle.scopes.proofs.enter_rule.Reads as enter-rule-reads
-use Rattle.scopes.proofs.enter_signature.Reads as enter-signature-reads
-use Rattle.scopes.proofs.insert_decl_symbol.Reads as insert-decl-symbol-reads
-use Rattle.scopes.proofs.insert_unordered.Reads as insert-unordered-reads
-use Rattle.typed.proofs.const_decl.Reads as const-decl-reads
-use Rattle.typed.proofs.decl.Reads as decl-reads
-use Rattle.typed.proofs.func_decl.Reads as func-decl-reads
-use Rattle.typed.proofs.model_decl.Reads as model-decl-reads
-use Rattle.typed.proofs.pred_decl.Reads as pred-decl-reads
-use Rattle.typed.proofs.type_decl.Reads as type-decl-reads
 
--- src/lib.rt:298:5
 insert-unordered-requires : tie.Need-insert-unordered-requires
 insert-unordered-requires c κs = search needs
 
--- src/lib.rt:299:11
 decl-requires : tie.Need-decl-requires
 decl-requires c κs = search needs
 
--- src/lib.rt:300:20
 enum-known-id : tie.Need-enum-known-id
 enum-known-id c = search needs
 
--- src/lib.rt:301:24
 type-decl-requires : tie.Need-type-decl-requires
 type-decl-requires c κs = search needs
 
--- src/lib.rt:302:13
 enter-signature-requires : tie.Need-enter-signature-requires
 unfolding kindOf
 enter-signature-requires c κs = let o = decl-case _ (c .before .before .before .before .before .before .before .before .before .before .before .before .before .before .pre .0) (c .before .before .before .before .before .before .decl .ensures) _ (c .before .before .before .before .id .given .1) in let d = declEnter _ o (c .before .before .before .before .before .before .before .before .before .before .before .before .before .before .pre .0 .below) (c .before .before .before .before .before .before .before .before .before .before .before .before .before .before .pre .1) (c .before .before .before .before .before .before .before .before .before .insert-unordered .ensures) in let s = signed _ (o .is) in (s, record { name = sig-name _ s (c .before .before .type-decl .ensures); entering = sig-entering _ s (d .entering) })
 
--- src/lib.rt:304:20
 enum-known-id-2 : tie.Need-enum-known-id-2
 enum-known-id-2 c = search needs
 
--- src/lib.rt:305:24
 pred-decl-requires : tie.Need-pred-decl-requires
 pred-decl-requires c κs = search needs
 
--- src/lib.rt:306:13
 enter-signature-requires-2 : tie.Need-enter-signature-requires-2
 unfolding kindOf
 enter-signature-requires-2 c κs = let o = decl-case _ (c .before .before .before .before .before .before .before .before .before .before .before .before .before .before .pre .0) (c .before .before .before .before .before .before .decl .ensures) _ (c .before .before .before .before .id2 .given .1) in let d = declEnter _ o (c .before .before .before .before .before .before .before .before .before .before .before .before .before .before .pre .0 .below) (c .before .before .before .before .before .before .before .before .before .before .before .before .before .before .pre .1) (c .before .before .before .before .before .before .before .before .before .insert-unordered .ensures) in let s = signed _ (o .is) in (s, record { name = sig-name _ s (c .before .before .pred-decl .ensures .first); entering = sig-entering _ s (d .entering) })
 
--- src/lib.rt:308:20
 enum-known-id-3 : tie.Need-enum-known-id-3
 enum-known-id-3 c = search needs
 
--- src/lib.rt:309:24
 func-decl-requires : tie.Need-func-decl-requires
 func-decl-requires c κs = search needs
 
--- src/lib.rt:310:13
 enter-signature-requires-3 : tie.Need-enter-signature-requires-3
 unfolding kindOf
 enter-signature-requires-3 c κs = let o = decl-case _ (c .before .before .before .before .before .before .before .before .before .before .before .before .before .before .pre .0) (c .before .before .before .before .before .before .decl .ensures) _ (c .before .before .before .before .id3 .given .1) in let d = declEnter _ o (c .before .before .before .before .before .before .before .before .before .before .before .before .before .before .pre .0 .below) (c .before .before .before .before .before .before .before .before .before .before .before .before .before .before .pre .1) (c .before .before .before .before .before .before .before .before .before .insert-unordered .ensures) in let s = signed _ (o .is) in (s, record { name = sig-name _ s (c .before .before .func-decl .ensures .first); entering = sig-entering _ s (d .entering) })
 
--- src/lib.rt:312:21
 enum-known-id-4 : tie.Need-enum-known-id-4
 enum-known-id-4 c = search needs
 
--- src/lib.rt:313:24
 const-decl-requires : tie.Need-const-decl-requires
 const-decl-requires c κs = search needs
 
--- src/lib.rt:314:13
 enter-signature-requires-4 : tie.Need-enter-signature-requires-4
 unfolding kindOf
 enter-signature-requires-4 c κs = let o = decl-case _ (c .before .before .before .before .before .before .before .before .before .before .before .before .before .before .pre .0) (c .before .before .before .before .before .before .decl .ensures) _ (c .before .before .before .before .id4 .given .1) in let d = declEnter _ o (c .before .before .before .before .before .before .before .before .before .before .before .before .before .before .pre .0 .below) (c .before .before .before .before .before .before .before .before .before .before .before .before .before .before .pre .1) (c .before .before .before .before .before .before .before .before .before .insert-unordered .ensures) in let s = signed _ (o .is) in (s, record { name = sig-name _ s (c .before .before .const-decl .ensures .first); entering = sig-entering _ s (d .entering) })
 
--- src/lib.rt:316:20
 enum-known-id-5 : tie.Need-enum-known-id-5
 enum-known-id-5 c = search needs
 
--- src/lib.rt:316:27
 enter-rule-requires : tie.Need-enter-rule-requires
 enter-rule-requires c κs = let o = decl-case _ (c .before .before .before .before .before .before .before .before .before .before .before .before .before .pre .0) (c .before .before .before .before .before .decl .ensures) _ (c .before .before .before .id5 .given .1) in let d = declEnter _ o (c .before .before .before .before .before .before .before .before .before .before .before .before .before .pre .0 .below) (c .before .before .before .before .before .before .before .before .before .before .before .before .before .pre .1) (c .before .before .before .before .before .before .before .before .insert-unordered .ensures) in (o .is, d .entering)
 
--- src/lib.rt:317:20
 enum-known-id-6 : tie.Need-enum-known-id-6
 enum-known-id-6 c = search needs
 
--- src/lib.rt:317:27
 enter-enum-requires : tie.Need-enter-enum-requires
 enter-enum-requires c κs = let o = decl-case _ (c .before .before .before .before .before .before .before .before .before .before .before .before .before .pre .0) (c .before .before .before .before .before .decl .ensures) _ (c .before .before .before .id6 .given .1) in let d = declEnter _ o (c .before .before .before .before .before .before .before .before .before .before .before .before .before .pre .0 .below) (c .before .before .before .before .before .before .before .before .before .before .before .before .before .pre .1) (c .before .before .before .before .before .before .before .before .insert-unordered .ensures) in (o .is, d .entering)
 
--- src/lib.rt:318:21
 enum-known-id-7 : tie.Need-enum-known-id-7
 enum-known-id-7 c = search needs
 
--- src/lib.rt:319:24
 model-decl-requires : tie.Need-model-decl-requires
 model-decl-requires c κs = search needs
 
--- src/lib.rt:320:13
 insert-decl-symbol-requires : tie.Need-insert-decl-symbol-requires
 insert-decl-symbol-requires c κs = let o = decl-case _ (c .before .before .before .before .before .before .before .before .before .before .before .before .before .before .pre .0) (c .before .before .before .before .before .before .decl .ensures) _ (c .before .before .before .before .id7 .given .1) in let d = declEnter _ o (c .before .before .before .before .before .before .before .before .before .before .before .before .before .before .pre .0 .below) (c .before .before .before .before .before .before .before .before .before .before .before .before .before .before .pre .1) (c .before .before .before .before .before .before .before .before .before .insert-unordered .ensures) in let z = model-ent _ (o .is) in record { name = model-name _ (o .is) (c .before .before .model-decl .ensures .first); entering = entering-less _ (omega arith) (d .entering) }
 
--- src/lib.rt:288:1
 same-length : tie.Need-same-length
 same-length c = search needs
 
--- src/lib.rt:288:1
 same-length-2 : tie.Need-same-length-2
 same-length-2 c = search needs
 
--- src/lib.rt:288:1
 returns : tie.Need-returns
 returns c = let o = decl-case _ (c .before .before .before .before .before .before .before .before .before .before .before .before .before .before .before .before .before .before .before .pre .0) (c .before .before .before .before .before .before .before .before .before .before .before .decl .ensures) _ (c .before .before .before .before .before .before .before .before .before .id .given .1) in let d = declEnter _ o (c .before .before .before .before .before .before .before .before .before .before .before .before .before .before .before .before .before .before .before .pre .0 .below) (c .before .before .before .before .before .before .before .before .before .before .before .before .before .before .before .before .before .before .before .pre .1) (c .before .before .before .before .before .before .before .before .before .before .before .before .before .before .insert-unordered .ensures) in d .enters (c .before .before .before .before .enter-signature .ensures)
 
--- src/lib.rt:288:1
 same-length-3 : tie.Need-same-length-3
 same-length-3 c = search needs
 
--- src/lib.rt:288:1
 same-length-4 : tie.Need-same-length-4
 same-length-4 c = search needs
 
--- src/lib.rt:288:1
 returns-2 : tie.Need-returns-2
 returns-2 c = let o = decl-case _ (c .before .before .before .before .before .before .before .before .before .before .before .before .before .before .before .before .before .before .before .pre .0) (c .before .before .before .before .before .before .before .before .before .before .before .decl .ensures) _ (c .before .before .before .before .before .before .before .before .before .id2 .given .1) in let d = declEnter _ o (c .before .before .before .before .before .before .before .before .before .before .before .before .before .before .before .before .before .before .before .pre .0 .below) (c .before .before .before .before .before .before .before .before .before .before .before .before .before .before .before .before .before .before .before .pre .1) (c .before .before .before .before .before .before .before .before .before .before .before .before .before .before .insert-unordered .ensures) in d .enters (c .before .before .before .before .enter-signature2 .ensures)
 
--- src/lib.rt:288:1
 same-length-5 : tie.Need-same-length-5
 same-length-5 c = search needs
 
--- src/lib.rt:288:1
 same-length-6 : tie.Need-same-length-6
 same-length-6 c = search needs
 
--- src/lib.rt:288:1
 returns-3 : tie.Need-returns-3
 returns-3 c = let o = decl-case _ (c .before .before .before .before .before .before .before .before .before .before .before .before .before .before .before .before .before .before .before .pre .0) (c .before .before .before .before .before .before .before .before .before .before .before .decl .ensures) _ (c .before .before .before .before .before .before .before .before .before .id3 .given .1) in let d = declEnter _ o (c .before .before .before .before .before .before .before .before .before .before .before .before .before .before .before .before .before .before .before .pre .0 .below) (c .before .before .before .before .before .before .before .before .before .before .before .before .before .before .before .before .before .before .before .pre .1) (c .before .before .before .before .before .before .before .before .before .before .before .before .before .before .insert-unordered .ensures) in d .enters (c .before .before .before .before .enter-signature3 .ensures)
 
--- src/lib.rt:288:1
 same-length-7 : tie.Need-same-length-7
 same-length-7 c = search needs
 
--- src/lib.rt:288:1
 same-length-8 : tie.Need-same-length-8
 same-length-8 c = search needs
 
--- src/lib.rt:288:1
 returns-4 : tie.Need-returns-4
 returns-4 c = let o = decl-case _ (c .before .before .before .before .before .before .before .before .before .before .before .before .before .before .before .before .before .before .before .pre .0) (c .before .before .before .before .before .before .before .before .before .before .before .decl .ensures) _ (c .before .before .before .before .before .before .before .before .before .id4 .given .1) in let d = declEnter _ o (c .before .before .before .before .before .before .before .before .before .before .before .before .before .before .before .before .before .before .before .pre .0 .below) (c .before .before .before .before .before .before .before .before .before .before .before .before .before .before .before .before .before .before .before .pre .1) (c .before .before .before .before .before .before .before .before .before .before .before .before .before .before .insert-unordered .ensures) in d .enters (c .before .before .before .before .enter-signature4 .ensures)
 
--- src/lib.rt:288:1
 same-length-9 : tie.Need-same-length-9
 same-length-9 c = search needs
 
--- src/lib.rt:288:1
 same-length-10 : tie.Need-same-length-10
 same-length-10 c = search needs
 
--- src/lib.rt:288:1
 returns-5 : tie.Need-returns-5
 returns-5 c = let o = decl-case _ (c .before .before .before .before .before .before .before .before .before .before .before .before .before .before .before .before .before .before .pre .0) (c .before .before .before .before .before .before .before .before .before .before .decl .ensures) _ (c .before .before .before .before .before .before .before .before .id5 .given .1) in let d = declEnter _ o (c .before .before .before .before .before .before .before .before .before .before .before .before .before .before .before .before .before .before .pre .0 .below) (c .before .before .before .before .before .before .before .before .before .before .before .before .before .before .before .before .before .before .pre .1) (c .before .before .before .before .before .before .before .before .before .before .before .before .before .insert-unordered .ensures) in d .enters (c .before .before .before .before .enter-rule .ensures)
 
--- src/lib.rt:288:1
 same-length-11 : tie.Need-same-length-11
 same-length-11 c = search needs
 
--- src/lib.rt:288:1
 same-length-12 : tie.Need-same-length-12
 same-length-12 c = search needs
 
--- src/lib.rt:288:1
 returns-6 : tie.Need-returns-6
 returns-6 c = let o = decl-case _ (c .before .before .before .before .before .before .before .before .before .before .before .before .before .before .before .before .before .before .pre .0) (c .before .before .before .before .before .before .before .before .before .before .decl .ensures) _ (c .before .before .before .before .before .before .before .before .id6 .given .1) in let d = declEnter _ o (c .before .before .before .before .before .before .before .before .before .before .before .before .before .before .before .before .before .before .pre .0 .below) (c .before .before .before .before .before .before .before .before .before .before .before .before .before .before .before .before .before .before .pre .1) (c .before .before .before .before .before .before .before .before .before .before .before .before .before .insert-unordered .ensures) in d .enters (c .before .before .before .before .enter-enum .ensures)
 
--- src/lib.rt:288:1
 same-length-13 : tie.Need-same-length-13
 same-length-13 c = search needs
 
--- src/lib.rt:288:1
 same-length-14 : tie.Need-same-length-14
 same-length-14 c = search needs
 
--- src/lib.rt:288:1
 returns-7 : tie.Need-returns-7
 returns-7 c = let o = decl-case _ (c .before .before .before .before .before .before .before .before .before .before .before .before .before .before .before .before .before .before .before .pre .0) (c .before .before .before .before .before .before .before .before .before .before .before .decl .ensures) _ (c .before .before .before .before .before .before .before .before .before .id7 .given .1) in let d = declEnter _ o (c .before .before .before .before .before .before .before .before .before .before .before .before .before .before .before .before .before .before .before .pre .0 .below) (c .before .before .before .before .before .before .before .before .before .before .before .before .before .before .before .before .before .before .before .pre .1) (c .before .before .before .before .before .before .before .before .before .before .before .before .before .before .insert-unordered .ensures) in d .enters (enters-as _ (sym (model-enter _ _ (o .is) .0)) refl (c .before .before .before .before .insert-decl-symbol .ensures))
 

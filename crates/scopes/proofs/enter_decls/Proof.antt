@@ -7,10 +7,6 @@ use Rattle.ast.proofs.Shapes.{run-item}
 use Rattle.scopes.proofs.Entries.{EnterLeft, enter-begin, enterItem, enter-ended}
 use Rattle.scopes.proofs.enter_decls.Statement.{statement}
 use Rattle.scopes.proofs.enter_decls.Tie as tie
-use Rattle.scopes.proofs.enter_decls.Reads as reads
-use Rattle.scopes.proofs.enter_decls.Lts as lts
-use Rattle.scopes.proofs.enter_decl.Reads as enter-decl-reads
-use Rattle.typed.proofs.nth_decl.Reads as nth-decl-reads
 use borrow.Author.Needs.{needs}
 
 abbrev Inv-loop : tie.InvT-loop
@@ -19,59 +15,45 @@ Inv-loop image table₀ seen₀ decls i₀ cur₀ table seen i cur = (length see
 abbrev μ-loop : tie.MeasureT-loop
 μ-loop image table₀ seen₀ decls i₀ cur₀ table seen i cur = decls .0 .count - i
 
--- src/lib.rt:272:5
 loop-holds : tie.Need-loop-holds Inv-loop μ-loop
 loop-holds c = (refl, enter-begin _ (c .before .before .before .pre .entering))
 
--- src/lib.rt:273:13
 nth-decl-requires : tie.Need-nth-decl-requires Inv-loop μ-loop
 nth-decl-requires c κs = let b = c .before .before .before .before .before .before .pre .run .short in let t = c .if1 .taken in omega arith
 
--- src/lib.rt:274:15
 enter-decl-requires : tie.Need-enter-decl-requires Inv-loop μ-loop
 enter-decl-requires c κs = (run-item _ (c .before .before .before .before .before .before .before .before .before .pre .run) (c .before .before .before .if1 .taken) (c .before .before .nth-decl .ensures) .1, (enterItem _ (c .before .before .before .before .before .loop .inv .1) (c .before .before .before .if1 .taken) (c .before .before .nth-decl .ensures)) .entering)
 
--- src/lib.rt:275:28
 enum-known-entered : tie.Need-enum-known-entered Inv-loop μ-loop
 enum-known-entered c = search needs
 
--- src/lib.rt:278:29
 enum-known-name : tie.Need-enum-known-name Inv-loop μ-loop
 enum-known-name c = search needs
 
--- src/lib.rt:279:17
 same-length : tie.Need-same-length Inv-loop μ-loop
 same-length c = c .before .before .before .before .before .before .before .enter-decl .kept .1 .0 ∙ c .before .before .before .before .before .before .before .before .before .before .before .before .before .loop .inv .1 .long
 
--- src/lib.rt:279:17
 same-length-2 : tie.Need-same-length-2 Inv-loop μ-loop
 same-length-2 c = c .before .before .before .before .before .before .before .enter-decl .kept .1 .1 .0 ∙ c .before .before .before .before .before .before .before .before .before .before .before .before .before .loop .inv .0
 
--- src/lib.rt:279:17
 returns : tie.Need-returns Inv-loop μ-loop
 returns c = (enterItem _ (c .before .before .before .before .before .before .before .before .before .before .before .before .before .loop .inv .1) (c .before .before .before .before .before .before .before .before .before .before .before .if1 .taken) (c .before .before .before .before .before .before .before .before .before .before .nth-decl .ensures)) .stop _ _ _ (c .before .name .given .1) (c .before .before .before .before .before .before .before .enter-decl .ensures)
 
--- src/lib.rt:282:9
 add-i : tie.Need-add-i Inv-loop μ-loop
 add-i c = let b = c .before .before .before .before .before .before .before .before .before .before .before .before .before .before .before .before .before .pre .run .short in let t = c .before .before .before .before .before .before .before .before .before .before .before .if1 .taken in omega arith
 
--- src/lib.rt:272:5
 loop-less : tie.Need-loop-less Inv-loop μ-loop
 loop-less c = search needs
 
--- src/lib.rt:272:5
 loop-again : tie.Need-loop-again Inv-loop μ-loop
 loop-again c = (c .before .before .before .before .before .before .before .enter-decl .kept .1 .1 .0 ∙ c .before .before .before .before .before .before .before .before .before .before .before .before .before .loop .inv .0, (enterItem _ (c .before .before .before .before .before .before .before .before .before .before .before .before .before .loop .inv .1) (c .before .before .before .before .before .before .before .before .before .before .before .if1 .taken) (c .before .before .before .before .before .before .before .before .before .before .nth-decl .ensures)) .more _ (c .before .entered .given .1) (c .before .before .before .before .before .before .before .enter-decl .ensures))
 
--- src/lib.rt:260:1
 same-length-3 : tie.Need-same-length-3 Inv-loop μ-loop
 same-length-3 c = c .before .before .loop .inv .1 .long
 
--- src/lib.rt:260:1
 same-length-4 : tie.Need-same-length-4 Inv-loop μ-loop
 same-length-4 c = c .before .before .loop .inv .0
 
--- src/lib.rt:260:1
 returns-2 : tie.Need-returns-2 Inv-loop μ-loop
 returns-2 c = enter-ended _ _ (c .before .before .loop .inv .1) (c .if1 .left)
 

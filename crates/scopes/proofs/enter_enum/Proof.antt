@@ -2,58 +2,40 @@ use Rattle.scopes.proofs.Entries.{enumEnter, enum-name}
 use borrow.Author.Needs.{needs}
 use Rattle.scopes.proofs.enter_enum.Statement.{statement}
 use Rattle.scopes.proofs.enter_enum.Tie as tie
-use Rattle.scopes.proofs.enter_enum.Reads as reads
-use Rattle.scopes.proofs.enter_enum.Lts as lts
-use Rattle.scopes.proofs.enter_ctors.Reads as enter-ctors-reads
-use Rattle.scopes.proofs.insert_decl_symbol.Reads as insert-decl-symbol-reads
-use Rattle.scopes.proofs.insert_unordered.Reads as insert-unordered-reads
-use Rattle.typed.proofs.enum_decl.Reads as enum-decl-reads
 
--- src/lib.rt:371:5
 insert-unordered-requires : tie.Need-insert-unordered-requires
 insert-unordered-requires c κs = search needs
 
--- src/lib.rt:372:36
 enum-decl-requires : tie.Need-enum-decl-requires
 enum-decl-requires c κs = search needs
 
--- src/lib.rt:373:11
 insert-decl-symbol-requires : tie.Need-insert-decl-symbol-requires
 insert-decl-symbol-requires c κs = record { name = enum-name _ (c .before .before .before .before .before .before .before .before .before .before .before .pre .0) (c .before .before .before .enum-decl .ensures .first); entering = (enumEnter _ (c .before .before .before .before .before .before .before .before .before .before .before .pre .0) (c .before .before .before .before .before .before .before .before .before .before .before .pre .1) (c .before .before .before .before .before .before .insert-unordered .ensures) (c .before .before .before .enum-decl .ensures .list)) .own }
 
--- src/lib.rt:374:24
 enum-known-entered : tie.Need-enum-known-entered
 enum-known-entered c = search needs
 
--- src/lib.rt:374:36
 enter-ctors-requires : tie.Need-enter-ctors-requires
 enter-ctors-requires c κs = (enumEnter _ (c .before .before .before .before .before .before .before .before .before .before .before .before .before .before .before .before .before .before .before .before .before .pre .0) (c .before .before .before .before .before .before .before .before .before .before .before .before .before .before .before .before .before .before .before .before .before .pre .1) (c .before .before .before .before .before .before .before .before .before .before .before .before .before .before .before .before .insert-unordered .ensures) (c .before .before .before .before .before .before .before .before .before .before .before .before .before .enum-decl .ensures .list)) .ctors _ (c .before .before .before .entered .given .1) (c .before .before .before .before .before .before .before .before .before .insert-decl-symbol .ensures)
 
--- src/lib.rt:375:25
 enum-known-name : tie.Need-enum-known-name
 enum-known-name c = search needs
 
--- src/lib.rt:361:1
 same-length : tie.Need-same-length
 same-length c = search needs
 
--- src/lib.rt:361:1
 same-length-2 : tie.Need-same-length-2
 same-length-2 c = search needs
 
--- src/lib.rt:361:1
 returns : tie.Need-returns
 returns c = (enumEnter _ (c .before .before .before .before .before .before .before .before .before .before .before .before .before .before .before .before .before .before .before .before .before .before .before .before .before .before .pre .0) (c .before .before .before .before .before .before .before .before .before .before .before .before .before .before .before .before .before .before .before .before .before .before .before .before .before .before .pre .1) (c .before .before .before .before .before .before .before .before .before .before .before .before .before .before .before .before .before .before .before .before .before .insert-unordered .ensures) (c .before .before .before .before .before .before .before .before .before .before .before .before .before .before .before .before .before .before .enum-decl .ensures .list)) .enters _ (c .before .before .before .before .before .before .before .before .entered .given .1) (c .before .before .before .before .before .before .before .before .before .before .before .before .before .before .insert-decl-symbol .ensures) (c .before .before .before .before .enter-ctors .ensures)
 
--- src/lib.rt:361:1
 same-length-3 : tie.Need-same-length-3
 same-length-3 c = search needs
 
--- src/lib.rt:361:1
 same-length-4 : tie.Need-same-length-4
 same-length-4 c = search needs
 
--- src/lib.rt:361:1
 returns-2 : tie.Need-returns-2
 returns-2 c = (enumEnter _ (c .before .before .before .before .before .before .before .before .before .before .before .before .before .before .before .before .before .before .before .pre .0) (c .before .before .before .before .before .before .before .before .before .before .before .before .before .before .before .before .before .before .before .pre .1) (c .before .before .before .before .before .before .before .before .before .before .before .before .before .before .insert-unordered .ensures) (c .before .before .before .before .before .before .before .before .before .before .before .enum-decl .ensures .list)) .stop _ _ _ (c .before .name .given .1) (c .before .before .before .before .before .before .before .insert-decl-symbol .ensures)
 

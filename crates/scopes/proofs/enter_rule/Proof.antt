@@ -5,49 +5,34 @@ use Rattle.scopes.proofs.Entries.{entering-marked, past-marked, enters-
 use borrow.Author.Needs.{needs}
 use Rattle.scopes.proofs.enter_rule.Statement.{statement}
 use Rattle.scopes.proofs.enter_rule.Tie as tie
-use Rattle.scopes.proofs.enter_rule.Reads as reads
-use Rattle.scopes.proofs.enter_rule.Lts as lts
-use Rattle.scopes.proofs.insert_decl_symbol.Reads as insert-decl-symbol-reads
-use Rattle.scopes.proofs.insert_unordered.Reads as insert-unordered-reads
-use Rattle.typed.proofs.rule_decl.Reads as rule-decl-reads
 
--- src/lib.rt:352:5
 insert-unordered-requires : tie.Need-insert-unordered-requires
 insert-unordered-requires c κs = search needs
 
--- src/lib.rt:353:33
 rule-decl-requires : tie.Need-rule-decl-requires
 rule-decl-requires c κs = search needs
 
--- src/lib.rt:355:24
 enum-known-name : tie.Need-enum-known-name
 enum-known-name c = search needs
 
--- src/lib.rt:355:33
 insert-decl-symbol-requires : tie.Need-insert-decl-symbol-requires
 insert-decl-symbol-requires c κs = let w = sym (ap nameWord (c .before .before .before .name .given .1)) ∙ c .before .before .before .before .before .rule-decl .ensures .first in record { name = rule-name _ (c .before .before .before .before .before .before .before .before .before .before .before .before .before .pre .0) w; entering = entering-marked _ (c .before .before .before .before .before .before .before .before .insert-unordered .ensures) (c .before .before .before .before .before .before .before .before .before .before .before .before .before .pre .0 .below) (rule-entering _ (c .before .before .before .before .before .before .before .before .before .before .before .before .before .pre .0) w (c .before .before .before .before .before .before .before .before .before .before .before .before .before .pre .1)) }
 
--- src/lib.rt:356:28
 enum-told : tie.Need-enum-told
 enum-told c = search needs
 
--- src/lib.rt:342:1
 same-length : tie.Need-same-length
 same-length c = search needs
 
--- src/lib.rt:342:1
 same-length-2 : tie.Need-same-length-2
 same-length-2 c = search needs
 
--- src/lib.rt:342:1
 returns : tie.Need-returns
 returns c = let w = sym (ap nameWord (c .before .before .before .before .before .before .before .before .name .given .1)) ∙ c .before .before .before .before .before .before .before .before .before .before .rule-decl .ensures .first in enters-as _ (ap (enterName _ _) (c .before .before .before .before .before .before .before .before .before .before .before .before .before .insert-unordered .ensures) ∙ sym ((rule-named _ _ (c .before .before .before .before .before .before .before .before .before .before .before .before .before .before .before .before .before .before .pre .0) w) .0)) (past-marked _ _ _ _ (c .before .before .before .before .before .before .before .before .before .before .before .before .before .insert-unordered .ensures) (c .before .before .before .before .before .before .before .before .before .before .before .before .before .before .before .before .before .before .pre .0 .below)) (c .before .before .before .before .insert-decl-symbol .ensures)
 
--- src/lib.rt:342:1
 same-length-3 : tie.Need-same-length-3
 same-length-3 c = search needs
 
--- src/lib.rt:342:1
 returns-2 : tie.Need-returns-2
 returns-2 c = rule-passes _ _ (c .before .before .before .before .before .before .before .before .before .before .pre .0) (c .before .before .before .before .before .before .before .before .before .before .pre .1) (sym (c .before .before .rule-decl .ensures .first) ∙ ap nameWord (c .enum-told .given .1)) (c .before .before .before .before .before .insert-unordered .ensures)
 

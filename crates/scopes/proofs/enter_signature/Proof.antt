@@ -4,28 +4,19 @@ use Rattle.scopes.proofs.Entries.{entering-marked, past-marked, enters-
 use borrow.Author.Needs.{needs}
 use Rattle.scopes.proofs.enter_signature.Statement.{statement}
 use Rattle.scopes.proofs.enter_signature.Tie as tie
-use Rattle.scopes.proofs.enter_signature.Reads as reads
-use Rattle.scopes.proofs.enter_signature.Lts as lts
-use Rattle.scopes.proofs.insert_decl_symbol.Reads as insert-decl-symbol-reads
-use Rattle.scopes.proofs.insert_unordered.Reads as insert-unordered-reads
 
--- src/lib.rt:337:5
 insert-unordered-requires : tie.Need-insert-unordered-requires
 insert-unordered-requires c κs = search needs
 
--- src/lib.rt:338:5
 insert-decl-symbol-requires : tie.Need-insert-decl-symbol-requires
 insert-decl-symbol-requires c κs = record { name = c .before .before .before .before .before .before .before .before .before .pre .1 .name; entering = entering-marked _ (c .before .before .before .before .insert-unordered .ensures) (c .before .before .before .before .before .before .before .before .before .pre .0 .below) (c .before .before .before .before .before .before .before .before .before .pre .1 .entering) }
 
--- src/lib.rt:326:1
 same-length : tie.Need-same-length
 same-length c = search needs
 
--- src/lib.rt:326:1
 same-length-2 : tie.Need-same-length-2
 same-length-2 c = search needs
 
--- src/lib.rt:326:1
 returns : tie.Need-returns
 returns c = enters-as _ (ap (enterName _ _) (c .before .before .before .before .before .before .before .before .before .insert-unordered .ensures) ∙ sym ((sig-enter _ _ (c .before .before .before .before .before .before .before .before .before .before .before .before .before .before .pre .0)) .0)) (past-marked _ _ _ _ (c .before .before .before .before .before .before .before .before .before .insert-unordered .ensures) (c .before .before .before .before .before .before .before .before .before .before .before .before .before .before .pre .0 .below)) (c .before .before .before .before .insert-decl-symbol .ensures)
 

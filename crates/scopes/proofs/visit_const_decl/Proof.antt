@@ -4,29 +4,19 @@ use Rattle.scopes.proofs.Visiting.{sigOne, dropped-is}
 use borrow.Author.Needs.{needs}
 use Rattle.scopes.proofs.visit_const_decl.Statement.{statement}
 use Rattle.scopes.proofs.visit_const_decl.Tie as tie
-use Rattle.scopes.proofs.visit_const_decl.Reads as reads
-use Rattle.scopes.proofs.visit_const_decl.Lts as lts
-use Rattle.ordered.proofs.walk_type_expr.Reads as walk-type-expr-reads
-use Rattle.scopes.proofs.dropped.Reads as dropped-reads
-use Rattle.typed.proofs.const_decl.Reads as const-decl-reads
 
--- src/lib.rt:480:18
 const-decl-requires : tie.Need-const-decl-requires
 const-decl-requires c κs = search needs
 
--- src/lib.rt:481:9
 walk-type-expr-requires : tie.Need-walk-type-expr-requires
 walk-type-expr-requires c κs = (sigOne _ (c .before .before .before .before .before .pre) (c .before .before .const-decl .ensures .second)) .first
 
--- src/lib.rt:482:5
 dropped-requires : tie.Need-dropped-requires
 dropped-requires c κs = search needs
 
--- src/lib.rt:476:1
 same-length : tie.Need-same-length
 same-length c = search needs
 
--- src/lib.rt:476:1
 returns : tie.Need-returns
 returns c = dropped-is (c .before .before .before .before .before .before .before .before .before .args .image .now) (c .dropped .result) (c .before .before .before .before .before .before .before .before .before .args .current) (c .before .before .before .walk-type-expr .result) (c .before .before .before .walk-type-expr .last .1 .0) (c .dropped .ensures) ∙ ap (back (c .before .before .before .before .before .before .before .before .before .args .image .now) _) (c .before .before .before .walk-type-expr .ensures ∙ sym ((sigOne _ (c .before .before .before .before .before .before .before .before .before .pre) (c .before .before .before .before .before .before .const-decl .ensures .second)) .inner))
 

@@ -8,13 +8,6 @@ use Rattle.scopes.specs.Walk.{done}
 use Rattle.scopes.proofs.Visiting.{VisitLeft, visit-begin, visitItem, enumVisit, sig-inside, sig-visit, sigOne, dropped-is, done-visits, visit-ended}
 use Rattle.scopes.proofs.visit_enum_decl.Statement.{statement}
 use Rattle.scopes.proofs.visit_enum_decl.Tie as tie
-use Rattle.scopes.proofs.visit_enum_decl.Reads as reads
-use Rattle.scopes.proofs.visit_enum_decl.Lts as lts
-use Rattle.ordered.proofs.walk_arg_decl_list.Reads as walk-arg-decl-list-reads
-use Rattle.scopes.proofs.dropped.Reads as dropped-reads
-use Rattle.typed.proofs.ctor_decl.Reads as ctor-decl-reads
-use Rattle.typed.proofs.enum_decl.Reads as enum-decl-reads
-use Rattle.typed.proofs.nth_ctor.Reads as nth-ctor-reads
 use borrow.Author.Needs.{needs}
 
 abbrev Inv-loop : tie.InvT-loop
@@ -23,49 +16,38 @@ Inv-loop image table₀ ctors i₀ cur₀ table i cur = VisitLeft image (ctors .
 abbrev μ-loop : tie.MeasureT-loop
 μ-loop image table₀ ctors i₀ cur₀ table i cur = ctors .0 .count - i
 
--- src/lib.rt:499:17
 enum-decl-requires : tie.Need-enum-decl-requires Inv-loop μ-loop
 enum-decl-requires c κs = search needs
 
--- src/lib.rt:502:5
 loop-holds : tie.Need-loop-holds Inv-loop μ-loop
 loop-holds c = visit-begin _ ((enumVisit _ (c .before .before .before .before .pre) (c .before .enum-decl .ensures .list)) .run)
 
--- src/lib.rt:503:13
 nth-ctor-requires : tie.Need-nth-ctor-requires Inv-loop μ-loop
 nth-ctor-requires c κs = let b = (enumVisit _ (c .before .before .before .before .before .before .before .pre) (c .before .before .before .before .enum-decl .ensures .list)) .run .run .short in omega arith
 
--- src/lib.rt:504:20
 ctor-decl-requires : tie.Need-ctor-decl-requires Inv-loop μ-loop
 ctor-decl-requires c κs = search needs
 
--- src/lib.rt:505:13
 walk-arg-decl-list-requires : tie.Need-walk-arg-decl-list-requires Inv-loop μ-loop
 unfolding kindOf
 walk-arg-decl-list-requires c κs = let o = visitItem _ ((enumVisit _ (c .before .before .before .before .before .before .before .before .before .before .before .pre) (c .before .before .before .before .before .before .before .before .enum-decl .ensures .list)) .run) (c .before .before .before .before .before .before .loop .inv) (c .before .before .before .before .if1 .taken) (c .before .before .before .nth-ctor .ensures) in (sigOne _ (sig-inside _ (o .ready .is) (o .ready .fits)) (c .before .before .ctor-decl .ensures .second)) .first
 
--- src/lib.rt:506:9
 dropped-requires : tie.Need-dropped-requires Inv-loop μ-loop
 dropped-requires c κs = search needs
 
--- src/lib.rt:507:9
 add-i : tie.Need-add-i Inv-loop μ-loop
 add-i c = let b = (enumVisit _ (c .before .before .before .before .before .before .before .before .before .before .before .before .before .before .before .pre) (c .before .before .before .before .before .before .before .before .before .before .before .before .enum-decl .ensures .list)) .run .run .short in let t = c .before .before .before .before .before .before .before .before .if1 .taken in omega arith
 
--- src/lib.rt:502:5
 loop-less : tie.Need-loop-less Inv-loop μ-loop
 loop-less c = search needs
 
--- src/lib.rt:502:5
 loop-again : tie.Need-loop-again Inv-loop μ-loop
 unfolding kindOf
 loop-again c = let o = visitItem _ ((enumVisit _ (c .before .before .before .before .before .before .before .before .before .before .before .before .before .before .before .pre) (c .before .before .before .before .before .before .before .before .before .before .before .before .enum-decl .ensures .list)) .run) (c .before .before .before .before .before .before .before .before .before .before .loop .inv) (c .before .before .before .before .before .before .before .before .if1 .taken) (c .before .before .before .before .before .before .before .nth-ctor .ensures) in let d = dropped-is (c .before .before .before .before .before .before .before .before .before .before .before .before .before .before .before .args .image .now) (c .dropped .result) (c .before .before .before .before .before .before .before .before .before .before .loop .cur) (c .before .before .before .walk-arg-decl-list .result) (c .before .before .before .walk-arg-decl-list .last .1 .0) (c .dropped .ensures) ∙ ap (back (c .before .before .before .before .before .before .before .before .before .before .before .before .before .before .before .args .image .now) _) (c .before .before .before .walk-arg-decl-list .ensures ∙ sym ((sigOne _ (sig-inside _ (o .ready .is) (o .ready .fits)) (c .before .before .before .before .before .before .ctor-decl .ensures .second)) .inner)) in o .more _ refl (done-visits _ _ _ (o .ready .fits) (ap done d ∙ sym (sig-visit _ _ (o .ready .is))))
 
--- src/lib.rt:495:1
 same-length : tie.Need-same-length Inv-loop μ-loop
 same-length c = c .before .before .loop .inv .long
 
--- src/lib.rt:495:1
 returns : tie.Need-returns Inv-loop μ-loop
 returns c = visit-ended _ _ (c .before .before .loop .inv) (c .if1 .left) .same ∙ sym ((enumVisit _ (c .before .before .before .before .before .before .before .pre) (c .before .before .before .before .enum-decl .ensures .list)) .whole)
 

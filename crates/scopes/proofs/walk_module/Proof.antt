@@ -7,48 +7,32 @@ use Rattle.scopes.proofs.Rooting.{rootVisit}
 use borrow.Author.Needs.{needs}
 use Rattle.scopes.proofs.walk_module.Statement.{statement}
 use Rattle.scopes.proofs.walk_module.Tie as tie
-use Rattle.scopes.proofs.walk_module.Reads as reads
-use Rattle.scopes.proofs.walk_module.Lts as lts
-use Rattle.ast.proofs.node_count.Reads as node-count-reads
-use Rattle.scopes.proofs.insert_unordered.Reads as insert-unordered-reads
-use Rattle.scopes.proofs.walk_decls.Reads as walk-decls-reads
-use Rattle.table.proofs.new_scope.Reads as new-scope-reads
-use Rattle.typed.proofs.module.Reads as module-reads
 
--- src/lib.rt:146:16
 node-count-requires : tie.Need-node-count-requires
 node-count-requires c κs = search needs
 
--- src/lib.rt:146:16
 sub-last : tie.Need-sub-last
 sub-last c = let s = sized _ (c .before .before .before .pre .accepted) .some in omega arith
 
--- src/lib.rt:153:9
 new-scope-requires : tie.Need-new-scope-requires
 new-scope-requires c κs = search needs
 
--- src/lib.rt:154:5
 insert-unordered-requires : tie.Need-insert-unordered-requires
 insert-unordered-requires c κs = search needs
 
--- src/lib.rt:155:28
 module-requires : tie.Need-module-requires
 module-requires c κs = search needs
 
--- src/lib.rt:157:30
 slice-aggregate-walk-decls : tie.Need-slice-aggregate-walk-decls
 slice-aggregate-walk-decls c = search needs
 
--- src/lib.rt:157:5
 walk-decls-requires : tie.Need-walk-decls-requires
 unfolding last
 walk-decls-requires c κs = (rootVisit _ (c .before .before .before .before .before .before .before .before .before .before .before .before .before .before .before .pre) (ap (λ (k : ℕ). k - 1) (c .before .before .before .before .before .before .before .before .before .before .before .before .node-count .ensures)) (c .before .before .before .before .before .before .before .before .before .before .new-scope .ensures) (c .before .before .before .before .before .before .insert-unordered .ensures) (c .before .before .before .«module» .ensures)) .list
 
--- src/lib.rt:142:1
 same-length : tie.Need-same-length
 same-length c = search needs
 
--- src/lib.rt:142:1
 returns : tie.Need-returns
 unfolding last
 returns c = (rootVisit _ (c .before .before .before .before .before .before .before .before .before .before .before .before .before .before .before .before .before .before .before .pre) (ap (λ (k : ℕ). k - 1) (c .before .before .before .before .before .before .before .before .before .before .before .before .before .before .before .before .node-count .ensures)) (c .before .before .before .before .before .before .before .before .before .before .before .before .before .before .new-scope .ensures) (c .before .before .before .before .before .before .before .before .before .before .insert-unordered .ensures) (c .before .before .before .before .before .before .before .«module» .ensures)) .visits (c .before .before .before .walk-decls .ensures) refl
