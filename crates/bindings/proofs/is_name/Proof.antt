@@ -19,11 +19,11 @@ enum-told c = search needs
 
 -- src/lib.rt:625:1
 returns : tie.Need-returns
-returns c = sym (ap (λ (o : OptName). eqb (nameWord o) (suc (c .before .before .before .args .number))) (c .before .name .given .1) ∙ eqb·suc-suc _ _)
+returns c = sym (ap (λ (o : OptName). eqb (nameWord o) (suc (c .before .before .before .args .number))) (c .before .name .given .1) ∙ eqb·suc-suc (c .before .name .given .0 .0) (c .before .before .before .args .number))
 
 -- src/lib.rt:625:1
 returns-2 : tie.Need-returns-2
-returns-2 c = sym (ap (λ (o : OptName). eqb (nameWord o) (suc (c .before .before .args .number))) (c .enum-told .given .1) ∙ eqb·zero-suc _)
+returns-2 c = sym (ap (λ (o : OptName). eqb (nameWord o) (suc (c .before .before .args .number))) (c .enum-told .given .1) ∙ eqb·zero-suc (c .before .before .args .number))
 
 pub is-name-spec : {M : Type 1} → statement M
 is-name-spec = tie.close (tie.spec enum-known-name enum-told returns returns-2)

@@ -1,11 +1,11 @@
 use mathlib.Core.Path.{_≡_, sym, ap, _∙_}
 use native.Mathlib.Omega.{arith}
-use Prim.Native.Nat.{ℕ, _-_, _≤_}
+use Prim.Native.Nat.{_-_, _≤_}
 use Rattle.ast.specs.Image.{kindAt}
 use Rattle.typed.specs.Nodes.{nameWord}
 use Rattle.bindings.specs.Errors.{repeated, repeatedIn}
 use Rattle.bindings.specs.Promises.{marked}
-use Rattle.bindings.proofs.Marking.{argsFrom, no-list, list-is, list-start, list-next, none-marked, arg-low, arguments, arg-read}
+use Rattle.bindings.proofs.Marking.{argsFrom, no-list, list-is, list-start, list-next, list-done, arg-low, arguments, arg-read}
 use Rattle.bindings.proofs.mark_list.Statement.{statement}
 use Rattle.bindings.proofs.mark_list.Tie as tie
 use Rattle.bindings.proofs.mark_list.Reads as reads
@@ -60,7 +60,7 @@ loop-again c = let a = arguments _ (list-is _ _ (c .before .before .before .befo
 
 -- src/lib.rt:589:1
 returns-2 : tie.Need-returns-2 Inv-loop μ-loop
-returns-2 c = let a = arguments _ (list-is _ _ (c .before .before .before .before .before .before .before .before .pre .0) (c .before .before .before .before .before .before .before .before .pre .1) (sym (c .before .before .before .before .before .before .kind-at .ensures) ∙ c .before .before .before .before .before .if1 .left)) (c .before .before .before .before .arg-decl-list .ensures) in let k = a .count in sym (ap (λ (m : ℕ). marked (repeatedIn _ m) _) (sym (c .before .before .before .before .arg-decl-list .ensures .node)) ∙ c .before .before .loop .inv .1 ∙ none-marked _ _ _ (c .before .before .loop .i) _ (omega arith))
+returns-2 c = let a = arguments _ (list-is _ _ (c .before .before .before .before .before .before .before .before .pre .0) (c .before .before .before .before .before .before .before .before .pre .1) (sym (c .before .before .before .before .before .before .kind-at .ensures) ∙ c .before .before .before .before .before .if1 .left)) (c .before .before .before .before .arg-decl-list .ensures) in let k = a .count in list-done _ (c .before .before .loop .i) (c .before .before .before .before .arg-decl-list .ensures .node) (c .before .before .loop .inv .1) (omega arith)
 
 pub mark-list-spec : {M : Type 1} → statement M
 mark-list-spec =
