@@ -153,8 +153,8 @@ module _ (img : List ℕ) where
   arguments {m} is q = at-list img Arguments q (record { is = is; count = refl; first = refl; short = (run-list img is refl) .short })
 
   -- all of them are marked
-  pub list-done : {m k near : ℕ} {ms vs : List ℕ} (i : ℕ) → k ≡ m → marked (repeatedIn img k) ms ≡ marked (repeated img near (argsFrom img k i)) vs → field img k 0 ≤ i → vs ≡ marked (repeatedIn img m) ms
-  list-done {k = k} {near} {ms} {vs} i q e h = sym (ap (λ (x : ℕ). marked (repeatedIn img x) ms) (sym q) ∙ e ∙ none-marked img k near i vs h)
+  pub list-done : {m k : ℕ} {vs : List ℕ} (near i : ℕ) (ms : List ℕ) → k ≡ m → marked (repeatedIn img k) ms ≡ marked (repeated img near (argsFrom img k i)) vs → field img k 0 ≤ i → vs ≡ marked (repeatedIn img m) ms
+  list-done {k = k} {vs} near i ms q e h = sym (ap (λ (x : ℕ). marked (repeatedIn img x) ms) (sym q) ∙ e ∙ none-marked img k near i vs h)
 
   pub arg-read : {m j c x : ℕ} (i : ℕ) → Arguments m j c → x ≡ field img m (j + i) → x ≡ field img m (1 + i)
   arg-read {m} i a e = e ∙ ap (λ (j : ℕ). field img m (j + i)) (a .first)

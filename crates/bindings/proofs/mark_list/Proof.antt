@@ -60,7 +60,7 @@ loop-again c = let a = arguments _ (list-is _ _ (c .before .before .before .befo
 
 -- src/lib.rt:589:1
 returns-2 : tie.Need-returns-2 Inv-loop μ-loop
-returns-2 c = let a = arguments _ (list-is _ _ (c .before .before .before .before .before .before .before .before .pre .0) (c .before .before .before .before .before .before .before .before .pre .1) (sym (c .before .before .before .before .before .before .kind-at .ensures) ∙ c .before .before .before .before .before .if1 .left)) (c .before .before .before .before .arg-decl-list .ensures) in let k = a .count in list-done _ (c .before .before .loop .i) (c .before .before .before .before .arg-decl-list .ensures .node) (c .before .before .loop .inv .1) (omega arith)
+returns-2 c = let a = arguments _ (list-is _ _ (c .before .before .before .before .before .before .before .before .pre .0) (c .before .before .before .before .before .before .before .before .pre .1) (sym (c .before .before .before .before .before .before .kind-at .ensures) ∙ c .before .before .before .before .before .if1 .left)) (c .before .before .before .before .arg-decl-list .ensures) in let k = a .count in list-done _ (nameWord (c .before .before .loop .near)) (c .before .before .loop .i) _ (c .before .before .before .before .arg-decl-list .ensures .node) (c .before .before .loop .inv .1) (omega arith)
 
 pub mark-list-spec : {M : Type 1} → statement M
 mark-list-spec =
