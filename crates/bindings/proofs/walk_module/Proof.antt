@@ -1,3 +1,7 @@
+use mathlib.Core.Path.{sym}
+use Rattle.rows.proofs.Parts.{appended-as}
+use Rattle.bindings.proofs.Epic.{room-as}
+use Rattle.bindings.proofs.Bodies.{module-list}
 use borrow.Author.Needs.{needs}
 use Rattle.bindings.proofs.walk_module.Statement.{statement}
 use Rattle.bindings.proofs.walk_module.Tie as tie
@@ -12,7 +16,7 @@ module-requires c κs = search needs
 
 -- src/lib.rt:83:5
 walk-decls-requires : tie.Need-walk-decls-requires
-walk-decls-requires c κs = ?
+walk-decls-requires c κs = let o = module-list _ _ (c .before .before .before .before .before .before .pre .is) (c .before .before .«module» .ensures) in record { run = o .run; room = room-as (o .same) (c .before .before .before .before .before .before .pre .room) }
 
 -- src/lib.rt:71:1
 same-length : tie.Need-same-length
@@ -20,7 +24,7 @@ same-length c = search needs
 
 -- src/lib.rt:71:1
 returns : tie.Need-returns
-returns c = ?
+returns c = let o = module-list _ _ (c .before .before .before .before .before .before .before .before .before .pre .is) (c .before .before .before .before .before .«module» .ensures) in appended-as (sym (o .same)) (c .before .before .walk-decls .ensures)
 
 pub walk-module-spec : {M : Type 1} → statement M
 walk-module-spec = tie.close (tie.spec module-requires walk-decls-requires same-length returns)

@@ -1,3 +1,12 @@
+use mathlib.Core.Path.{ap}
+use native.Mathlib.Omega.{arith}
+use Prim.Native.Nat.{_-_}
+use Rattle.ast.specs.Image.{last}
+use Rattle.ast.proofs.Accepted.{sized}
+use Rattle.rows.proofs.Appends.{appended-next, wrote}
+use Rattle.rows.proofs.Parts.{appended-as}
+use Rattle.bindings.proofs.Calls.{root-ready, plain-of, mode-fits, errors-are}
+use Rattle.bindings.proofs.Bound.{rows-few}
 use borrow.Author.Needs.{needs}
 use Rattle.bindings.proofs.write_rows.Statement.{statement}
 use Rattle.bindings.proofs.write_rows.Tie as tie
@@ -19,15 +28,17 @@ begin-requires c κs = search needs
 
 -- src/lib.rt:66:71
 sub-t14 : tie.Need-sub-t14
-sub-t14 c = ?
+sub-t14 c = let s = (sized _ (c .before .before .before .before .before .before .before .before .before .pre .accepted)) .some in omega arith
 
 -- src/lib.rt:66:9
 walk-module-requires : tie.Need-walk-module-requires
-walk-module-requires c κs = ?
+unfolding last
+walk-module-requires c κs = root-ready _ (c .before .before .before .before .before .before .before .before .before .pre .accepted) (c .before .before .before .before .before .before .before .before .before .pre .rising) (ap (λ k. k - 1) (c .before .before .before .before .before .node-count .ensures))
 
 -- src/lib.rt:67:9
 check-mode-requires : tie.Need-check-mode-requires
-check-mode-requires c κs = ?
+unfolding last
+check-mode-requires c κs = (c .before .before .before .before .before .before .before .before .before .before .before .before .before .pre .accepted, mode-fits _ _ (c .before .before .before .before .before .before .before .before .before .before .before .before .before .pre .accepted) (appended-as (plain-of _ _ (ap (λ k. k - 1) (c .before .before .before .before .before .before .before .before .before .node-count .ensures))) (c .before .before .before .walk-module .ensures)))
 
 -- src/lib.rt:68:5
 finish-requires : tie.Need-finish-requires
@@ -39,7 +50,8 @@ same-length c = search needs
 
 -- src/lib.rt:60:1
 returns : tie.Need-returns
-returns c = ?
+unfolding last
+returns c = wrote (rows-few _ (c .before .before .before .before .before .before .before .before .before .before .before .before .before .before .before .before .before .before .before .before .pre .accepted) _ _) (c .before .before .before .before .before .before .before .before .before .before .before .before .before .before .before .before .node-count .ensures) (c .before .before .before .before .before .before .before .before .before .before .before .before .before .before .begin .ensures) (appended-as (errors-are _ _ _) (appended-next (appended-as (plain-of _ _ (ap (λ k. k - 1) (c .before .before .before .before .before .before .before .before .before .before .before .before .before .before .before .before .node-count .ensures))) (c .before .before .before .before .before .before .before .before .before .before .walk-module .ensures)) (c .before .before .before .before .before .before .check-mode .ensures))) (c .before .before .finish .ensures)
 
 pub write-rows-spec : {M : Type 1} → statement M
 write-rows-spec =
