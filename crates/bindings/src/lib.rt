@@ -63,9 +63,9 @@ fn write_rows(image: &[u8], table: &[u32], w: Walked, rows: &mut [u32], mode: u3
 {
     let n = ast::node_count(image);
     rows::begin(rows, n);
-    let plain = walk_module(image, table, w, rows, 0, ModuleId(NodeId(n - 1)));
-    let written = check_mode(image, rows, plain, mode);
-    rows::finish(rows, written)
+    let after_module = walk_module(image, table, w, rows, 0, ModuleId(NodeId(n - 1)));
+    let after_mode = check_mode(image, rows, after_module, mode);
+    rows::finish(rows, after_mode)
 }
 
 fn walk_module(

@@ -55,51 +55,39 @@ walk-decl-claims t = (decl-reads.Asked, decl-reads.Learnt, rule-decl-reads.Asked
 abbrev walk-decls-claims : ℕ → walk-decls-lts.Claims
 walk-decls-claims t = (nth-decl-reads.Asked, nth-decl-reads.Learnt, walk-decl-below t, walk-decl.Post)
 
--- src/lib.rt:118:11
 walk-decl-decl-requires : (t : ℕ) → walk-decl-lts.Need-decl-requires (walk-decl-claims t) (walk-decl-at t) walk-decl.Post
 walk-decl-decl-requires t c κs = search needs
 
--- src/lib.rt:120:20
 walk-decl-enum-known-id : (t : ℕ) → walk-decl-lts.Need-enum-known-id (walk-decl-claims t) (walk-decl-at t) walk-decl.Post
 walk-decl-enum-known-id t c = search needs
 
--- src/lib.rt:121:41
 walk-decl-rule-decl-requires : (t : ℕ) → walk-decl-lts.Need-rule-decl-requires (walk-decl-claims t) (walk-decl-at t) walk-decl.Post
 walk-decl-rule-decl-requires t c κs = search needs
 
--- src/lib.rt:122:13
 walk-decl-walk-stmt-block-requires : (t : ℕ) → walk-decl-lts.Need-walk-stmt-block-requires (walk-decl-claims t) (walk-decl-at t) walk-decl.Post
 walk-decl-walk-stmt-block-requires t c κs = let s = decl-is _ (c .before .before .before .before .before .before .before .before .before .before .pre .1 .is) (c .before .before .before .before .before .before .decl .ensures) (c .before .before .before .before .id .given .1) in let o = decl-rule _ _ (c .before .before .before .before .before .before .before .before .before .before .pre .1 .is) (s .number) (s .child) (c .before .before .rule-decl .ensures .list) in record { run = o .run; room = room-as (o .same) (c .before .before .before .before .before .before .before .before .before .before .pre .1 .room) }
 
--- src/lib.rt:124:21
 walk-decl-enum-known-id-2 : (t : ℕ) → walk-decl-lts.Need-enum-known-id-2 (walk-decl-claims t) (walk-decl-at t) walk-decl.Post
 walk-decl-enum-known-id-2 t c = search needs
 
--- src/lib.rt:125:42
 walk-decl-model-decl-requires : (t : ℕ) → walk-decl-lts.Need-model-decl-requires (walk-decl-claims t) (walk-decl-at t) walk-decl.Post
 walk-decl-model-decl-requires t c κs = search needs
 
--- src/lib.rt:126:13
 walk-decl-walk-decls-requires : (t : ℕ) → walk-decl-lts.Need-walk-decls-requires (walk-decl-claims t) (walk-decl-at t) walk-decl.Post
 walk-decl-walk-decls-requires t c κs = let s = decl-is _ (c .before .before .before .before .before .before .before .before .before .before .pre .1 .is) (c .before .before .before .before .before .before .decl .ensures) (c .before .before .before .before .id2 .given .1) in let o = decl-model _ _ (c .before .before .before .before .before .before .before .before .before .before .pre .1 .is) (s .number) (s .child) (c .before .before .model-decl .ensures .list) in (let l = o .low in omega arith, record { run = o .run; room = room-as (o .same) (c .before .before .before .before .before .before .before .before .before .before .pre .1 .room) })
 
--- src/lib.rt:107:1
 walk-decl-returns : (t : ℕ) → walk-decl-lts.Need-returns (walk-decl-claims t) (walk-decl-at t) walk-decl.Post
 walk-decl-returns t c = let h = no-body _ (c .before .before .before .before .before .pre .1 .is) (c .before .decl .ensures) (c .match .keys1) in appended-no _ _ (decl-none _ _ (c .before .before .before .before .before .pre .1 .is) (h .0) (h .1))
 
--- src/lib.rt:107:1
 walk-decl-same-length : (t : ℕ) → walk-decl-lts.Need-same-length (walk-decl-claims t) (walk-decl-at t) walk-decl.Post
 walk-decl-same-length t c = search needs
 
--- src/lib.rt:107:1
 walk-decl-returns-2 : (t : ℕ) → walk-decl-lts.Need-returns-2 (walk-decl-claims t) (walk-decl-at t) walk-decl.Post
 walk-decl-returns-2 t c = let s = decl-is _ (c .before .before .before .before .before .before .before .before .before .before .before .before .before .pre .1 .is) (c .before .before .before .before .before .before .before .before .before .decl .ensures) (c .before .before .before .before .before .before .before .id .given .1) in let o = decl-rule _ _ (c .before .before .before .before .before .before .before .before .before .before .before .before .before .pre .1 .is) (s .number) (s .child) (c .before .before .before .before .before .rule-decl .ensures .list) in appended-as (sym (o .same)) (c .before .before .walk-stmt-block .ensures)
 
--- src/lib.rt:107:1
 walk-decl-same-length-2 : (t : ℕ) → walk-decl-lts.Need-same-length-2 (walk-decl-claims t) (walk-decl-at t) walk-decl.Post
 walk-decl-same-length-2 t c = search needs
 
--- src/lib.rt:107:1
 walk-decl-returns-3 : (t : ℕ) → walk-decl-lts.Need-returns-3 (walk-decl-claims t) (walk-decl-at t) walk-decl.Post
 walk-decl-returns-3 t c = let s = decl-is _ (c .before .before .before .before .before .before .before .before .before .before .before .before .before .pre .1 .is) (c .before .before .before .before .before .before .before .before .before .decl .ensures) (c .before .before .before .before .before .before .before .id2 .given .1) in let o = decl-model _ _ (c .before .before .before .before .before .before .before .before .before .before .before .before .before .pre .1 .is) (s .number) (s .child) (c .before .before .before .before .before .model-decl .ensures .list) in appended-as (sym (o .same)) (c .before .before .walk-decls .ensures)
 
@@ -109,35 +97,27 @@ walk-decls-Inv-loop image table w rows₀ written decls i₀ after₀ rows i aft
 abbrev walk-decls-μ-loop : walk-decls-lts.MeasureT-loop
 walk-decls-μ-loop image table w rows₀ written decls i₀ after₀ rows i after = decls .0 .count - i
 
--- src/lib.rt:99:5
 walk-decls-loop-holds : (t : ℕ) → walk-decls-lts.Need-loop-holds (walk-decls-claims t) (walk-decls-at t) walk-decls.Post walk-decls-Inv-loop walk-decls-μ-loop
 walk-decls-loop-holds t c = (omega arith, left-start _ _ (declared-start _ _ _ _ _) (c .before .before .before .pre .1 .room .fits))
 
--- src/lib.rt:100:13
 walk-decls-nth-decl-requires : (t : ℕ) → walk-decls-lts.Need-nth-decl-requires (walk-decls-claims t) (walk-decls-at t) walk-decls.Post walk-decls-Inv-loop walk-decls-μ-loop
 walk-decls-nth-decl-requires t c κs = let s = c .before .before .before .before .before .before .pre .1 .run .short in omega arith
 
--- src/lib.rt:101:9
 walk-decls-walk-decl-requires : (t : ℕ) → walk-decls-lts.Need-walk-decl-requires (walk-decls-claims t) (walk-decls-at t) walk-decls.Post walk-decls-Inv-loop walk-decls-μ-loop
 walk-decls-walk-decl-requires t c κs = let q = decls-item _ _ (c .before .before .before .before .loop .i) (c .before .before .before .before .before .before .before .before .pre .1 .run) (omega arith) (c .before .nth-decl .ensures) in (let l = q .low in omega arith, record { is = q .is; room = room-left _ (c .before .before .before .before .before .before .before .before .pre .1 .room .rising) (c .before .before .before .before .loop .inv .1) (q .same) })
 
--- src/lib.rt:102:9
 walk-decls-add-i : (t : ℕ) → walk-decls-lts.Need-add-i (walk-decls-claims t) (walk-decls-at t) walk-decls.Post walk-decls-Inv-loop walk-decls-μ-loop
 walk-decls-add-i t c = search needs
 
--- src/lib.rt:99:5
 walk-decls-loop-less : (t : ℕ) → walk-decls-lts.Need-loop-less (walk-decls-claims t) (walk-decls-at t) walk-decls.Post walk-decls-Inv-loop walk-decls-μ-loop
 walk-decls-loop-less t c = search needs
 
--- src/lib.rt:99:5
 walk-decls-loop-again : (t : ℕ) → walk-decls-lts.Need-loop-again (walk-decls-claims t) (walk-decls-at t) walk-decls.Post walk-decls-Inv-loop walk-decls-μ-loop
 walk-decls-loop-again t c = (omega arith, left-next (c .before .before .before .before .before .before .before .loop .inv .1) ((decls-item _ _ (c .before .before .before .before .before .before .before .loop .i) (c .before .before .before .before .before .before .before .before .before .before .before .pre .1 .run) (omega arith) (c .before .before .before .before .nth-decl .ensures)) .same) (c .before .before .walk-decl .ensures) (c .before .before .walk-decl .kept .1 .1 .1 .0))
 
--- src/lib.rt:86:1
 walk-decls-same-length : (t : ℕ) → walk-decls-lts.Need-same-length (walk-decls-claims t) (walk-decls-at t) walk-decls.Post walk-decls-Inv-loop walk-decls-μ-loop
 walk-decls-same-length t c = c .before .before .loop .inv .1 .long
 
--- src/lib.rt:86:1
 walk-decls-returns : (t : ℕ) → walk-decls-lts.Need-returns (walk-decls-claims t) (walk-decls-at t) walk-decls.Post walk-decls-Inv-loop walk-decls-μ-loop
 walk-decls-returns t c = left-end (c .before .before .loop .inv .1) (declared-end _ _ _ _ _ (c .before .before .loop .i) (omega arith))
 

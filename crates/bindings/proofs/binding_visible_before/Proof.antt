@@ -6,28 +6,20 @@ use Rattle.table.specs.Values.{optionOf}
 use borrow.Author.Needs.{needs}
 use Rattle.bindings.proofs.binding_visible_before.Statement.{statement}
 use Rattle.bindings.proofs.binding_visible_before.Tie as tie
-use Rattle.bindings.proofs.binding_visible_before.Reads as reads
-use Rattle.bindings.proofs.binding_visible_before.Lts as lts
-use Rattle.table.proofs.at_entry.Reads as at-entry-reads
 
--- src/lib.rt:438:11
 at-entry-requires : tie.Need-at-entry-requires
 at-entry-requires c κs = search needs
 
--- src/lib.rt:439:19
 enum-known-node : tie.Need-enum-known-node
 enum-known-node c = search needs
 
--- src/lib.rt:440:27
 enum-told : tie.Need-enum-told
 enum-told c = search needs
 
--- src/lib.rt:426:1
 returns : tie.Need-returns
 unfolding sameNode lookup
 returns c = sym (ap (sameNode (some (c .before .before .before .before .before .before .before .before .args .binding .0 .0))) (sym (c .before .before .before .before .before .at-entry .ensures) ∙ ap optionOf (c .before .before .before .node .given .1)))
 
--- src/lib.rt:426:1
 returns-2 : tie.Need-returns-2
 unfolding sameNode lookup
 returns-2 c = sym (ap (sameNode (some (c .before .before .before .before .before .args .binding .0 .0))) (sym (c .before .before .at-entry .ensures) ∙ ap optionOf (c .enum-told .given .1)))

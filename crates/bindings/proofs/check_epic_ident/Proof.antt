@@ -4,29 +4,19 @@ use Rattle.bindings.proofs.Leaves.{fits-as, introduced-is, when-number}
 use borrow.Author.Needs.{needs}
 use Rattle.bindings.proofs.check_epic_ident.Statement.{statement}
 use Rattle.bindings.proofs.check_epic_ident.Tie as tie
-use Rattle.bindings.proofs.check_epic_ident.Reads as reads
-use Rattle.bindings.proofs.check_epic_ident.Lts as lts
-use Rattle.bindings.proofs.is_introduced.Reads as is-introduced-reads
-use Rattle.bindings.proofs.put_if.Reads as put-if-reads
-use Rattle.error.proofs.row_number.Reads as row-number-reads
 
--- src/lib.rt:335:9
 is-introduced-requires : tie.Need-is-introduced-requires
 is-introduced-requires c κs = c .before .before .before .pre .rising
 
--- src/lib.rt:336:9
 row-number-requires : tie.Need-row-number-requires
 row-number-requires c κs = search needs
 
--- src/lib.rt:337:5
 put-if-requires : tie.Need-put-if-requires
 put-if-requires c κs = fits-as (c .before .before .before .before .before .before .args .written) (introduced-is _ _ _ _ (c .before .before .is-introduced .ensures) ∙ when-number _ _ (sym (c .before .row-number .ensures))) (c .before .before .before .before .before .before .pre .fits)
 
--- src/lib.rt:323:1
 same-length : tie.Need-same-length
 same-length c = search needs
 
--- src/lib.rt:323:1
 returns : tie.Need-returns
 returns c = appended-as (when-number _ _ (c .before .before .before .before .row-number .ensures) ∙ sym (introduced-is _ _ _ _ (c .before .before .before .before .before .is-introduced .ensures))) (c .before .before .put-if .ensures)
 

@@ -10,51 +10,34 @@ use Rattle.bindings.proofs.Bodies.{case-pattern, no-pattern, applied, a
 use borrow.Author.Needs.{needs}
 use Rattle.bindings.proofs.check_match_case_pattern.Statement.{statement}
 use Rattle.bindings.proofs.check_match_case_pattern.Tie as tie
-use Rattle.bindings.proofs.check_match_case_pattern.Reads as reads
-use Rattle.bindings.proofs.check_match_case_pattern.Lts as lts
-use Rattle.bindings.proofs.check_pattern_args.Reads as check-pattern-args-reads
-use Rattle.bindings.proofs.is_ctor_head.Reads as is-ctor-head-reads
-use Rattle.typed.proofs.app_term.Reads as app-term-reads
-use Rattle.typed.proofs.match_case.Reads as match-case-reads
-use Rattle.typed.proofs.term.Reads as term-reads
 
--- src/lib.rt:483:37
 match-case-requires : tie.Need-match-case-requires
 match-case-requires c κs = search needs
 
--- src/lib.rt:484:26
 term-requires : tie.Need-term-requires
 term-requires c κs = search needs
 
--- src/lib.rt:484:19
 enum-known-app : tie.Need-enum-known-app
 enum-known-app c = search needs
 
--- src/lib.rt:485:9
 returns : tie.Need-returns
 returns c = let z = case-pattern _ (c .before .before .before .before .before .before .before .pre .is) (c .before .before .before .match-case .ensures .first) in appended-no _ _ (no-pattern _ _ (c .before .before .before .before .before .before .before .pre .is) (c .before .before .before .match-case .ensures .first) (no-app _ z (c .before .term .ensures) (c .match .keys2)))
 
--- src/lib.rt:487:34
 app-term-requires : tie.Need-app-term-requires
 app-term-requires c κs = search needs
 
--- src/lib.rt:488:9
 is-ctor-head-requires : tie.Need-is-ctor-head-requires
 is-ctor-head-requires c κs = let z = case-pattern _ (c .before .before .before .before .before .before .before .before .before .before .before .before .pre .is) (c .before .before .before .before .before .before .before .before .match-case .ensures .first) in let s = term-is _ z (c .before .before .before .before .before .before .term .ensures) (c .before .before .before .before .app .given .1) in let o = applied _ (tableOf (c .before .before .before .before .before .before .before .before .before .before .before .before .args .w) (c .before .before .before .before .before .before .before .before .before .before .before .before .args .table .now)) (c .before .before .before .before .before .before .before .before .before .before .before .before .pre .is) (c .before .before .before .before .before .before .before .before .match-case .ensures .first) (s .number) (s .child) (c .before .before .app-term .ensures .first) (c .before .before .app-term .ensures .second) in record { is = o .head; room = record { rising = c .before .before .before .before .before .before .before .before .before .before .before .before .pre .room .rising; fits = omega arith } }
 
--- src/lib.rt:489:9
 returns-2 : tie.Need-returns-2
 returns-2 c = let z = case-pattern _ (c .before .before .before .before .before .before .before .before .before .before .before .before .before .before .pre .is) (c .before .before .before .before .before .before .before .before .before .before .match-case .ensures .first) in let s = term-is _ z (c .before .before .before .before .before .before .before .before .term .ensures) (c .before .before .before .before .before .before .app .given .1) in let o = applied _ (tableOf (c .before .before .before .before .before .before .before .before .before .before .before .before .before .before .args .w) (c .before .before .before .before .before .before .before .before .before .before .before .before .before .before .args .table .now)) (c .before .before .before .before .before .before .before .before .before .before .before .before .before .before .pre .is) (c .before .before .before .before .before .before .before .before .before .before .match-case .ensures .first) (s .number) (s .child) (c .before .before .before .before .app-term .ensures .first) (c .before .before .before .before .app-term .ensures .second) in appended-no _ _ (applied-no _ _ o (c .before .is-ctor-head .ensures) (not-true (c .before .is-ctor-head .result) (c .if1 .taken)))
 
--- src/lib.rt:491:5
 check-pattern-args-requires : tie.Need-check-pattern-args-requires
 check-pattern-args-requires c κs = let z = case-pattern _ (c .before .before .before .before .before .before .before .before .before .before .before .before .before .before .before .pre .is) (c .before .before .before .before .before .before .before .before .before .before .before .match-case .ensures .first) in let s = term-is _ z (c .before .before .before .before .before .before .before .before .before .term .ensures) (c .before .before .before .before .before .before .before .app .given .1) in let o = applied _ (tableOf (c .before .before .before .before .before .before .before .before .before .before .before .before .before .before .before .args .w) (c .before .before .before .before .before .before .before .before .before .before .before .before .before .before .before .args .table .now)) (c .before .before .before .before .before .before .before .before .before .before .before .before .before .before .before .pre .is) (c .before .before .before .before .before .before .before .before .before .before .before .match-case .ensures .first) (s .number) (s .child) (c .before .before .before .before .before .app-term .ensures .first) (c .before .before .before .before .before .app-term .ensures .second) in record { is = o .args; room = room-as (applied-yes _ _ o (c .before .before .is-ctor-head .ensures) (not-false (c .before .before .is-ctor-head .result) (c .before .if1 .left))) (c .before .before .before .before .before .before .before .before .before .before .before .before .before .before .before .pre .room) }
 
--- src/lib.rt:472:1
 same-length : tie.Need-same-length
 same-length c = search needs
 
--- src/lib.rt:472:1
 returns-3 : tie.Need-returns-3
 returns-3 c = let z = case-pattern _ (c .before .before .before .before .before .before .before .before .before .before .before .before .before .before .before .before .before .before .pre .is) (c .before .before .before .before .before .before .before .before .before .before .before .before .before .before .match-case .ensures .first) in let s = term-is _ z (c .before .before .before .before .before .before .before .before .before .before .before .before .term .ensures) (c .before .before .before .before .before .before .before .before .before .before .app .given .1) in let o = applied _ (tableOf (c .before .before .before .before .before .before .before .before .before .before .before .before .before .before .before .before .before .before .args .w) (c .before .before .before .before .before .before .before .before .before .before .before .before .before .before .before .before .before .before .args .table .now)) (c .before .before .before .before .before .before .before .before .before .before .before .before .before .before .before .before .before .before .pre .is) (c .before .before .before .before .before .before .before .before .before .before .before .before .before .before .match-case .ensures .first) (s .number) (s .child) (c .before .before .before .before .before .before .before .before .app-term .ensures .first) (c .before .before .before .before .before .before .before .before .app-term .ensures .second) in appended-as (sym (applied-yes _ _ o (c .before .before .before .before .before .is-ctor-head .ensures) (not-false (c .before .before .before .before .before .is-ctor-head .result) (c .before .before .before .before .if1 .left)))) (c .before .before .check-pattern-args .ensures)
 

@@ -8,49 +8,33 @@ use Rattle.bindings.proofs.RowLaws.{arg-ident, arg-none}
 use borrow.Author.Needs.{needs}
 use Rattle.bindings.proofs.check_pattern_arg.Statement.{statement}
 use Rattle.bindings.proofs.check_pattern_arg.Tie as tie
-use Rattle.bindings.proofs.check_pattern_arg.Reads as reads
-use Rattle.bindings.proofs.check_pattern_arg.Lts as lts
-use Rattle.bindings.proofs.put_if.Reads as put-if-reads
-use Rattle.error.proofs.row_number.Reads as row-number-reads
-use Rattle.table.proofs.at_entry.Reads as at-entry-reads
-use Rattle.table.proofs.is_var.Reads as is-var-reads
-use Rattle.typed.proofs.term.Reads as term-reads
 
--- src/lib.rt:544:11
 term-requires : tie.Need-term-requires
 term-requires c κs = search needs
 
--- src/lib.rt:545:21
 enum-known-id : tie.Need-enum-known-id
 enum-known-id c = search needs
 
--- src/lib.rt:547:17
 at-entry-requires : tie.Need-at-entry-requires
 at-entry-requires c κs = search needs
 
--- src/lib.rt:548:17
 is-var-requires : tie.Need-is-var-requires
 is-var-requires c κs = search needs
 
--- src/lib.rt:549:17
 row-number-requires : tie.Need-row-number-requires
 row-number-requires c κs = search needs
 
--- src/lib.rt:550:13
 put-if-requires : tie.Need-put-if-requires
 unfolding lookup
 put-if-requires c κs = let o = term-is _ (c .before .before .before .before .before .before .before .before .before .before .before .pre .is) (c .before .before .before .before .before .before .before .term .ensures) (c .before .before .before .before .before .id .given .1) in fits-as _ (row-when _ (arg-ident _ _ (c .before .before .before .before .before .before .before .before .before .before .before .pre .is) (o .number) (o .child)) (c .before .before .is-var .ensures ∙ ap (isVar _) (c .before .before .before .at-entry .ensures)) (c .before .row-number .ensures)) (c .before .before .before .before .before .before .before .before .before .before .before .pre .room .fits)
 
--- src/lib.rt:533:1
 same-length : tie.Need-same-length
 same-length c = search needs
 
--- src/lib.rt:533:1
 returns : tie.Need-returns
 unfolding lookup
 returns c = let o = term-is _ (c .before .before .before .before .before .before .before .before .before .before .before .before .before .before .pre .is) (c .before .before .before .before .before .before .before .before .before .before .term .ensures) (c .before .before .before .before .before .before .before .before .id .given .1) in appended-as (sym (row-when _ (arg-ident _ _ (c .before .before .before .before .before .before .before .before .before .before .before .before .before .before .pre .is) (o .number) (o .child)) (c .before .before .before .before .before .is-var .ensures ∙ ap (isVar _) (c .before .before .before .before .before .before .at-entry .ensures)) (c .before .before .before .before .row-number .ensures))) (c .before .before .put-if .ensures)
 
--- src/lib.rt:533:1
 returns-2 : tie.Need-returns-2
 returns-2 c = appended-no _ _ (arg-none _ _ (c .before .before .before .before .before .pre .is) (no-ident _ (c .before .before .before .before .before .pre .is) (c .before .term .ensures) (c .match .keys2)))
 

@@ -11,11 +11,6 @@ use Rattle.bindings.proofs.Epic.{room-left}
 use Rattle.bindings.proofs.Bodies.{argsLeft, args-list, args-start, args-item, args-end}
 use Rattle.bindings.proofs.check_pattern_args.Statement.{statement}
 use Rattle.bindings.proofs.check_pattern_args.Tie as tie
-use Rattle.bindings.proofs.check_pattern_args.Reads as reads
-use Rattle.bindings.proofs.check_pattern_args.Lts as lts
-use Rattle.bindings.proofs.check_pattern_arg.Reads as check-pattern-arg-reads
-use Rattle.typed.proofs.nth_term.Reads as nth-term-reads
-use Rattle.typed.proofs.term_list.Reads as term-list-reads
 use borrow.Author.Needs.{needs}
 
 abbrev Inv-loop : tie.InvT-loop
@@ -24,39 +19,30 @@ Inv-loop image table w rows₀ written terms i₀ after₀ rows i after = (i ≤
 abbrev μ-loop : tie.MeasureT-loop
 μ-loop image table w rows₀ written terms i₀ after₀ rows i after = terms .0 .count - i
 
--- src/lib.rt:520:30
 term-list-requires : tie.Need-term-list-requires Inv-loop μ-loop
 term-list-requires c κs = search needs
 
--- src/lib.rt:523:5
 loop-holds : tie.Need-loop-holds Inv-loop μ-loop
 loop-holds c = let o = args-list _ (tableOf (c .before .before .before .before .before .args .w) (c .before .before .before .before .before .args .table .now)) (c .before .before .before .before .before .pre .is) (c .before .term-list .ensures) in (omega arith, left-start _ _ (args-start _ _ _ _ _) (fits-as _ (o .same) (c .before .before .before .before .before .pre .room .fits)))
 
--- src/lib.rt:524:13
 nth-term-requires : tie.Need-nth-term-requires Inv-loop μ-loop
 nth-term-requires c κs = let o = args-list _ (tableOf (c .before .before .before .before .before .before .before .before .args .w) (c .before .before .before .before .before .before .before .before .args .table .now)) (c .before .before .before .before .before .before .before .before .pre .is) (c .before .before .before .before .term-list .ensures) in let s = o .run .short in omega arith
 
--- src/lib.rt:525:9
 check-pattern-arg-requires : tie.Need-check-pattern-arg-requires Inv-loop μ-loop
 check-pattern-arg-requires c κs = let o = args-list _ (tableOf (c .before .before .before .before .before .before .before .before .before .before .args .w) (c .before .before .before .before .before .before .before .before .before .before .args .table .now)) (c .before .before .before .before .before .before .before .before .before .before .pre .is) (c .before .before .before .before .before .before .term-list .ensures) in let q = args-item _ _ (c .before .before .before .before .loop .i) (o .run) (omega arith) (c .before .nth-term .ensures) in record { is = q .is; room = room-left _ (c .before .before .before .before .before .before .before .before .before .before .pre .room .rising) (c .before .before .before .before .loop .inv .1) (q .same) }
 
--- src/lib.rt:526:9
 add-i : tie.Need-add-i Inv-loop μ-loop
 add-i c = search needs
 
--- src/lib.rt:523:5
 loop-less : tie.Need-loop-less Inv-loop μ-loop
 loop-less c = search needs
 
--- src/lib.rt:523:5
 loop-again : tie.Need-loop-again Inv-loop μ-loop
 loop-again c = let o = args-list _ (tableOf (c .before .before .before .before .before .before .before .before .before .before .before .before .before .args .w) (c .before .before .before .before .before .before .before .before .before .before .before .before .before .args .table .now)) (c .before .before .before .before .before .before .before .before .before .before .before .before .before .pre .is) (c .before .before .before .before .before .before .before .before .before .term-list .ensures) in (omega arith, left-next (c .before .before .before .before .before .before .before .loop .inv .1) ((args-item _ _ (c .before .before .before .before .before .before .before .loop .i) (o .run) (omega arith) (c .before .before .before .before .nth-term .ensures)) .same) (c .before .before .check-pattern-arg .ensures) (c .before .before .check-pattern-arg .kept .1 .1 .1 .0))
 
--- src/lib.rt:509:1
 same-length : tie.Need-same-length Inv-loop μ-loop
 same-length c = c .before .before .loop .inv .1 .long
 
--- src/lib.rt:509:1
 returns : tie.Need-returns Inv-loop μ-loop
 returns c = let o = args-list _ (tableOf (c .before .before .before .before .before .before .before .before .args .w) (c .before .before .before .before .before .before .before .before .args .table .now)) (c .before .before .before .before .before .before .before .before .pre .is) (c .before .before .before .before .term-list .ensures) in appended-as (sym (o .same)) (left-end (c .before .before .loop .inv .1) (args-end _ _ _ _ _ (c .before .before .loop .i) (omega arith)))
 

@@ -7,76 +7,52 @@ use Rattle.bindings.proofs.Bodies.{atom-equal, atom-defined, atom-pred}
 use borrow.Author.Needs.{needs}
 use Rattle.bindings.proofs.check_then_atom.Statement.{statement}
 use Rattle.bindings.proofs.check_then_atom.Tie as tie
-use Rattle.bindings.proofs.check_then_atom.Reads as reads
-use Rattle.bindings.proofs.check_then_atom.Lts as lts
-use Rattle.bindings.proofs.check_epic_term.Reads as check-epic-term-reads
-use Rattle.bindings.proofs.check_epic_terms.Reads as check-epic-terms-reads
-use Rattle.bindings.proofs.check_then_defined.Reads as check-then-defined-reads
-use Rattle.typed.proofs.equal_atom.Reads as equal-atom-reads
-use Rattle.typed.proofs.pred_atom.Reads as pred-atom-reads
-use Rattle.typed.proofs.then_atom.Reads as then-atom-reads
 
--- src/lib.rt:247:11
 then-atom-requires : tie.Need-then-atom-requires
 then-atom-requires c κs = search needs
 
--- src/lib.rt:248:25
 enum-known-id : tie.Need-enum-known-id
 enum-known-id c = search needs
 
--- src/lib.rt:249:42
 equal-atom-requires : tie.Need-equal-atom-requires
 equal-atom-requires c κs = search needs
 
--- src/lib.rt:250:17
 check-epic-term-requires : tie.Need-check-epic-term-requires
 check-epic-term-requires c κs = let s = then-atom-is _ (c .before .before .before .before .before .before .before .before .before .before .before .pre .is) (c .before .before .before .before .before .before .before .then-atom .ensures) (c .before .before .before .before .before .id .given .1) in let o = two-down _ _ (atom-equal _ _ (c .before .before .before .before .before .before .before .before .before .before .before .pre .is) (s .number) (s .child)) (c .before .before .before .equal-atom .ensures) in record { is = o .is; room = room-first _ (o .same) (c .before .before .before .before .before .before .before .before .before .before .before .pre .room) }
 
--- src/lib.rt:251:13
 check-epic-term-requires-2 : tie.Need-check-epic-term-requires-2
 check-epic-term-requires-2 c κs = let s = then-atom-is _ (c .before .before .before .before .before .before .before .before .before .before .before .before .before .before .before .pre .is) (c .before .before .before .before .before .before .before .before .before .before .before .then-atom .ensures) (c .before .before .before .before .before .before .before .before .before .id .given .1) in let o = two-down _ _ (atom-equal _ _ (c .before .before .before .before .before .before .before .before .before .before .before .before .before .before .before .pre .is) (s .number) (s .child)) (c .before .before .before .before .before .before .before .equal-atom .ensures) in record { is = o .is2; room = room-rest (o .same) (c .before .before .before .before .before .before .before .before .before .before .before .before .before .before .before .pre .room) (c .before .before .before .check-epic-term .ensures) }
 
--- src/lib.rt:253:27
 enum-known-id-2 : tie.Need-enum-known-id-2
 enum-known-id-2 c = search needs
 
--- src/lib.rt:253:34
 check-then-defined-requires : tie.Need-check-then-defined-requires
 check-then-defined-requires c κs = let s = then-atom-is _ (c .before .before .before .before .before .before .before .before .pre .is) (c .before .before .before .before .then-atom .ensures) (c .before .before .id2 .given .1) in let o = atom-defined _ _ (c .before .before .before .before .before .before .before .before .pre .is) (s .number) (s .child) in record { is = o .0; room = room-as (o .1) (c .before .before .before .before .before .before .before .before .pre .room) }
 
--- src/lib.rt:254:24
 enum-known-id-3 : tie.Need-enum-known-id-3
 enum-known-id-3 c = search needs
 
--- src/lib.rt:256:41
 pred-atom-requires : tie.Need-pred-atom-requires
 pred-atom-requires c κs = search needs
 
--- src/lib.rt:257:13
 check-epic-terms-requires : tie.Need-check-epic-terms-requires
 check-epic-terms-requires c κs = let s = then-atom-is _ (c .before .before .before .before .before .before .before .before .before .before .pre .is) (c .before .before .before .before .before .before .then-atom .ensures) (c .before .before .before .before .id3 .given .1) in let o = atom-pred _ _ (c .before .before .before .before .before .before .before .before .before .before .pre .is) (s .number) (s .child) (c .before .before .pred-atom .ensures .second) in record { is = o .is; room = room-as (o .same) (c .before .before .before .before .before .before .before .before .before .before .pre .room) }
 
--- src/lib.rt:236:1
 same-length : tie.Need-same-length
 same-length c = search needs
 
--- src/lib.rt:236:1
 returns : tie.Need-returns
 returns c = let s = then-atom-is _ (c .before .before .before .before .before .before .before .before .before .before .before .before .before .before .before .before .before .before .pre .is) (c .before .before .before .before .before .before .before .before .before .before .before .before .before .before .then-atom .ensures) (c .before .before .before .before .before .before .before .before .before .before .before .before .id .given .1) in let o = two-down _ _ (atom-equal _ _ (c .before .before .before .before .before .before .before .before .before .before .before .before .before .before .before .before .before .before .pre .is) (s .number) (s .child)) (c .before .before .before .before .before .before .before .before .before .before .equal-atom .ensures) in appended-as (sym (o .same)) (appended-next (c .before .before .before .before .before .before .check-epic-term .ensures) (c .before .before .check-epic-term2 .ensures))
 
--- src/lib.rt:236:1
 same-length-2 : tie.Need-same-length-2
 same-length-2 c = search needs
 
--- src/lib.rt:236:1
 returns-2 : tie.Need-returns-2
 returns-2 c = let s = then-atom-is _ (c .before .before .before .before .before .before .before .before .before .before .before .pre .is) (c .before .before .before .before .before .before .before .then-atom .ensures) (c .before .before .before .before .before .id2 .given .1) in let o = atom-defined _ _ (c .before .before .before .before .before .before .before .before .before .before .before .pre .is) (s .number) (s .child) in appended-as (sym (o .1)) (c .before .before .check-then-defined .ensures)
 
--- src/lib.rt:236:1
 same-length-3 : tie.Need-same-length-3
 same-length-3 c = search needs
 
--- src/lib.rt:236:1
 returns-3 : tie.Need-returns-3
 returns-3 c = let s = then-atom-is _ (c .before .before .before .before .before .before .before .before .before .before .before .before .before .pre .is) (c .before .before .before .before .before .before .before .before .before .then-atom .ensures) (c .before .before .before .before .before .before .before .id3 .given .1) in let o = atom-pred _ _ (c .before .before .before .before .before .before .before .before .before .before .before .before .before .pre .is) (s .number) (s .child) (c .before .before .before .before .before .pred-atom .ensures .second) in appended-as (sym (o .same)) (c .before .before .check-epic-terms .ensures)
 

@@ -7,49 +7,34 @@ use Rattle.bindings.proofs.Bodies.{then-none, then-some}
 use borrow.Author.Needs.{needs}
 use Rattle.bindings.proofs.check_then_defined.Statement.{statement}
 use Rattle.bindings.proofs.check_then_defined.Tie as tie
-use Rattle.bindings.proofs.check_then_defined.Reads as reads
-use Rattle.bindings.proofs.check_then_defined.Lts as lts
-use Rattle.bindings.proofs.check_epic_term.Reads as check-epic-term-reads
-use Rattle.bindings.proofs.check_then_defined_var.Reads as check-then-defined-var-reads
-use Rattle.typed.proofs.defined_then_atom.Reads as defined-then-atom-reads
 
--- src/lib.rt:274:41
 defined-then-atom-requires : tie.Need-defined-then-atom-requires
 defined-then-atom-requires c κs = search needs
 
--- src/lib.rt:276:26
 enum-known-var : tie.Need-enum-known-var
 enum-known-var c = search needs
 
--- src/lib.rt:277:17
 check-then-defined-var-requires : tie.Need-check-then-defined-var-requires
 check-then-defined-var-requires c κs = let o = then-some _ _ _ (c .before .before .var .given .0 .0 .0 .0) (c .before .before .before .before .before .before .before .before .before .pre .is) (sym (ap termWord (c .before .before .var .given .1)) ∙ c .before .before .before .before .before .defined-then-atom .ensures .first) (c .before .before .before .before .before .defined-then-atom .ensures .second) in record { is = o .is; plain = o .plain; room = room-first _ (o .same) (c .before .before .before .before .before .before .before .before .before .pre .room) }
 
--- src/lib.rt:278:13
 check-epic-term-requires : tie.Need-check-epic-term-requires
 check-epic-term-requires c κs = let o = then-some _ _ _ (c .before .before .before .before .before .before .var .given .0 .0 .0 .0) (c .before .before .before .before .before .before .before .before .before .before .before .before .before .pre .is) (sym (ap termWord (c .before .before .before .before .before .before .var .given .1)) ∙ c .before .before .before .before .before .before .before .before .before .defined-then-atom .ensures .first) (c .before .before .before .before .before .before .before .before .before .defined-then-atom .ensures .second) in record { is = o .is2; room = room-rest (o .same) (c .before .before .before .before .before .before .before .before .before .before .before .before .before .pre .room) (c .before .before .before .check-then-defined-var .ensures) }
 
--- src/lib.rt:280:63
 enum-told : tie.Need-enum-told
 enum-told c = search needs
 
--- src/lib.rt:280:30
 check-epic-term-requires-2 : tie.Need-check-epic-term-requires-2
 check-epic-term-requires-2 c κs = let o = then-none _ _ _ (c .before .before .before .before .before .before .before .before .pre .is) (sym (ap termWord (c .before .enum-told .given .1)) ∙ c .before .before .before .before .defined-then-atom .ensures .first) (c .before .before .before .before .defined-then-atom .ensures .second) in record { is = o .is; room = room-as (o .same) (c .before .before .before .before .before .before .before .before .pre .room) }
 
--- src/lib.rt:262:1
 same-length : tie.Need-same-length
 same-length c = search needs
 
--- src/lib.rt:262:1
 returns : tie.Need-returns
 returns c = let o = then-some _ _ _ (c .before .before .before .before .before .before .before .before .before .var .given .0 .0 .0 .0) (c .before .before .before .before .before .before .before .before .before .before .before .before .before .before .before .before .pre .is) (sym (ap termWord (c .before .before .before .before .before .before .before .before .before .var .given .1)) ∙ c .before .before .before .before .before .before .before .before .before .before .before .before .defined-then-atom .ensures .first) (c .before .before .before .before .before .before .before .before .before .before .before .before .defined-then-atom .ensures .second) in appended-as (sym (o .same)) (appended-next (c .before .before .before .before .before .before .check-then-defined-var .ensures) (c .before .before .check-epic-term .ensures))
 
--- src/lib.rt:262:1
 same-length-2 : tie.Need-same-length-2
 same-length-2 c = search needs
 
--- src/lib.rt:262:1
 returns-2 : tie.Need-returns-2
 returns-2 c = let o = then-none _ _ _ (c .before .before .before .before .before .before .before .before .before .before .before .pre .is) (sym (ap termWord (c .before .before .before .before .enum-told .given .1)) ∙ c .before .before .before .before .before .before .before .defined-then-atom .ensures .first) (c .before .before .before .before .before .before .before .defined-then-atom .ensures .second) in appended-as (sym (o .same)) (c .before .before .check-epic-term2 .ensures)
 

@@ -6,43 +6,30 @@ use Rattle.bindings.proofs.Leaves.{introduces-other, introduces-var}
 use borrow.Author.Needs.{needs}
 use Rattle.bindings.proofs.is_introduced.Statement.{statement}
 use Rattle.bindings.proofs.is_introduced.Tie as tie
-use Rattle.bindings.proofs.is_introduced.Reads as reads
-use Rattle.bindings.proofs.is_introduced.Lts as lts
-use Rattle.bindings.proofs.binding_visible_before.Reads as binding-visible-before-reads
-use Rattle.table.proofs.at_exit.Reads as at-exit-reads
-use Rattle.table.proofs.is_var.Reads as is-var-reads
 
--- src/lib.rt:346:9
 at-exit-requires : tie.Need-at-exit-requires
 at-exit-requires c κs = search needs
 
--- src/lib.rt:347:9
 is-var-requires : tie.Need-is-var-requires
 is-var-requires c κs = search needs
 
--- src/lib.rt:348:9
 returns : tie.Need-returns
 unfolding lookup
 returns c = sym (introduces-other _ _ _ _ (c .before .before .at-exit .ensures) (sym (c .before .is-var .ensures) ∙ not-true (c .before .is-var .result) (c .if1 .taken)))
 
--- src/lib.rt:351:19
 enum-known-found : tie.Need-enum-known-found
 enum-known-found c = search needs
 
--- src/lib.rt:351:32
 binding-visible-before-requires : tie.Need-binding-visible-before-requires
 binding-visible-before-requires c κs = search needs
 
--- src/lib.rt:359:27
 enum-told : tie.Need-enum-told
 enum-told c = search needs
 
--- src/lib.rt:341:1
 returns-2 : tie.Need-returns-2
 unfolding lookup
 returns-2 c = sym (introduces-var _ _ _ _ (c .before .before .before .before .before .before .at-exit .ensures) (sym (c .before .before .before .before .before .is-var .ensures) ∙ not-false (c .before .before .before .before .before .is-var .result) (c .before .before .before .before .if1 .left)) (ap optionOf (c .before .before .found .given .1)) (c .binding-visible-before .ensures))
 
--- src/lib.rt:341:1
 returns-3 : tie.Need-returns-3
 unfolding isKind lookup
 returns-3 c = sym (introduces-other _ _ _ _ (c .before .before .before .before .at-exit .ensures) (ap (isKind _ 13) (ap optionOf (c .enum-told .given .1))))

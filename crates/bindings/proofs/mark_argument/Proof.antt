@@ -5,45 +5,31 @@ use Rattle.bindings.proofs.Marking.{mark-unnamed, mark-new, mark-again}
 use borrow.Author.Needs.{needs}
 use Rattle.bindings.proofs.mark_argument.Statement.{statement}
 use Rattle.bindings.proofs.mark_argument.Tie as tie
-use Rattle.bindings.proofs.mark_argument.Reads as reads
-use Rattle.bindings.proofs.mark_argument.Lts as lts
-use Rattle.ast.proofs.wide.Reads as wide-reads
-use Rattle.bindings.proofs.is_name.Reads as is-name-reads
-use Rattle.typed.proofs.arg_decl.Reads as arg-decl-reads
 
--- src/lib.rt:612:32
 arg-decl-requires : tie.Need-arg-decl-requires
 arg-decl-requires c κs = search needs
 
--- src/lib.rt:613:24
 enum-known-name : tie.Need-enum-known-name
 enum-known-name c = search needs
 
--- src/lib.rt:614:9
 enum-told : tie.Need-enum-told
 enum-told c = search needs
 
--- src/lib.rt:614:9
 returns : tie.Need-returns
 returns c = mark-unnamed _ _ _ _ (c .before .before .arg-decl .ensures .first) (ap nameWord (c .enum-told .given .1))
 
--- src/lib.rt:616:9
 is-name-requires : tie.Need-is-name-requires
 is-name-requires c κs = search needs
 
--- src/lib.rt:617:9
 returns-2 : tie.Need-returns-2
 returns-2 c = mark-new _ _ _ _ _ (c .before .before .before .before .before .arg-decl .ensures .first) (ap nameWord (c .before .before .before .name .given .1)) (c .before .is-name .ensures) (not-true (c .before .is-name .result) (c .if1 .taken))
 
--- src/lib.rt:619:9
 wide-requires : tie.Need-wide-requires
 wide-requires c κs = search needs
 
--- src/lib.rt:620:5
 element-write-marks : tie.Need-element-write-marks
 element-write-marks c = search needs
 
--- src/lib.rt:608:1
 returns-3 : tie.Need-returns-3
 returns-3 c = mark-again _ _ _ _ _ (c .before .before .before .before .before .before .arg-decl .ensures .first) (ap nameWord (c .before .before .before .before .name .given .1)) (c .before .before .is-name .ensures) (not-false (c .before .before .is-name .result) (c .before .if1 .left)) (c .wide .ensures)
 

@@ -10,45 +10,30 @@ use Rattle.bindings.proofs.Bound.{rows-few}
 use borrow.Author.Needs.{needs}
 use Rattle.bindings.proofs.write_rows.Statement.{statement}
 use Rattle.bindings.proofs.write_rows.Tie as tie
-use Rattle.bindings.proofs.write_rows.Reads as reads
-use Rattle.bindings.proofs.write_rows.Lts as lts
-use Rattle.ast.proofs.node_count.Reads as node-count-reads
-use Rattle.bindings.proofs.check_mode.Reads as check-mode-reads
-use Rattle.bindings.proofs.walk_module.Reads as walk-module-reads
-use Rattle.rows.proofs.begin.Reads as begin-reads
-use Rattle.rows.proofs.finish.Reads as finish-reads
 
--- src/lib.rt:64:9
 node-count-requires : tie.Need-node-count-requires
 node-count-requires c κs = search needs
 
--- src/lib.rt:65:5
 begin-requires : tie.Need-begin-requires
 begin-requires c κs = search needs
 
--- src/lib.rt:66:71
 sub-t14 : tie.Need-sub-t14
 sub-t14 c = let s = (sized _ (c .before .before .before .before .before .before .before .before .before .pre .accepted)) .some in omega arith
 
--- src/lib.rt:66:9
 walk-module-requires : tie.Need-walk-module-requires
 unfolding last
 walk-module-requires c κs = root-ready _ (c .before .before .before .before .before .before .before .before .before .pre .accepted) (c .before .before .before .before .before .before .before .before .before .pre .rising) (ap (λ k. k - 1) (c .before .before .before .before .before .node-count .ensures))
 
--- src/lib.rt:67:9
 check-mode-requires : tie.Need-check-mode-requires
 unfolding last
 check-mode-requires c κs = (c .before .before .before .before .before .before .before .before .before .before .before .before .before .pre .accepted, mode-fits _ _ (c .before .before .before .before .before .before .before .before .before .before .before .before .before .pre .accepted) (appended-as (plain-of _ _ (ap (λ k. k - 1) (c .before .before .before .before .before .before .before .before .before .node-count .ensures))) (c .before .before .before .walk-module .ensures)))
 
--- src/lib.rt:68:5
 finish-requires : tie.Need-finish-requires
 finish-requires c κs = search needs
 
--- src/lib.rt:60:1
 same-length : tie.Need-same-length
 same-length c = search needs
 
--- src/lib.rt:60:1
 returns : tie.Need-returns
 unfolding last
 returns c = wrote (rows-few _ (c .before .before .before .before .before .before .before .before .before .before .before .before .before .before .before .before .before .before .before .before .pre .accepted) _ _) (c .before .before .before .before .before .before .before .before .before .before .before .before .before .before .before .before .node-count .ensures) (c .before .before .before .before .before .before .before .before .before .before .before .before .before .before .begin .ensures) (appended-as (errors-are _ _ _) (appended-next (appended-as (plain-of _ _ (ap (λ k. k - 1) (c .before .before .before .before .before .before .before .before .before .before .before .before .before .before .before .before .node-count .ensures))) (c .before .before .before .before .before .before .before .before .before .before .walk-module .ensures)) (c .before .before .before .before .before .before .check-mode .ensures))) (c .before .before .finish .ensures)
