@@ -9,14 +9,14 @@ use native.Mathlib.Decide.{decLt}
 use lib.Dec.{eqb, leb}
 use lib.ListN.{length, length-append}
 use Rattle.ast.specs.Declarations.{orElse}
-use Rattle.ast.specs.Image.{nodes, kindAt, nameOf, last}
+use Rattle.ast.specs.Image.{nodes, kindAt, last}
 use Rattle.ast.specs.Kinds.{outer, inner, root, decl, signature, rule, enum, model, plain, term, ident, head, headMember, member, case, ifVar, definedThen, arg}
 use Rattle.ast.specs.Tests.{times, verdict}
 use Rattle.ast.specs.Tree.{Tree, node, block, Trees, none, _◂_, treeAt, size, sizes}
 use Rattle.ast.proofs.Accepted.{sized}
 use Rattle.ast.proofs.Count.{nodesOf, nodesAll, is-same, nothing-else, tree-size}
 use Rattle.ast.proofs.Unfold.{All, nil, cons, All-append, All-split}
-use Rattle.table.specs.Table.{Table, lookup, exitAt}
+use Rattle.table.specs.Table.{Table, lookup}
 use Rattle.rows.specs.Rows.{Row, row}
 use Rattle.occurrences.specs.Spots.{Spot, spots, spotsSeq, spotsBack, spotsFirst, ruleSpots}
 use Rattle.ast.specs.Rules.{Rule, saysAll, rules, rulesAll, rulesOf, moduleRules}
@@ -197,6 +197,11 @@ lone-in {P} all (v ∷ left) w e (more p h) = go (leb 2 (timesBound (v .right) a
     go false q r = let z : w ≡ v = cc in subst P (sym z) p
 
 module _ (img : List ℕ) (t : Table) (symbols : Nodes img t) where
+  -- what lookup gives is a node
+  pub lookup-low : (s x m : ℕ) → lookup img t s x ≡ some m → m < nodes img
+  unfolding lookup
+  lookup-low s x m e = climb-low img t symbols (suc s) s x m e
+
   abbrev pub Below : Row → Type 0
   Below w = (w .left < nodes img) × (w .right < nodes img)
 
@@ -210,12 +215,9 @@ module _ (img : List ℕ) (t : Table) (symbols : Nodes img t) where
       go false = a
 
   rows-below : (l : List Spot) → All (λ v. v < nodes img) (owners l) → Each Below (rowsFor img t l)
-  unfolding rowsFor lookup
+  unfolding rowsFor
   rows-below [] a = empty
-  rows-below (s ∷ l) (cons h a) =
-      listed-below (s .node) (found img t s) (rowsFor img t l) h
-      (λ m e. climb-low img t symbols (suc (exitAt img (t .words) (s .node))) (exitAt img (t .words) (s .node)) (nameOf img (s .ident)) m e)
-      (rows-below l a)
+  rows-below (s ∷ l) (cons h a) = listed-below (s .node) (found img t s) (rowsFor img t l) h (lookup-low _ _) (rows-below l a)
 
   -- the first lone row of some rules, each of whose nodes are below N
   pub data Within : List Rule → Type 0 where
