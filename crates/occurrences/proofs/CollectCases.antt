@@ -1,7 +1,11 @@
 -- What each case of an enum asks of its collector, and whose rows the node's are: by the answer of the typed read.
 use mathlib.Core.Path.{_≡_, refl, _∙_}
+use mathlib.Core.Logic.{⊎-elim}
 use mathlib.Core.List.{List, [], _∷_}
 use Prim.Native.Nat.{ℕ}
+use native.Mathlib.Omega.{arith}
+use denote.Enum.Declared.{tagOf}
+use types.Run.{OneOf}
 use Rattle.ast.specs.Is.{Is, kindBy, oneTerm, twoTerms}
 use Rattle.ast.specs.Kinds.{inner, plain, term, head, name, kindOf}
 use Rattle.ast.specs.Named.{appHeadKind, appHeadMemberKind, appTermKind, branchStmtKind, definedThenAtomKind, ifAtomKind, ifStmtKind, matchStmtKind, predAtomKind, predExprKind, stmtKind, termKind, termMemberKind, thenAtomKind, thenStmtKind, typeExprKind, varIfAtomKind}
@@ -22,6 +26,7 @@ use Rattle.typed.specs.declared.nodes.ThenAtom.{ThenAtom}
 use Rattle.typed.specs.declared.nodes.ThenAtom.the-variants as then-of
 use Rattle.typed.specs.declared.nodes.Stmt.{Stmt}
 use Rattle.typed.specs.declared.nodes.Stmt.the-variants as stmt-of
+use Rattle.typed.proofs.nodes.TypeExpr as TypeExprs
 use Rattle.typed.proofs.Enums.{TermIs, AppHeadIs, TypeExprIs, PredExprIs, IfAtomIs, ThenAtomIs, StmtIs, term-is, app-head-is, type-expr-is, pred-expr-is, if-atom-is, then-atom-is, stmt-is}
 use Rattle.table.specs.Table.{Table}
 use Rattle.occurrences.specs.Promises.{rowsIn, Ready}
@@ -126,6 +131,18 @@ module _ (img : List ℕ) (t : Table) where
       go (type-of.Ambient i) h = leaf (wrapped img t (inner plain) typeKinds refl (λ ts. refl) p 0 (h .number) (h .child) refl refl)
       go (type-of.Member i) h = wrapped img t (inner plain) typeKinds refl (λ ts. refl) p 1 (h .number) (h .child) refl refl
       go (type-of.Mor i) h = leaf (wrapped img t (inner plain) typeKinds refl (λ ts. refl) p 2 (h .number) (h .child) refl refl)
+
+  -- Ambient or Mor
+  pub type-none : {n c : ℕ} {o : TypeExpr} → Ready img t (kindOf typeExprKind) n c → o ≡ typeExprAt img n → OneOf (0 ∷ 2 ∷ []) (tagOf TypeExprs.the-type o) → Bare img t n c
+  type-none {n} {c} {o} p q k = go o refl k
+    where
+      off : {x : ℕ} → OneOf (0 ∷ 2 ∷ []) x → x ≡ 1 → ⊥
+      off {x} k e = ⊎-elim (λ (i : x ≡ 0). omega arith) (λ (i : x ≡ 2). omega arith) k
+
+      go : (s : TypeExpr) → o ≡ s → OneOf (0 ∷ 2 ∷ []) (tagOf TypeExprs.the-type s) → Bare img t n c
+      go (type-of.Ambient i) r k = type-case p q r
+      go (type-of.Member i) r k = absurd (off k refl)
+      go (type-of.Mor i) r k = type-case p q r
 
   pub pred-case : {n c : ℕ} {o s : PredExpr} → Ready img t (kindOf predExprKind) n c → o ≡ predExprAt img n → o ≡ s → PredCase img t n c s
   unfolding kindOf bare threads ordered

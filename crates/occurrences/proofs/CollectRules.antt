@@ -1,11 +1,14 @@
 -- The rows of the rules of declarations: what names mean outside does not matter, and what each kind of declaration adds.
 use mathlib.Core.Path.{_≡_, refl, sym, ap, ap₂, subst, _∙_}
 use mathlib.Core.Bool.{false}
+use mathlib.Core.Logic.{⊎-elim}
 use mathlib.Core.List.{List, [], _∷_, _++_, append-assoc, append-nil}
 use mathlib.Core.Option.{Option, none as nothing}
 use Prim.Native.Nat.{ℕ, zero, suc, _+_, _-_, _<_, _≤_}
 use native.Mathlib.Omega.{arith}
 use native.Mathlib.Nat.{sub-zero, add-zero}
+use denote.Enum.Declared.{tagOf}
+use types.Run.{OneOf}
 use lib.Dec.{eqb}
 use lib.ListN.{length, getD, length-append}
 use Rattle.ast.specs.Image.{nodes, field, last}
@@ -23,6 +26,7 @@ use Rattle.typed.specs.RowShapes.{Listed, WordList}
 use Rattle.typed.specs.declared.nodes.NodeList.{NodeList}
 use Rattle.typed.specs.declared.nodes.Decl.{Decl}
 use Rattle.typed.specs.declared.nodes.Decl.the-variants as decl-of
+use Rattle.typed.proofs.nodes.Decl as Decls
 use Rattle.typed.proofs.Enums.{DeclIs, decl-is}
 use Rattle.typed.proofs.Lists.{at-list}
 use Rattle.table.specs.Table.{Table}
@@ -175,6 +179,28 @@ module _ (img : List ℕ) (t : Table) where
       go (decl-of.Rule i) h = declared p 4 (h .number) (h .child) refl
       go (decl-of.Enum i) h = let d = declared p 5 (h .number) (h .child) refl in d .whole ∙ enum-none (d .listing .is)
       go (decl-of.Model i) h = declared p 6 (h .number) (h .child) refl
+
+  -- Type, Pred, Func, Const or Enum
+  abbrev others : List ℕ
+  others = 0 ∷ 1 ∷ 2 ∷ 3 ∷ 5 ∷ []
+
+  pub decl-none : {n c : ℕ} {o : Decl} → Listing img t (kindOf declKind) n c → o ≡ declAt img n → OneOf others (tagOf Decls.the-type o) → listsIn img t n ≡ []
+  decl-none {n} {c} {o} p q k = go o refl k
+    where
+      off : (x : ℕ) → OneOf others x → x < 5 → x < 4
+      off x k l = ⊎-elim (λ (i : x ≡ 0). omega arith) (λ k. ⊎-elim (λ (i : x ≡ 1). omega arith) (λ k. ⊎-elim (λ (i : x ≡ 2). omega arith) (λ k. ⊎-elim (λ (i : x ≡ 3). omega arith) (λ (i : x ≡ 5). omega arith) k) k) k) k
+
+      up : (x : ℕ) → OneOf others x → x < 6
+      up x k = ⊎-elim (λ (i : x ≡ 0). omega arith) (λ k. ⊎-elim (λ (i : x ≡ 1). omega arith) (λ k. ⊎-elim (λ (i : x ≡ 2). omega arith) (λ k. ⊎-elim (λ (i : x ≡ 3). omega arith) (λ (i : x ≡ 5). omega arith) k) k) k) k
+
+      go : (s : Decl) → o ≡ s → OneOf others (tagOf Decls.the-type s) → listsIn img t n ≡ []
+      go (decl-of.Type i) r k = decl-case p q r
+      go (decl-of.Pred i) r k = decl-case p q r
+      go (decl-of.Func i) r k = decl-case p q r
+      go (decl-of.Const i) r k = decl-case p q r
+      go (decl-of.Rule i) r k = absurd (let z = off 4 k (omega arith) in omega arith)
+      go (decl-of.Enum i) r k = decl-case p q r
+      go (decl-of.Model i) r k = absurd (let z = up 6 k in omega arith)
 
   -- a rule: its statements ---------------------------------------------------------------------------------------------------
   -- statements do not depend on the node above

@@ -200,17 +200,14 @@ module _ (img : List ℕ) (t : Table) where
   abbrev restOf : NodeList → ℕ → List Row
   restOf l i = rowsAt img t (l .node .0) (l .count - i) (l .first + i)
 
-  -- a loop over a list that appends the rows w: after i nodes it stands at d
-  pub record RowsLeft (w : List Row) (l : NodeList) (i c : ℕ) (ws : List ℕ) (d : ℕ) (us : List ℕ) : Type 0 where
+  -- a loop over a list: after i nodes it stands at d
+  pub record RowsLeft (l : NodeList) (i c : ℕ) (ws : List ℕ) (d : ℕ) (us : List ℕ) : Type 0 where
     pub within : i ≤ l .count
-    pub left : Left (nodes img) w (restOf l i) c ws d us
+    pub left : Left (nodes img) (rowsOf img t l) (restOf l i) c ws d us
 
-  pub rows-start : {k c : ℕ} {w : List Row} {l : NodeList} {ws : List ℕ} → ReadyAll img t k l c → w ≡ rowsOf img t l → RowsLeft w l 0 c ws c ws
-  rows-start {c = c} {w} {l} {ws} p e =
-      record {
-        within = omega arith;
-        left = left-start c ws (e ∙ ap₂ (rowsAt img t (l .node .0)) (sym (sub-zero (l .count))) (sym (add-zero (l .first)))) ((room-as (sym e) (p .room)) .fits);
-      }
+  pub rows-start : {k c : ℕ} {l : NodeList} {ws : List ℕ} → ReadyAll img t k l c → RowsLeft l 0 c ws c ws
+  rows-start {c = c} {l} {ws} p =
+      record { within = omega arith; left = left-start c ws (ap₂ (rowsAt img t (l .node .0)) (sym (sub-zero (l .count))) (sym (add-zero (l .first)))) (p .room .fits) }
 
   -- the i-th node, where the loop stands at d
   pub record Item (k : ℕ) (l : NodeList) (i x d : ℕ) : Type 0 where
@@ -219,7 +216,7 @@ module _ (img : List ℕ) (t : Table) where
     pub within : i < l .count
     pub more : restOf l i ≡ rowsIn img t x ++ restOf l (i + 1)
 
-  itemOf : {k i x b c d : ℕ} {w : List Row} {l : NodeList} {ws us : List ℕ} → bare ((kindOf k) .class) ≡ true → ReadyAll img t k l b → RowsLeft w l i c ws d us → i < l .count
+  itemOf : {k i x b c d : ℕ} {l : NodeList} {ws us : List ℕ} → bare ((kindOf k) .class) ≡ true → ReadyAll img t k l b → RowsLeft l i c ws d us → i < l .count
       → x ≡ field img (l .node .0) (l .first + i) → Item k l i x d
   itemOf {k} {i} {x} {d = d} {l = l} u p s h q =
       subst (λ (y : ℕ). Item k l i y d) (sym q)
@@ -236,26 +233,26 @@ module _ (img : List ℕ) (t : Table) where
       more : restOf l i ≡ rowsIn img t (field img (l .node .0) (l .first + i)) ++ restOf l (i + 1)
       more = items-rows img t (l .node .0) (l .first) (l .count) i h (o .1) u
 
-  pub term-item : {i x b c d : ℕ} {w : List Row} {l : NodeList} {ws us : List ℕ} → ReadyAll img t termKind l b → RowsLeft w l i c ws d us → i < l .count
+  pub term-item : {i x b c d : ℕ} {l : NodeList} {ws us : List ℕ} → ReadyAll img t termKind l b → RowsLeft l i c ws d us → i < l .count
       → x ≡ field img (l .node .0) (l .first + i) → Item termKind l i x d
   unfolding kindOf bare
   term-item p s h q = itemOf refl p s h q
 
-  pub stmt-item : {i x b c d : ℕ} {w : List Row} {l : NodeList} {ws us : List ℕ} → ReadyAll img t stmtKind l b → RowsLeft w l i c ws d us → i < l .count
+  pub stmt-item : {i x b c d : ℕ} {l : NodeList} {ws us : List ℕ} → ReadyAll img t stmtKind l b → RowsLeft l i c ws d us → i < l .count
       → x ≡ field img (l .node .0) (l .first + i) → Item stmtKind l i x d
   unfolding kindOf bare
   stmt-item p s h q = itemOf refl p s h q
 
-  pub case-item : {i x b c d : ℕ} {w : List Row} {l : NodeList} {ws us : List ℕ} → ReadyAll img t matchCaseKind l b → RowsLeft w l i c ws d us → i < l .count
+  pub case-item : {i x b c d : ℕ} {l : NodeList} {ws us : List ℕ} → ReadyAll img t matchCaseKind l b → RowsLeft l i c ws d us → i < l .count
       → x ≡ field img (l .node .0) (l .first + i) → Item matchCaseKind l i x d
   unfolding kindOf bare
   case-item p s h q = itemOf refl p s h q
 
-  pub rows-next : {k i x c d e : ℕ} {w : List Row} {l : NodeList} {ws us vs : List ℕ} → RowsLeft w l i c ws d us → Item k l i x d → Appended (nodes img) (rowsIn img t x) d us e vs → length vs ≡ length us
-      → RowsLeft w l (i + 1) c ws e vs
+  pub rows-next : {k i x c d e : ℕ} {l : NodeList} {ws us vs : List ℕ} → RowsLeft l i c ws d us → Item k l i x d → Appended (nodes img) (rowsIn img t x) d us e vs → length vs ≡ length us
+      → RowsLeft l (i + 1) c ws e vs
   rows-next s o a long = record { within = (let h = o .within in omega arith); left = left-next (s .left) (o .more) a long }
 
-  pub rows-end : {i c d : ℕ} {w : List Row} {l : NodeList} {ws us : List ℕ} → RowsLeft w l i c ws d us → l .count ≤ i → Appended (nodes img) w c ws d us
+  pub rows-end : {i c d : ℕ} {l : NodeList} {ws us : List ℕ} → RowsLeft l i c ws d us → l .count ≤ i → Appended (nodes img) (rowsOf img t l) c ws d us
   rows-end {i} {l = l} s h = left-end (s .left) (items-none img t (l .node .0) (l .first) (l .count) i h)
 
   -- a term list: its terms
@@ -317,53 +314,55 @@ module _ (img : List ℕ) (t : Table) where
   matchOf p q = termThenList (inner plain) refl (λ ts. refl) p q
 
   -- a loop over the blocks of a branch: after i of them it stands at place j
-  pub record BlocksLeft (n : ℕ) (l : NodeList) (i j c : ℕ) (ws : List ℕ) (d : ℕ) (us : List ℕ) : Type 0 where
-    pub from : BlocksFrom img n (l .count) i j
-    pub left : Left (nodes img) (rowsIn img t n) (blockRows img t n (l .count - i) j) c ws d us
+  pub record BlocksLeft (l : NodeList) (i j c : ℕ) (ws : List ℕ) (d : ℕ) (us : List ℕ) : Type 0 where
+    pub from : BlocksFrom img (l .node .0) (l .count) i j
+    pub left : Left (nodes img) (rowsIn img t (l .node .0)) (blockRows img t (l .node .0) (l .count - i) j) c ws d us
 
-  pub blocks-start : {n c : ℕ} {l : NodeList} {ws : List ℕ} → Ready img t (kindOf branchStmtKind) n c → Listed img n 0 l → BlocksLeft n l 0 (l .first) c ws c ws
+  pub blocks-start : {n c : ℕ} {l : NodeList} {ws : List ℕ} → Ready img t (kindOf branchStmtKind) n c → Listed img n 0 l → BlocksLeft l 0 (l .first) c ws c ws
   blocks-start {n} {c} {l} {ws} p q =
-      let e : field img n 0 ≡ l .count - 0 = let z = q .count in omega arith in
-      subst (λ (j : ℕ). BlocksLeft n l 0 j c ws c ws) (sym (q .first))
+      subst (λ (j : ℕ). BlocksLeft l 0 j c ws c ws) (sym (q .first))
       (record {
-        from = blocks-from img (p .is) (q .count);
-        left = left-start _ _ (branch-rows img t (p .is) ∙ ap (λ (x : ℕ). blockRows img t n x 1) e) (p .room .fits);
+        from = blocks-from img (o .is) e;
+        left = left-start _ _ (branch-rows img t (o .is) ∙ ap (λ (x : ℕ). blockRows img t (l .node .0) x 1) (sym e ∙ sym (sub-zero (l .count)))) (o .room .fits);
       })
+    where
+      o : Ready img t (kindOf branchStmtKind) (l .node .0) c
+      o = subst (λ (x : ℕ). Ready img t (kindOf branchStmtKind) x c) (sym (q .node)) p
 
-  pub blocks-place : {n i j c d : ℕ} {l : NodeList} {ws us : List ℕ} → BlocksLeft n l i j c ws d us → j ≤ 8192
+      e : l .count ≡ field img (l .node .0) 0
+      e = q .count ∙ ap (λ (x : ℕ). field img x 0) (sym (q .node))
+
+  pub blocks-place : {i j c d : ℕ} {l : NodeList} {ws us : List ℕ} → BlocksLeft l i j c ws d us → j ≤ 8192
   blocks-place b = place-of-blocks img (b .from)
 
-  -- the block k at the place j
-  pub record Block (n : ℕ) (l : NodeList) (i c : ℕ) (ws : List ℕ) (d : ℕ) (us : List ℕ) (k : NodeList) : Type 0 where
-    pub node : k .node .0 ≡ n
+  -- the block k at the place where the loop stands
+  pub record Block (l : NodeList) (i c : ℕ) (ws : List ℕ) (d : ℕ) (us : List ℕ) (k : NodeList) : Type 0 where
+    pub node : k .node .0 ≡ l .node .0
     pub run : ReadyAll img t stmtKind k d
-    pub more : {e : ℕ} {vs : List ℕ} → Appended (nodes img) (rowsOf img t k) d us e vs → length vs ≡ length us → BlocksLeft n l (i + 1) (k .first + k .count) c ws e vs
+    pub more : {e : ℕ} {vs : List ℕ} → Appended (nodes img) (rowsOf img t k) d us e vs → length vs ≡ length us → BlocksLeft l (i + 1) (k .first + k .count) c ws e vs
 
-  pub blockOf : {n i j c b d : ℕ} {l k : NodeList} {ws us : List ℕ} → Ready img t (kindOf branchStmtKind) n b → Listed img n 0 l → BlocksLeft n l i j c ws d us → i < l .count
-      → Listed img (l .node .0) j k → Block n l i c ws d us k
-  blockOf {n} {i} {j} {c} {d = d} {l} {k} {ws} {us} p a b h r =
+  pub blockOf : {n i j c b d : ℕ} {l k : NodeList} {ws us : List ℕ} → Ready img t (kindOf branchStmtKind) n b → BlocksLeft l i j c ws d us → i < l .count → Listed img (l .node .0) j k → Block l i c ws d us k
+  blockOf {i = i} {j} {c} {d = d} {l} {k} {ws} {us} p b h q =
       record {
         node = q .node;
         run = at-list img (λ m x s. ReadyRun img t stmtKind m x s d) q (record { run = o .run; room = room-first _ _ (room-as m (record { sorted = p .room .sorted; fits = b .left .fits })) });
-        more = λ {e} {vs} g long. at-list img (λ x y s. Appended (nodes img) (rowsAt img t x s y) d us e vs → BlocksLeft n l (i + 1) (y + s) c ws e vs) q
+        more = λ {e} {vs} g long. at-list img (λ x y s. Appended (nodes img) (rowsAt img t x s y) d us e vs → BlocksLeft l (i + 1) (y + s) c ws e vs) q
         (λ f. record { from = o .from; left = left-next (b .left) m f long }) g;
       }
     where
-      q : Listed img n j k
-      q = subst (λ (x : ℕ). Listed img x j k) (a .node) r
-
       z : ℕ
-      z = field img n j
+      z = field img (l .node .0) j
 
       rest : ℕ
       rest = l .count - (i + 1)
 
-      o : NextBlock img n (l .count) i j
+      o : NextBlock img (l .node .0) (l .count) i j
       o = next-block img (b .from) h
 
-      m : blockRows img t n (l .count - i) j ≡ rowsAt img t n z (j + 1) ++ blockRows img t n rest (j + 1 + z)
-      m = ap (λ (x : ℕ). blockRows img t n x j) (one-more h) ∙ block-more img t n rest j
+      m : blockRows img t (l .node .0) (l .count - i) j ≡ rowsAt img t (l .node .0) z (j + 1) ++ blockRows img t (l .node .0) rest (j + 1 + z)
+      m = ap (λ (x : ℕ). blockRows img t (l .node .0) x j) (one-more h) ∙ block-more img t (l .node .0) rest j
 
-  pub blocks-end : {n i j c d : ℕ} {l : NodeList} {ws us : List ℕ} → BlocksLeft n l i j c ws d us → l .count ≤ i → Appended (nodes img) (rowsIn img t n) c ws d us
-  blocks-end {n} {i} {j} {l = l} b h =
-      left-end (b .left) (ap (λ (x : ℕ). blockRows img t n x j) (let z : l .count - i ≡ 0 = omega arith in z) ∙ block-none img t n j)
+  pub blocks-end : {n i j c d : ℕ} {l : NodeList} {ws us : List ℕ} → Listed img n 0 l → BlocksLeft l i j c ws d us → l .count ≤ i → Appended (nodes img) (rowsIn img t n) c ws d us
+  blocks-end {n} {i} {j} {l = l} q b h =
+      appended-as (ap (rowsIn img t) (sym (q .node)))
+      (left-end (b .left) (ap (λ (x : ℕ). blockRows img t (l .node .0) x j) (let z : l .count - i ≡ 0 = omega arith in z) ∙ block-none img t (l .node .0) j))
