@@ -1,12 +1,10 @@
 -- What each case of an enum asks of its collector, and whose rows the node's are: by the answer of the typed read.
 use mathlib.Core.Path.{_≡_, refl, _∙_}
-use mathlib.Core.Logic.{⊎-elim}
 use mathlib.Core.List.{List, [], _∷_}
 use Prim.Native.Nat.{ℕ}
-use native.Mathlib.Omega.{arith}
 use denote.Enum.Declared.{tagOf}
-use types.Run.{OneOf}
-use Rattle.ast.specs.Is.{Is, kindBy, oneTerm, twoTerms}
+use types.Run.{OneOf, miss}
+use Rattle.ast.specs.Is.{kindBy, oneTerm, twoTerms}
 use Rattle.ast.specs.Kinds.{inner, plain, term, head, name, kindOf}
 use Rattle.ast.specs.Named.{appHeadKind, appHeadMemberKind, appTermKind, branchStmtKind, definedThenAtomKind, ifAtomKind, ifStmtKind, matchStmtKind, predAtomKind, predExprKind, stmtKind, termKind, termMemberKind, thenAtomKind, thenStmtKind, typeExprKind, varIfAtomKind}
 use Rattle.ast.specs.Tree.{ordered}
@@ -136,12 +134,9 @@ module _ (img : List ℕ) (t : Table) where
   pub type-none : {n c : ℕ} {o : TypeExpr} → Ready img t (kindOf typeExprKind) n c → o ≡ typeExprAt img n → OneOf (0 ∷ 2 ∷ []) (tagOf TypeExprs.the-type o) → Bare img t n c
   type-none {n} {c} {o} p q k = go o refl k
     where
-      off : {x : ℕ} → OneOf (0 ∷ 2 ∷ []) x → x ≡ 1 → ⊥
-      off {x} k e = ⊎-elim (λ (i : x ≡ 0). omega arith) (λ (i : x ≡ 2). omega arith) k
-
       go : (s : TypeExpr) → o ≡ s → OneOf (0 ∷ 2 ∷ []) (tagOf TypeExprs.the-type s) → Bare img t n c
       go (type-of.Ambient i) r k = type-case p q r
-      go (type-of.Member i) r k = absurd (off k refl)
+      go (type-of.Member i) r k = absurd (miss (0 ∷ 2 ∷ []) 1 tt k)
       go (type-of.Mor i) r k = type-case p q r
 
   pub pred-case : {n c : ℕ} {o s : PredExpr} → Ready img t (kindOf predExprKind) n c → o ≡ predExprAt img n → o ≡ s → PredCase img t n c s

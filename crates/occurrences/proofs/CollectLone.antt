@@ -119,7 +119,7 @@ module _ (img : List ℕ) (t : Table) (symbols : Nodes img t) where
       go true = cons (h i refl) a
       go false = a
 
-  pub rights-low : (l : List Spot) → All (λ v. v < nodes img) (rights (rowsFor img t l))
+  rights-low : (l : List Spot) → All (λ v. v < nodes img) (rights (rowsFor img t l))
   unfolding rowsFor rights
   rights-low [] = nil
   rights-low (s ∷ l) = listed-low (s .node) (found img t s) (rowsFor img t l) (lookup-low img t symbols _ _) (rights-low l)

@@ -1,14 +1,13 @@
 -- The rows of the rules of declarations: what names mean outside does not matter, and what each kind of declaration adds.
 use mathlib.Core.Path.{_≡_, refl, sym, ap, ap₂, subst, _∙_}
 use mathlib.Core.Bool.{false}
-use mathlib.Core.Logic.{⊎-elim}
 use mathlib.Core.List.{List, [], _∷_, _++_, append-assoc, append-nil}
 use mathlib.Core.Option.{Option, none as nothing}
 use Prim.Native.Nat.{ℕ, zero, suc, _+_, _-_, _<_, _≤_}
 use native.Mathlib.Omega.{arith}
 use native.Mathlib.Nat.{sub-zero, add-zero}
 use denote.Enum.Declared.{tagOf}
-use types.Run.{OneOf}
+use types.Run.{OneOf, miss}
 use lib.Dec.{eqb}
 use lib.ListN.{length, getD, length-append}
 use Rattle.ast.specs.Image.{nodes, field, last}
@@ -16,7 +15,7 @@ use Rattle.ast.specs.Kinds.{outer, inner, root, decl, signature, rule, enum, mo
 use Rattle.ast.specs.Tree.{Tree, node, block, Trees, none, _◂_, ordered, treeAt}
 use Rattle.ast.specs.Items.{items, below}
 use Rattle.ast.specs.Is.{Is, kindBy}
-use Rattle.ast.specs.Named.{ctorDeclKind, declKind, enumDeclKind, modelDeclKind, moduleKind, ruleDeclKind, stmtKind}
+use Rattle.ast.specs.Named.{ctorDeclKind, declKind, enumDeclKind, modelDeclKind, ruleDeclKind, stmtKind}
 use Rattle.ast.specs.Tests.{verdict}
 use Rattle.ast.proofs.Row.{append, append-none, Child, Items, FormedFields, allKids, next, ends, nodeOf}
 use Rattle.ast.proofs.Shapes.{tree-of, row, child-is, case-kids, case-one, case-child, run-item, run-list, run-tail}
@@ -46,7 +45,7 @@ joined-append [] b = refl
 joined-append (l ∷ a) b = ap (λ (k : List Row). l ++ k) (joined-append a b) ∙ sym (append-assoc l (joined a) (joined b))
 
 module _ (img : List ℕ) (t : Table) where
-  pub all-joined : (rs : List Rule) → allRows img t rs ≡ joined (rowsByRule img t rs)
+  all-joined : (rs : List Rule) → allRows img t rs ≡ joined (rowsByRule img t rs)
   unfolding allRows joined rowsByRule
   all-joined [] = refl
   all-joined (r ∷ rs) = ap (λ (k : List Row). ruleRows img t r ++ k) (all-joined rs)
@@ -187,20 +186,14 @@ module _ (img : List ℕ) (t : Table) where
   pub decl-none : {n c : ℕ} {o : Decl} → Listing img t (kindOf declKind) n c → o ≡ declAt img n → OneOf others (tagOf Decls.the-type o) → listsIn img t n ≡ []
   decl-none {n} {c} {o} p q k = go o refl k
     where
-      off : (x : ℕ) → OneOf others x → x < 5 → x < 4
-      off x k l = ⊎-elim (λ (i : x ≡ 0). omega arith) (λ k. ⊎-elim (λ (i : x ≡ 1). omega arith) (λ k. ⊎-elim (λ (i : x ≡ 2). omega arith) (λ k. ⊎-elim (λ (i : x ≡ 3). omega arith) (λ (i : x ≡ 5). omega arith) k) k) k) k
-
-      up : (x : ℕ) → OneOf others x → x < 6
-      up x k = ⊎-elim (λ (i : x ≡ 0). omega arith) (λ k. ⊎-elim (λ (i : x ≡ 1). omega arith) (λ k. ⊎-elim (λ (i : x ≡ 2). omega arith) (λ k. ⊎-elim (λ (i : x ≡ 3). omega arith) (λ (i : x ≡ 5). omega arith) k) k) k) k
-
       go : (s : Decl) → o ≡ s → OneOf others (tagOf Decls.the-type s) → listsIn img t n ≡ []
       go (decl-of.Type i) r k = decl-case p q r
       go (decl-of.Pred i) r k = decl-case p q r
       go (decl-of.Func i) r k = decl-case p q r
       go (decl-of.Const i) r k = decl-case p q r
-      go (decl-of.Rule i) r k = absurd (let z = off 4 k (omega arith) in omega arith)
+      go (decl-of.Rule i) r k = absurd (miss others 4 tt k)
       go (decl-of.Enum i) r k = decl-case p q r
-      go (decl-of.Model i) r k = absurd (let z = up 6 k in omega arith)
+      go (decl-of.Model i) r k = absurd (miss others 6 tt k)
 
   -- a rule: its statements ---------------------------------------------------------------------------------------------------
   -- statements do not depend on the node above
@@ -230,10 +223,10 @@ module _ (img : List ℕ) (t : Table) where
   ruleRun {n} {c = c} {l} p q =
       record {
         run = at-list img (λ m j k. ReadyRun img t stmtKind m j k c) (q .list)
-        (record {
-          run = run-tail img (p .is) refl refl;
-          room = record { sorted = p .sorted; fits = (let f = subst (λ (k : List Row). c + length k ≤ nodes img) w (p .few) in let z = (sized img (p .is .accepted)) .fewNodes in omega arith) };
-        });
+            (record {
+              run = run-tail img (p .is) refl refl;
+              room = record { sorted = p .sorted; fits = (let f = subst (λ (k : List Row). c + length k ≤ nodes img) w (p .few) in let z = (sized img (p .is .accepted)) .fewNodes in omega arith) };
+            });
         single = at-list img (λ m j k. listsIn img t n ≡ rowsAt img t m k j ∷ []) (q .list) s;
         whole = at-list img (λ m j k. joined (listsIn img t n) ≡ rowsAt img t m k j) (q .list) w;
       }
@@ -264,7 +257,7 @@ module _ (img : List ℕ) (t : Table) where
       record {
         node = q .list .node;
         run = at-list img (λ m j k. ListingRun img t m j k c) (q .list)
-        (record { run = run-tail img (p .is) refl refl; sorted = p .sorted; few = subst (λ (k : List (List Row)). c + length (joined k) ≤ nodes img) w (p .few) });
+            (record { run = run-tail img (p .is) refl refl; sorted = p .sorted; few = subst (λ (k : List (List Row)). c + length (joined k) ≤ nodes img) w (p .few) });
         whole = at-list img (λ m j k. listsIn img t n ≡ listsAt img t m k j) (q .list) w;
       }
 
@@ -337,7 +330,7 @@ module _ (img : List ℕ) (t : Table) where
   moduleRun {n} {l} p e r =
       record {
         run = at-list img (λ m j k. ListingRun img t m j k 0) q
-        (record { run = run-list img (root-is img (p .accepted)) refl; sorted = p .sorted; few = subst (λ (k : List Row). 0 + length k ≤ nodes img) w (let f = p .few in omega arith) });
+            (record { run = run-list img (root-is img (p .accepted)) refl; sorted = p .sorted; few = subst (λ (k : List Row). 0 + length k ≤ nodes img) w (let f = p .few in omega arith) });
         by-rule = at-list img (λ m j k. rowsByRule img t (moduleRules img) ≡ listsAt img t m k j) q b;
         whole = at-list img (λ m j k. occurrenceRows img t ≡ joined (listsAt img t m k j)) q w;
       }

@@ -9,7 +9,7 @@ use native.Mathlib.Nat.{sub-zero, add-zero}
 use lib.Dec.{eqb}
 use lib.ListN.{length, getD, length-append}
 use Rattle.ast.specs.Image.{nodes, field}
-use Rattle.ast.specs.Kinds.{Class, inner, plain, term, head, headMember, member, case, child, list, cases, noChild, Kind, kindOf}
+use Rattle.ast.specs.Kinds.{Class, inner, plain, headMember, member, case, child, list, cases, noChild, Kind, kindOf}
 use Rattle.ast.specs.Named.{appHeadKind, appHeadMemberKind, appTermKind, branchStmtKind, definedThenAtomKind, identTermKind, ifAtomKind, ifStmtKind, matchCaseKind, matchStmtKind, predAtomKind, predExprKind, stmtKind, termKind, termListKind, termMemberKind, thenAtomKind, thenStmtKind, typeExprKind, varIfAtomKind}
 use Rattle.ast.specs.Tree.{Trees, ordered, treeAt}
 use Rattle.ast.specs.Is.{Is, kindBy, oneTerm, twoTerms}
@@ -347,7 +347,7 @@ module _ (img : List ℕ) (t : Table) where
         node = q .node;
         run = at-list img (λ m x s. ReadyRun img t stmtKind m x s d) q (record { run = o .run; room = room-first _ _ (room-as m (record { sorted = p .room .sorted; fits = b .left .fits })) });
         more = λ {e} {vs} g long. at-list img (λ x y s. Appended (nodes img) (rowsAt img t x s y) d us e vs → BlocksLeft l (i + 1) (y + s) c ws e vs) q
-        (λ f. record { from = o .from; left = left-next (b .left) m f long }) g;
+            (λ f. record { from = o .from; left = left-next (b .left) m f long }) g;
       }
     where
       z : ℕ

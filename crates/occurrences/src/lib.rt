@@ -1,5 +1,5 @@
-// Variable occurrences: Occurrences and Once. Of scope_checks/occurrences.rs; the list that the Rust makes for a rule stands here in
-// lent words, `written` rows of it.
+// Variable occurrences: Occurrences and Once, by scope_checks/occurrences.rs. The list of a rule's occurrences is rows in lent
+// words, of which `written` stand.
 ghost use mathlib.Core.Path.{_≡_};
 ghost use Prim.Native.Nat.{_≤_};
 ghost use lib.ListN.{length, getD, set};
@@ -132,6 +132,27 @@ fn check_rule(
     found
 }
 
+fn collect_stmts(
+    image: &[u8],
+    table: &[u32],
+    symbols: u32,
+    rows: &mut [u32],
+    written: u32,
+    stmts: StmtIds,
+) -> u32
+    requires { ⌜ ReadyAll (now image) (sought (now table) symbols) stmtKind (stmts .0) written ⌝ }
+    ensures { λ r. ⌜ Appended («image-spec».nodes (now (image .entry))) (rowsOf (now (image .entry)) (sought (now (table .entry)) symbols) (stmts .0)) written (now (rows .entry)) r (now (rows .exit)) ⌝ }
+{
+    let mut i = 0;
+    let mut after = written;
+    while i < stmts.0.count {
+        let stmt = typed::nth_stmt(image, stmts, i);
+        after = collect_stmt(image, table, symbols, rows, after, stmt);
+        i += 1;
+    }
+    after
+}
+
 // The binding of each row counted, or all of them back to 0.
 fn count_bindings(image: &[u8], rows: &[u32], written: u32, counts: &mut [u32], up: bool)
     ensures { λ _. ⌜ now (counts .exit) ≡ recounted up (rights (readRows («image-spec».nodes (now (image .entry))) (now (rows .entry)) written 0)) (now (counts .entry)) ⌝ }
@@ -221,27 +242,6 @@ fn collect_branch(
         let block = typed::block(image, blocks, place);
         after = collect_stmts(image, table, symbols, rows, after, block);
         place = block.0.first + block.0.count;
-        i += 1;
-    }
-    after
-}
-
-fn collect_stmts(
-    image: &[u8],
-    table: &[u32],
-    symbols: u32,
-    rows: &mut [u32],
-    written: u32,
-    stmts: StmtIds,
-) -> u32
-    requires { ⌜ ReadyAll (now image) (sought (now table) symbols) stmtKind (stmts .0) written ⌝ }
-    ensures { λ r. ⌜ Appended («image-spec».nodes (now (image .entry))) (rowsOf (now (image .entry)) (sought (now (table .entry)) symbols) (stmts .0)) written (now (rows .entry)) r (now (rows .exit)) ⌝ }
-{
-    let mut i = 0;
-    let mut after = written;
-    while i < stmts.0.count {
-        let stmt = typed::nth_stmt(image, stmts, i);
-        after = collect_stmt(image, table, symbols, rows, after, stmt);
         i += 1;
     }
     after

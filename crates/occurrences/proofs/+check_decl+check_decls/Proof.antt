@@ -50,55 +50,42 @@ check-decl-claims t = (decl-reads.Asked, decl-reads.Learnt, check-rule-reads.Ask
 abbrev check-decls-claims : ℕ → check-decls-lts.Claims
 check-decls-claims t = (nth-decl-reads.Asked, nth-decl-reads.Learnt, check-decl-below t, check-decl.Post)
 
--- src/lib.rt:103:11
 check-decl-decl-requires : (t : ℕ) → check-decl-lts.Need-decl-requires (check-decl-claims t) (check-decl-at t) check-decl.Post
 check-decl-decl-requires t c κs = search needs
 
--- src/lib.rt:106:20
 check-decl-enum-known-id : (t : ℕ) → check-decl-lts.Need-enum-known-id (check-decl-claims t) (check-decl-at t) check-decl.Post
 check-decl-enum-known-id t c = search needs
 
--- src/lib.rt:106:27
 check-decl-check-rule-requires : (t : ℕ) → check-decl-lts.Need-check-rule-requires (check-decl-claims t) (check-decl-at t) check-decl.Post
 check-decl-check-rule-requires t c κs = ((decl-case _ _ (c .before .before .before .before .before .before .before .before .before .before .pre .1 .0) (c .before .before .before .before .before .decl .ensures) (c .before .before .before .id .given .1)) .listing, c .before .before .before .before .before .before .before .before .before .before .pre .1 .1)
 
--- src/lib.rt:107:21
 check-decl-enum-known-id-2 : (t : ℕ) → check-decl-lts.Need-enum-known-id-2 (check-decl-claims t) (check-decl-at t) check-decl.Post
 check-decl-enum-known-id-2 t c = search needs
 
--- src/lib.rt:108:47
 check-decl-model-decl-requires : (t : ℕ) → check-decl-lts.Need-model-decl-requires (check-decl-claims t) (check-decl-at t) check-decl.Post
 check-decl-model-decl-requires t c κs = search needs
 
--- src/lib.rt:109:13
 check-decl-check-decls-requires : (t : ℕ) → check-decl-lts.Need-check-decls-requires (check-decl-claims t) (check-decl-at t) check-decl.Post
 check-decl-check-decls-requires t c κs = let d = decl-case _ _ (c .before .before .before .before .before .before .before .before .before .before .before .before .pre .1 .0) (c .before .before .before .before .before .before .before .decl .ensures) (c .before .before .before .before .before .id2 .given .1) in let m = modelRun _ _ (d .listing) (c .before .before .before .model-decl .ensures) in (let l = d .low in let e = m .node in omega arith, (m .run, c .before .before .before .before .before .before .before .before .before .before .before .before .pre .1 .1))
 
--- src/lib.rt:92:1
 check-decl-returns : (t : ℕ) → check-decl-lts.Need-returns (check-decl-claims t) (check-decl-at t) check-decl.Post
 check-decl-returns t c = searched-nothing (decl-none _ _ (c .before .before .before .before .before .before .pre .1 .0) (c .before .decl .ensures) (c .match .keys1))
 
--- src/lib.rt:92:1
 check-decl-same-length : (t : ℕ) → check-decl-lts.Need-same-length (check-decl-claims t) (check-decl-at t) check-decl.Post
 check-decl-same-length t c = search needs
 
--- src/lib.rt:92:1
 check-decl-same-length-2 : (t : ℕ) → check-decl-lts.Need-same-length-2 (check-decl-claims t) (check-decl-at t) check-decl.Post
 check-decl-same-length-2 t c = search needs
 
--- src/lib.rt:92:1
 check-decl-returns-2 : (t : ℕ) → check-decl-lts.Need-returns-2 (check-decl-claims t) (check-decl-at t) check-decl.Post
 check-decl-returns-2 t c = searched-as ((decl-case _ _ (c .before .before .before .before .before .before .before .before .before .before .before .before .before .before .before .pre .1 .0) (c .before .before .before .before .before .before .before .before .before .before .decl .ensures) (c .before .before .before .before .before .before .before .before .id .given .1)) .whole) (c .before .before .before .before .check-rule .ensures)
 
--- src/lib.rt:92:1
 check-decl-same-length-3 : (t : ℕ) → check-decl-lts.Need-same-length-3 (check-decl-claims t) (check-decl-at t) check-decl.Post
 check-decl-same-length-3 t c = search needs
 
--- src/lib.rt:92:1
 check-decl-same-length-4 : (t : ℕ) → check-decl-lts.Need-same-length-4 (check-decl-claims t) (check-decl-at t) check-decl.Post
 check-decl-same-length-4 t c = search needs
 
--- src/lib.rt:92:1
 check-decl-returns-3 : (t : ℕ) → check-decl-lts.Need-returns-3 (check-decl-claims t) (check-decl-at t) check-decl.Post
 check-decl-returns-3 t c = searched-as ((decl-case _ _ (c .before .before .before .before .before .before .before .before .before .before .before .before .before .before .before .before .before .pre .1 .0) (c .before .before .before .before .before .before .before .before .before .before .before .before .decl .ensures) (c .before .before .before .before .before .before .before .before .before .before .id2 .given .1)) .whole ∙ (modelRun _ _ ((decl-case _ _ (c .before .before .before .before .before .before .before .before .before .before .before .before .before .before .before .before .before .pre .1 .0) (c .before .before .before .before .before .before .before .before .before .before .before .before .decl .ensures) (c .before .before .before .before .before .before .before .before .before .before .id2 .given .1)) .listing) (c .before .before .before .before .before .before .before .before .model-decl .ensures)) .whole) (c .before .before .before .before .check-decls .ensures)
 
@@ -108,58 +95,45 @@ check-decls-Inv-loop image table symbols rows₀ counts₀ decls i₀ rows count
 abbrev check-decls-μ-loop : check-decls-lts.MeasureT-loop
 check-decls-μ-loop image table symbols rows₀ counts₀ decls i₀ rows counts i = decls .0 .count - i
 
--- src/lib.rt:79:5
 check-decls-loop-holds : (t : ℕ) → check-decls-lts.Need-loop-holds (check-decls-claims t) (check-decls-at t) check-decls.Post check-decls-Inv-loop check-decls-μ-loop
 check-decls-loop-holds t c = checks-start _ _ (c .before .before .before .before .pre .1 .0)
 
--- src/lib.rt:80:13
 check-decls-nth-decl-requires : (t : ℕ) → check-decls-lts.Need-nth-decl-requires (check-decls-claims t) (check-decls-at t) check-decls.Post check-decls-Inv-loop check-decls-μ-loop
 check-decls-nth-decl-requires t c κs = let s = c .before .before .before .before .before .before .before .pre .1 .0 .run .short in omega arith
 
--- src/lib.rt:81:15
 check-decls-check-decl-requires : (t : ℕ) → check-decls-lts.Need-check-decl-requires (check-decls-claims t) (check-decls-at t) check-decls.Post check-decls-Inv-loop check-decls-μ-loop
 check-decls-check-decl-requires t c κs = let o = checks-item _ _ (c .before .before .before .before .before .before .before .before .before .before .pre .1 .0) (c .before .before .before .before .before .loop .inv) (c .before .before .before .if1 .taken) (c .before .before .nth-decl .ensures) in (let l = o .low in omega arith, (o .listing, checks-scratch _ _ (c .before .before .before .before .before .before .before .before .before .before .pre .1 .1) (c .before .before .before .before .before .loop .inv)))
 
 check-decls-enum-told : (t : ℕ) → check-decls-lts.Need-enum-told (check-decls-claims t) (check-decls-at t) check-decls.Post check-decls-Inv-loop check-decls-μ-loop
 check-decls-enum-told t c = search needs
 
--- src/lib.rt:83:27
 check-decls-enum-known-node : (t : ℕ) → check-decls-lts.Need-enum-known-node (check-decls-claims t) (check-decls-at t) check-decls.Post check-decls-Inv-loop check-decls-μ-loop
 check-decls-enum-known-node t c = search needs
 
--- src/lib.rt:84:17
 check-decls-same-length : (t : ℕ) → check-decls-lts.Need-same-length (check-decls-claims t) (check-decls-at t) check-decls.Post check-decls-Inv-loop check-decls-μ-loop
 check-decls-same-length t c = c .before .before .before .before .before .before .before .check-decl .kept .1 .1 .1 .0 ∙ c .before .before .before .before .before .before .before .before .before .before .before .before .before .loop .inv .long
 
--- src/lib.rt:84:17
 check-decls-same-length-2 : (t : ℕ) → check-decls-lts.Need-same-length-2 (check-decls-claims t) (check-decls-at t) check-decls.Post check-decls-Inv-loop check-decls-μ-loop
 check-decls-same-length-2 t c = c .before .before .before .before .before .before .before .check-decl .kept .1 .1 .1 .1 .0 ∙ ap length (c .before .before .before .before .before .before .before .before .before .before .before .before .before .loop .inv .clean)
 
--- src/lib.rt:84:17
 check-decls-returns : (t : ℕ) → check-decls-lts.Need-returns (check-decls-claims t) (check-decls-at t) check-decls.Post check-decls-Inv-loop check-decls-μ-loop
 check-decls-returns t c = checks-found _ _ (c .before .before .before .before .before .before .before .before .before .before .before .before .before .loop .inv) (checks-item _ _ (c .before .before .before .before .before .before .before .before .before .before .before .before .before .before .before .before .before .before .pre .1 .0) (c .before .before .before .before .before .before .before .before .before .before .before .before .before .loop .inv) (c .before .before .before .before .before .before .before .before .before .before .before .if1 .taken) (c .before .before .before .before .before .before .before .before .before .before .nth-decl .ensures)) (c .before .before .before .before .before .before .before .check-decl .ensures) (c .before .node .given .1)
 
--- src/lib.rt:87:9
 check-decls-add-i : (t : ℕ) → check-decls-lts.Need-add-i (check-decls-claims t) (check-decls-at t) check-decls.Post check-decls-Inv-loop check-decls-μ-loop
 check-decls-add-i t c = search needs
 
--- src/lib.rt:79:5
 check-decls-loop-less : (t : ℕ) → check-decls-lts.Need-loop-less (check-decls-claims t) (check-decls-at t) check-decls.Post check-decls-Inv-loop check-decls-μ-loop
 check-decls-loop-less t c = search needs
 
--- src/lib.rt:79:5
 check-decls-loop-again : (t : ℕ) → check-decls-lts.Need-loop-again (check-decls-claims t) (check-decls-at t) check-decls.Post check-decls-Inv-loop check-decls-μ-loop
 check-decls-loop-again t c = checks-next _ _ (c .before .before .before .before .before .before .before .before .before .before .before .before .loop .inv) (checks-item _ _ (c .before .before .before .before .before .before .before .before .before .before .before .before .before .before .before .before .before .pre .1 .0) (c .before .before .before .before .before .before .before .before .before .before .before .before .loop .inv) (c .before .before .before .before .before .before .before .before .before .before .if1 .taken) (c .before .before .before .before .before .before .before .before .before .nth-decl .ensures)) (c .before .before .before .before .before .before .check-decl .ensures) (c .enum-told .given .1) (c .before .before .before .before .before .before .check-decl .kept .1 .1 .1 .0)
 
--- src/lib.rt:67:1
 check-decls-same-length-3 : (t : ℕ) → check-decls-lts.Need-same-length-3 (check-decls-claims t) (check-decls-at t) check-decls.Post check-decls-Inv-loop check-decls-μ-loop
 check-decls-same-length-3 t c = c .before .before .loop .inv .long
 
--- src/lib.rt:67:1
 check-decls-same-length-4 : (t : ℕ) → check-decls-lts.Need-same-length-4 (check-decls-claims t) (check-decls-at t) check-decls.Post check-decls-Inv-loop check-decls-μ-loop
 check-decls-same-length-4 t c = ap length (c .before .before .loop .inv .clean)
 
--- src/lib.rt:67:1
 check-decls-returns-2 : (t : ℕ) → check-decls-lts.Need-returns-2 (check-decls-claims t) (check-decls-at t) check-decls.Post check-decls-Inv-loop check-decls-μ-loop
 check-decls-returns-2 t c = checks-end _ _ (c .before .before .loop .inv) (c .if1 .left)
 

@@ -95,219 +95,166 @@ collect-term-claims t = (term-reads.Asked, term-reads.Learnt, collect-ident-read
 abbrev collect-term-list-claims : ℕ → collect-term-list-lts.Claims
 collect-term-list-claims t = (term-list-reads.Asked, term-list-reads.Learnt, nth-term-reads.Asked, nth-term-reads.Learnt, collect-term-below t, collect-term.Post)
 
--- src/lib.rt:437:11
 collect-app-head-app-head-requires : (t : ℕ) → collect-app-head-lts.Need-app-head-requires (collect-app-head-claims t) (collect-app-head-at t) collect-app-head.Post
 collect-app-head-app-head-requires t c κs = search needs
 
--- src/lib.rt:438:24
 collect-app-head-enum-known-id : (t : ℕ) → collect-app-head-lts.Need-enum-known-id (collect-app-head-claims t) (collect-app-head-at t) collect-app-head.Post
 collect-app-head-enum-known-id t c = search needs
 
--- src/lib.rt:438:31
 collect-app-head-collect-ident-requires :
     (t : ℕ) → collect-app-head-lts.Need-collect-ident-requires (collect-app-head-claims t) (collect-app-head-at t) collect-app-head.Post
 collect-app-head-collect-ident-requires t c κs = (head-case _ _ (c .before .before .before .before .before .before .before .before .pre .1) (c .before .before .before .before .app-head .ensures) (c .before .before .id .given .1)) .room
 
--- src/lib.rt:439:25
 collect-app-head-enum-known-id-2 : (t : ℕ) → collect-app-head-lts.Need-enum-known-id-2 (collect-app-head-claims t) (collect-app-head-at t) collect-app-head.Post
 collect-app-head-enum-known-id-2 t c = search needs
 
--- src/lib.rt:440:56
 collect-app-head-app-head-member-requires :
     (t : ℕ) → collect-app-head-lts.Need-app-head-member-requires (collect-app-head-claims t) (collect-app-head-at t) collect-app-head.Post
 collect-app-head-app-head-member-requires t c κs = search needs
 
--- src/lib.rt:441:13
 collect-app-head-collect-term-requires : (t : ℕ) → collect-app-head-lts.Need-collect-term-requires (collect-app-head-claims t) (collect-app-head-at t) collect-app-head.Post
 collect-app-head-collect-term-requires t c κs = let o = head-member _ _ (head-case _ _ (c .before .before .before .before .before .before .before .before .before .before .pre .1) (c .before .before .before .before .before .before .app-head .ensures) (c .before .before .before .before .id2 .given .1)) (c .before .before .app-head-member .ensures) in (let l = o .low in omega arith, o .ready)
 
--- src/lib.rt:443:23
 collect-app-head-enum-known-term : (t : ℕ) → collect-app-head-lts.Need-enum-known-term (collect-app-head-claims t) (collect-app-head-at t) collect-app-head.Post
 collect-app-head-enum-known-term t c = search needs
 
--- src/lib.rt:443:32
 collect-app-head-collect-term-requires-2 :
     (t : ℕ) → collect-app-head-lts.Need-collect-term-requires-2 (collect-app-head-claims t) (collect-app-head-at t) collect-app-head.Post
 collect-app-head-collect-term-requires-2 t c κs = let o = head-case _ _ (c .before .before .before .before .before .before .before .before .pre .1) (c .before .before .before .before .app-head .ensures) (c .before .before .term .given .1) in (let l = o .low in omega arith, o .ready)
 
--- src/lib.rt:426:1
 collect-app-head-same-length : (t : ℕ) → collect-app-head-lts.Need-same-length (collect-app-head-claims t) (collect-app-head-at t) collect-app-head.Post
 collect-app-head-same-length t c = search needs
 
--- src/lib.rt:426:1
 collect-app-head-returns : (t : ℕ) → collect-app-head-lts.Need-returns (collect-app-head-claims t) (collect-app-head-at t) collect-app-head.Post
 collect-app-head-returns t c = appended-as ((head-case _ _ (c .before .before .before .before .before .before .before .before .before .before .before .pre .1) (c .before .before .before .before .before .before .before .app-head .ensures) (c .before .before .before .before .before .id .given .1)) .whole) (c .before .before .collect-ident .ensures)
 
--- src/lib.rt:426:1
 collect-app-head-same-length-2 : (t : ℕ) → collect-app-head-lts.Need-same-length-2 (collect-app-head-claims t) (collect-app-head-at t) collect-app-head.Post
 collect-app-head-same-length-2 t c = search needs
 
--- src/lib.rt:426:1
 collect-app-head-returns-2 : (t : ℕ) → collect-app-head-lts.Need-returns-2 (collect-app-head-claims t) (collect-app-head-at t) collect-app-head.Post
 collect-app-head-returns-2 t c = appended-as ((head-member _ _ (head-case _ _ (c .before .before .before .before .before .before .before .before .before .before .before .before .before .pre .1) (c .before .before .before .before .before .before .before .before .before .app-head .ensures) (c .before .before .before .before .before .before .before .id2 .given .1)) (c .before .before .before .before .before .app-head-member .ensures)) .whole) (c .before .before .collect-term .ensures)
 
--- src/lib.rt:426:1
 collect-app-head-same-length-3 : (t : ℕ) → collect-app-head-lts.Need-same-length-3 (collect-app-head-claims t) (collect-app-head-at t) collect-app-head.Post
 collect-app-head-same-length-3 t c = search needs
 
--- src/lib.rt:426:1
 collect-app-head-returns-3 : (t : ℕ) → collect-app-head-lts.Need-returns-3 (collect-app-head-claims t) (collect-app-head-at t) collect-app-head.Post
 collect-app-head-returns-3 t c = appended-as ((head-case _ _ (c .before .before .before .before .before .before .before .before .before .before .before .pre .1) (c .before .before .before .before .before .before .before .app-head .ensures) (c .before .before .before .before .before .term .given .1)) .whole) (c .before .before .collect-term2 .ensures)
 
--- src/lib.rt:368:11
 collect-term-term-requires : (t : ℕ) → collect-term-lts.Need-term-requires (collect-term-claims t) (collect-term-at t) collect-term.Post
 collect-term-term-requires t c κs = search needs
 
--- src/lib.rt:369:21
 collect-term-enum-known-id : (t : ℕ) → collect-term-lts.Need-enum-known-id (collect-term-claims t) (collect-term-at t) collect-term.Post
 collect-term-enum-known-id t c = search needs
 
--- src/lib.rt:369:28
 collect-term-collect-ident-requires : (t : ℕ) → collect-term-lts.Need-collect-ident-requires (collect-term-claims t) (collect-term-at t) collect-term.Post
 collect-term-collect-ident-requires t c κs = (term-case _ _ (c .before .before .before .before .before .before .before .before .pre .1) (c .before .before .before .before .term .ensures) (c .before .before .id .given .1)) .room
 
--- src/lib.rt:370:27
 collect-term-enum-told : (t : ℕ) → collect-term-lts.Need-enum-told (collect-term-claims t) (collect-term-at t) collect-term.Post
 collect-term-enum-told t c = search needs
 
--- src/lib.rt:371:19
 collect-term-enum-known-id-2 : (t : ℕ) → collect-term-lts.Need-enum-known-id-2 (collect-term-claims t) (collect-term-at t) collect-term.Post
 collect-term-enum-known-id-2 t c = search needs
 
--- src/lib.rt:372:42
 collect-term-app-term-requires : (t : ℕ) → collect-term-lts.Need-app-term-requires (collect-term-claims t) (collect-term-at t) collect-term.Post
 collect-term-app-term-requires t c κs = search needs
 
--- src/lib.rt:373:17
 collect-term-collect-app-head-requires : (t : ℕ) → collect-term-lts.Need-collect-app-head-requires (collect-term-claims t) (collect-term-at t) collect-term.Post
 collect-term-collect-app-head-requires t c κs = let o = app-term _ _ (term-case _ _ (c .before .before .before .before .before .before .before .before .before .before .before .pre .1) (c .before .before .before .before .before .before .before .term .ensures) (c .before .before .before .before .before .id2 .given .1)) (c .before .before .before .app-term .ensures) in (let l = o .low in omega arith, o .first)
 
--- src/lib.rt:374:13
 collect-term-collect-term-list-requires :
     (t : ℕ) → collect-term-lts.Need-collect-term-list-requires (collect-term-claims t) (collect-term-at t) collect-term.Post
 collect-term-collect-term-list-requires t c κs = let o = app-term _ _ (term-case _ _ (c .before .before .before .before .before .before .before .before .before .before .before .before .before .before .before .pre .1) (c .before .before .before .before .before .before .before .before .before .before .before .term .ensures) (c .before .before .before .before .before .before .before .before .before .id2 .given .1)) (c .before .before .before .before .before .before .before .app-term .ensures) in (let l = o .low2 in omega arith, o .second (c .before .before .before .collect-app-head .ensures .count))
 
--- src/lib.rt:376:22
 collect-term-enum-known-id-3 : (t : ℕ) → collect-term-lts.Need-enum-known-id-3 (collect-term-claims t) (collect-term-at t) collect-term.Post
 collect-term-enum-known-id-3 t c = search needs
 
--- src/lib.rt:377:48
 collect-term-term-member-requires : (t : ℕ) → collect-term-lts.Need-term-member-requires (collect-term-claims t) (collect-term-at t) collect-term.Post
 collect-term-term-member-requires t c κs = search needs
 
--- src/lib.rt:378:13
 collect-term-collect-term-requires : (t : ℕ) → collect-term-lts.Need-collect-term-requires (collect-term-claims t) (collect-term-at t) collect-term.Post
 collect-term-collect-term-requires t c κs = let o = term-member _ _ (term-case _ _ (c .before .before .before .before .before .before .before .before .before .before .pre .1) (c .before .before .before .before .before .before .term .ensures) (c .before .before .before .before .id3 .given .1)) (c .before .before .term-member .ensures) in (let l = o .low in omega arith, o .ready)
 
--- src/lib.rt:380:19
 collect-term-enum-known-id-4 : (t : ℕ) → collect-term-lts.Need-enum-known-id-4 (collect-term-claims t) (collect-term-at t) collect-term.Post
 collect-term-enum-known-id-4 t c = search needs
 
--- src/lib.rt:381:35
 collect-term-dom-term-requires : (t : ℕ) → collect-term-lts.Need-dom-term-requires (collect-term-claims t) (collect-term-at t) collect-term.Post
 collect-term-dom-term-requires t c κs = search needs
 
--- src/lib.rt:382:13
 collect-term-collect-term-requires-2 : (t : ℕ) → collect-term-lts.Need-collect-term-requires-2 (collect-term-claims t) (collect-term-at t) collect-term.Post
 collect-term-collect-term-requires-2 t c κs = let o = one-term _ _ (term-case _ _ (c .before .before .before .before .before .before .before .before .before .before .pre .1) (c .before .before .before .before .before .before .term .ensures) (c .before .before .before .before .id4 .given .1)) (c .before .before .dom-term .ensures) in (let l = o .low in omega arith, o .ready)
 
--- src/lib.rt:384:19
 collect-term-enum-known-id-5 : (t : ℕ) → collect-term-lts.Need-enum-known-id-5 (collect-term-claims t) (collect-term-at t) collect-term.Post
 collect-term-enum-known-id-5 t c = search needs
 
--- src/lib.rt:385:35
 collect-term-cod-term-requires : (t : ℕ) → collect-term-lts.Need-cod-term-requires (collect-term-claims t) (collect-term-at t) collect-term.Post
 collect-term-cod-term-requires t c κs = search needs
 
--- src/lib.rt:386:13
 collect-term-collect-term-requires-3 : (t : ℕ) → collect-term-lts.Need-collect-term-requires-3 (collect-term-claims t) (collect-term-at t) collect-term.Post
 collect-term-collect-term-requires-3 t c κs = let o = one-term _ _ (term-case _ _ (c .before .before .before .before .before .before .before .before .before .before .pre .1) (c .before .before .before .before .before .before .term .ensures) (c .before .before .before .before .id5 .given .1)) (c .before .before .cod-term .ensures) in (let l = o .low in omega arith, o .ready)
 
--- src/lib.rt:388:18
 collect-term-enum-known-id-6 : (t : ℕ) → collect-term-lts.Need-enum-known-id-6 (collect-term-claims t) (collect-term-at t) collect-term.Post
 collect-term-enum-known-id-6 t c = search needs
 
--- src/lib.rt:389:34
 collect-term-id-term-requires : (t : ℕ) → collect-term-lts.Need-id-term-requires (collect-term-claims t) (collect-term-at t) collect-term.Post
 collect-term-id-term-requires t c κs = search needs
 
--- src/lib.rt:390:13
 collect-term-collect-term-requires-4 : (t : ℕ) → collect-term-lts.Need-collect-term-requires-4 (collect-term-claims t) (collect-term-at t) collect-term.Post
 collect-term-collect-term-requires-4 t c κs = let o = one-term _ _ (term-case _ _ (c .before .before .before .before .before .before .before .before .before .before .pre .1) (c .before .before .before .before .before .before .term .ensures) (c .before .before .before .before .id6 .given .1)) (c .before .before .id-term .ensures) in (let l = o .low in omega arith, o .ready)
 
--- src/lib.rt:392:20
 collect-term-enum-known-id-7 : (t : ℕ) → collect-term-lts.Need-enum-known-id-7 (collect-term-claims t) (collect-term-at t) collect-term.Post
 collect-term-enum-known-id-7 t c = search needs
 
--- src/lib.rt:393:46
 collect-term-comp-term-requires : (t : ℕ) → collect-term-lts.Need-comp-term-requires (collect-term-claims t) (collect-term-at t) collect-term.Post
 collect-term-comp-term-requires t c κs = search needs
 
--- src/lib.rt:394:17
 collect-term-collect-term-requires-5 : (t : ℕ) → collect-term-lts.Need-collect-term-requires-5 (collect-term-claims t) (collect-term-at t) collect-term.Post
 collect-term-collect-term-requires-5 t c κs = let o = two-terms _ _ (term-case _ _ (c .before .before .before .before .before .before .before .before .before .before .before .pre .1) (c .before .before .before .before .before .before .before .term .ensures) (c .before .before .before .before .before .id7 .given .1)) (c .before .before .before .comp-term .ensures) in (let l = o .low in omega arith, o .first)
 
--- src/lib.rt:395:13
 collect-term-collect-term-requires-6 : (t : ℕ) → collect-term-lts.Need-collect-term-requires-6 (collect-term-claims t) (collect-term-at t) collect-term.Post
 collect-term-collect-term-requires-6 t c κs = let o = two-terms _ _ (term-case _ _ (c .before .before .before .before .before .before .before .before .before .before .before .before .before .before .before .pre .1) (c .before .before .before .before .before .before .before .before .before .before .before .term .ensures) (c .before .before .before .before .before .before .before .before .before .id7 .given .1)) (c .before .before .before .before .before .before .before .comp-term .ensures) in (let l = o .low2 in omega arith, o .second (c .before .before .before .collect-term5 .ensures .count))
 
--- src/lib.rt:357:1
 collect-term-same-length : (t : ℕ) → collect-term-lts.Need-same-length (collect-term-claims t) (collect-term-at t) collect-term.Post
 collect-term-same-length t c = search needs
 
--- src/lib.rt:357:1
 collect-term-returns : (t : ℕ) → collect-term-lts.Need-returns (collect-term-claims t) (collect-term-at t) collect-term.Post
 collect-term-returns t c = appended-as ((term-case _ _ (c .before .before .before .before .before .before .before .before .before .before .before .pre .1) (c .before .before .before .before .before .before .before .term .ensures) (c .before .before .before .before .before .id .given .1)) .whole) (c .before .before .collect-ident .ensures)
 
--- src/lib.rt:357:1
 collect-term-returns-2 : (t : ℕ) → collect-term-lts.Need-returns-2 (collect-term-claims t) (collect-term-at t) collect-term.Post
 collect-term-returns-2 t c = appended-no _ _ (term-case _ _ (c .before .before .before .before .before .before .pre .1) (c .before .before .term .ensures) (c .enum-told .given .1))
 
--- src/lib.rt:357:1
 collect-term-same-length-2 : (t : ℕ) → collect-term-lts.Need-same-length-2 (collect-term-claims t) (collect-term-at t) collect-term.Post
 collect-term-same-length-2 t c = search needs
 
--- src/lib.rt:357:1
 collect-term-returns-3 : (t : ℕ) → collect-term-lts.Need-returns-3 (collect-term-claims t) (collect-term-at t) collect-term.Post
 collect-term-returns-3 t c = appended-as ((app-term _ _ (term-case _ _ (c .before .before .before .before .before .before .before .before .before .before .before .before .before .before .before .before .before .before .pre .1) (c .before .before .before .before .before .before .before .before .before .before .before .before .before .before .term .ensures) (c .before .before .before .before .before .before .before .before .before .before .before .before .id2 .given .1)) (c .before .before .before .before .before .before .before .before .before .before .app-term .ensures)) .whole) (appended-next (c .before .before .before .before .before .before .collect-app-head .ensures) (c .before .before .collect-term-list .ensures))
 
--- src/lib.rt:357:1
 collect-term-same-length-3 : (t : ℕ) → collect-term-lts.Need-same-length-3 (collect-term-claims t) (collect-term-at t) collect-term.Post
 collect-term-same-length-3 t c = search needs
 
--- src/lib.rt:357:1
 collect-term-returns-4 : (t : ℕ) → collect-term-lts.Need-returns-4 (collect-term-claims t) (collect-term-at t) collect-term.Post
 collect-term-returns-4 t c = appended-as ((term-member _ _ (term-case _ _ (c .before .before .before .before .before .before .before .before .before .before .before .before .before .pre .1) (c .before .before .before .before .before .before .before .before .before .term .ensures) (c .before .before .before .before .before .before .before .id3 .given .1)) (c .before .before .before .before .before .term-member .ensures)) .whole) (c .before .before .collect-term .ensures)
 
--- src/lib.rt:357:1
 collect-term-same-length-4 : (t : ℕ) → collect-term-lts.Need-same-length-4 (collect-term-claims t) (collect-term-at t) collect-term.Post
 collect-term-same-length-4 t c = search needs
 
--- src/lib.rt:357:1
 collect-term-returns-5 : (t : ℕ) → collect-term-lts.Need-returns-5 (collect-term-claims t) (collect-term-at t) collect-term.Post
 collect-term-returns-5 t c = appended-as ((one-term _ _ (term-case _ _ (c .before .before .before .before .before .before .before .before .before .before .before .before .before .pre .1) (c .before .before .before .before .before .before .before .before .before .term .ensures) (c .before .before .before .before .before .before .before .id4 .given .1)) (c .before .before .before .before .before .dom-term .ensures)) .whole) (c .before .before .collect-term2 .ensures)
 
--- src/lib.rt:357:1
 collect-term-same-length-5 : (t : ℕ) → collect-term-lts.Need-same-length-5 (collect-term-claims t) (collect-term-at t) collect-term.Post
 collect-term-same-length-5 t c = search needs
 
--- src/lib.rt:357:1
 collect-term-returns-6 : (t : ℕ) → collect-term-lts.Need-returns-6 (collect-term-claims t) (collect-term-at t) collect-term.Post
 collect-term-returns-6 t c = appended-as ((one-term _ _ (term-case _ _ (c .before .before .before .before .before .before .before .before .before .before .before .before .before .pre .1) (c .before .before .before .before .before .before .before .before .before .term .ensures) (c .before .before .before .before .before .before .before .id5 .given .1)) (c .before .before .before .before .before .cod-term .ensures)) .whole) (c .before .before .collect-term3 .ensures)
 
--- src/lib.rt:357:1
 collect-term-same-length-6 : (t : ℕ) → collect-term-lts.Need-same-length-6 (collect-term-claims t) (collect-term-at t) collect-term.Post
 collect-term-same-length-6 t c = search needs
 
--- src/lib.rt:357:1
 collect-term-returns-7 : (t : ℕ) → collect-term-lts.Need-returns-7 (collect-term-claims t) (collect-term-at t) collect-term.Post
 collect-term-returns-7 t c = appended-as ((one-term _ _ (term-case _ _ (c .before .before .before .before .before .before .before .before .before .before .before .before .before .pre .1) (c .before .before .before .before .before .before .before .before .before .term .ensures) (c .before .before .before .before .before .before .before .id6 .given .1)) (c .before .before .before .before .before .id-term .ensures)) .whole) (c .before .before .collect-term4 .ensures)
 
--- src/lib.rt:357:1
 collect-term-same-length-7 : (t : ℕ) → collect-term-lts.Need-same-length-7 (collect-term-claims t) (collect-term-at t) collect-term.Post
 collect-term-same-length-7 t c = search needs
 
--- src/lib.rt:357:1
 collect-term-returns-8 : (t : ℕ) → collect-term-lts.Need-returns-8 (collect-term-claims t) (collect-term-at t) collect-term.Post
 collect-term-returns-8 t c = appended-as ((two-terms _ _ (term-case _ _ (c .before .before .before .before .before .before .before .before .before .before .before .before .before .before .before .before .before .before .pre .1) (c .before .before .before .before .before .before .before .before .before .before .before .before .before .before .term .ensures) (c .before .before .before .before .before .before .before .before .before .before .before .before .id7 .given .1)) (c .before .before .before .before .before .before .before .before .before .before .comp-term .ensures)) .whole) (appended-next (c .before .before .before .before .before .before .collect-term5 .ensures) (c .before .before .collect-term6 .ensures))
 
@@ -317,7 +264,6 @@ collect-term-list-Inv-loop image table symbols rows₀ written terms i₀ after�
 abbrev collect-term-list-μ-loop : collect-term-list-lts.MeasureT-loop
 collect-term-list-μ-loop image table symbols rows₀ written terms i₀ after₀ rows i after = terms .0 .count - i
 
--- src/lib.rt:458:30
 collect-term-list-term-list-requires : (t : ℕ) → collect-term-list-lts.Need-term-list-requires (collect-term-list-claims t)
     (collect-term-list-at t)
     collect-term-list.Post
@@ -325,7 +271,6 @@ collect-term-list-term-list-requires : (t : ℕ) → collect-term-list-lts.Need-
     collect-term-list-μ-loop
 collect-term-list-term-list-requires t c κs = search needs
 
--- src/lib.rt:461:5
 collect-term-list-loop-holds : (t : ℕ) → collect-term-list-lts.Need-loop-holds (collect-term-list-claims t)
     (collect-term-list-at t)
     collect-term-list.Post
@@ -333,7 +278,6 @@ collect-term-list-loop-holds : (t : ℕ) → collect-term-list-lts.Need-loop-hol
     collect-term-list-μ-loop
 collect-term-list-loop-holds t c = rows-start _ _ ((termList _ _ (c .before .before .before .before .before .pre .1) (c .before .term-list .ensures)) .run)
 
--- src/lib.rt:462:13
 collect-term-list-nth-term-requires : (t : ℕ) → collect-term-list-lts.Need-nth-term-requires (collect-term-list-claims t)
     (collect-term-list-at t)
     collect-term-list.Post
@@ -341,7 +285,6 @@ collect-term-list-nth-term-requires : (t : ℕ) → collect-term-list-lts.Need-n
     collect-term-list-μ-loop
 collect-term-list-nth-term-requires t c κs = let s = (termList _ _ (c .before .before .before .before .before .before .before .before .pre .1) (c .before .before .before .before .term-list .ensures)) .run .run .short in omega arith
 
--- src/lib.rt:463:9
 collect-term-list-collect-term-requires :
     (t : ℕ) → collect-term-list-lts.Need-collect-term-requires (collect-term-list-claims t)
     (collect-term-list-at t)
@@ -350,7 +293,6 @@ collect-term-list-collect-term-requires :
     collect-term-list-μ-loop
 collect-term-list-collect-term-requires t c κs = let o = term-item _ _ ((termList _ _ (c .before .before .before .before .before .before .before .before .before .before .pre .1) (c .before .before .before .before .before .before .term-list .ensures)) .run) (c .before .before .before .before .loop .inv) (c .before .before .if1 .taken) (c .before .nth-term .ensures) in (let l = o .low in let e = (termList _ _ (c .before .before .before .before .before .before .before .before .before .before .pre .1) (c .before .before .before .before .before .before .term-list .ensures)) .node in omega arith, o .ready)
 
--- src/lib.rt:464:9
 collect-term-list-add-i : (t : ℕ) → collect-term-list-lts.Need-add-i (collect-term-list-claims t)
     (collect-term-list-at t)
     collect-term-list.Post
@@ -358,7 +300,6 @@ collect-term-list-add-i : (t : ℕ) → collect-term-list-lts.Need-add-i (collec
     collect-term-list-μ-loop
 collect-term-list-add-i t c = search needs
 
--- src/lib.rt:461:5
 collect-term-list-loop-less : (t : ℕ) → collect-term-list-lts.Need-loop-less (collect-term-list-claims t)
     (collect-term-list-at t)
     collect-term-list.Post
@@ -366,7 +307,6 @@ collect-term-list-loop-less : (t : ℕ) → collect-term-list-lts.Need-loop-less
     collect-term-list-μ-loop
 collect-term-list-loop-less t c = search needs
 
--- src/lib.rt:461:5
 collect-term-list-loop-again : (t : ℕ) → collect-term-list-lts.Need-loop-again (collect-term-list-claims t)
     (collect-term-list-at t)
     collect-term-list.Post
@@ -374,7 +314,6 @@ collect-term-list-loop-again : (t : ℕ) → collect-term-list-lts.Need-loop-aga
     collect-term-list-μ-loop
 collect-term-list-loop-again t c = rows-next _ _ (c .before .before .before .before .before .before .before .loop .inv) (term-item _ _ ((termList _ _ (c .before .before .before .before .before .before .before .before .before .before .before .before .before .pre .1) (c .before .before .before .before .before .before .before .before .before .term-list .ensures)) .run) (c .before .before .before .before .before .before .before .loop .inv) (c .before .before .before .before .before .if1 .taken) (c .before .before .before .before .nth-term .ensures)) (c .before .before .collect-term .ensures) (c .before .before .collect-term .kept .1 .1 .1 .0)
 
--- src/lib.rt:447:1
 collect-term-list-same-length : (t : ℕ) → collect-term-list-lts.Need-same-length (collect-term-list-claims t)
     (collect-term-list-at t)
     collect-term-list.Post
@@ -382,7 +321,6 @@ collect-term-list-same-length : (t : ℕ) → collect-term-list-lts.Need-same-le
     collect-term-list-μ-loop
 collect-term-list-same-length t c = c .before .before .loop .inv .left .long
 
--- src/lib.rt:447:1
 collect-term-list-returns : (t : ℕ) → collect-term-list-lts.Need-returns (collect-term-list-claims t)
     (collect-term-list-at t)
     collect-term-list.Post

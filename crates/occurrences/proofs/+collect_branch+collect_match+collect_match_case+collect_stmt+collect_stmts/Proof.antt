@@ -143,43 +143,33 @@ collect-stmt-claims t = (stmt-reads.Asked, stmt-reads.Learnt, if-stmt-reads.Aske
 abbrev collect-stmts-claims : ℕ → collect-stmts-lts.Claims
 collect-stmts-claims t = (nth-stmt-reads.Asked, nth-stmt-reads.Learnt, collect-stmt-below t, collect-stmt.Post)
 
--- src/lib.rt:216:33
 collect-branch-branch-stmt-requires : (t : ℕ) → collect-branch-lts.Need-branch-stmt-requires (collect-branch-claims t) (collect-branch-at t) collect-branch.Post collect-branch-Inv-loop collect-branch-μ-loop
 collect-branch-branch-stmt-requires t c κs = search needs
 
--- src/lib.rt:220:5
 collect-branch-loop-holds : (t : ℕ) → collect-branch-lts.Need-loop-holds (collect-branch-claims t) (collect-branch-at t) collect-branch.Post collect-branch-Inv-loop collect-branch-μ-loop
 collect-branch-loop-holds t c = blocks-start _ _ (c .before .before .before .before .before .pre .1) (c .before .branch-stmt .ensures)
 
--- src/lib.rt:221:13
 collect-branch-block-requires : (t : ℕ) → collect-branch-lts.Need-block-requires (collect-branch-claims t) (collect-branch-at t) collect-branch.Post collect-branch-Inv-loop collect-branch-μ-loop
 collect-branch-block-requires t c κs = let l = blocks-place _ _ (c .before .before .loop .inv) in omega arith
 
--- src/lib.rt:222:9
 collect-branch-collect-stmts-requires : (t : ℕ) → collect-branch-lts.Need-collect-stmts-requires (collect-branch-claims t) (collect-branch-at t) collect-branch.Post collect-branch-Inv-loop collect-branch-μ-loop
 collect-branch-collect-stmts-requires t c κs = let o = blockOf _ _ (c .before .before .before .before .before .before .before .before .before .before .pre .1) (c .before .before .before .before .loop .inv) (c .before .before .if1 .taken) (c .before .block .ensures) in (let e = o .node in let f = c .before .before .before .before .before .before .branch-stmt .ensures .node in omega arith, o .run)
 
--- src/lib.rt:223:17
 collect-branch-add-place : (t : ℕ) → collect-branch-lts.Need-add-place (collect-branch-claims t) (collect-branch-at t) collect-branch.Post collect-branch-Inv-loop collect-branch-μ-loop
 collect-branch-add-place t c = let l = (blockOf _ _ (c .before .before .before .before .before .before .before .before .before .before .before .before .before .before .pre .1) (c .before .before .before .before .before .before .before .before .loop .inv) (c .before .before .before .before .before .before .if1 .taken) (c .before .before .before .before .before .block .ensures)) .run .run .short in omega arith
 
--- src/lib.rt:224:9
 collect-branch-add-i : (t : ℕ) → collect-branch-lts.Need-add-i (collect-branch-claims t) (collect-branch-at t) collect-branch.Post collect-branch-Inv-loop collect-branch-μ-loop
 collect-branch-add-i t c = search needs
 
--- src/lib.rt:220:5
 collect-branch-loop-less : (t : ℕ) → collect-branch-lts.Need-loop-less (collect-branch-claims t) (collect-branch-at t) collect-branch.Post collect-branch-Inv-loop collect-branch-μ-loop
 collect-branch-loop-less t c = search needs
 
--- src/lib.rt:220:5
 collect-branch-loop-again : (t : ℕ) → collect-branch-lts.Need-loop-again (collect-branch-claims t) (collect-branch-at t) collect-branch.Post collect-branch-Inv-loop collect-branch-μ-loop
 collect-branch-loop-again t c = (blockOf _ _ (c .before .before .before .before .before .before .before .before .before .before .before .before .before .before .pre .1) (c .before .before .before .before .before .before .before .before .loop .inv) (c .before .before .before .before .before .before .if1 .taken) (c .before .before .before .before .before .block .ensures)) .more (c .before .before .before .collect-stmts .ensures) (c .before .before .before .collect-stmts .kept .1 .1 .1 .0)
 
--- src/lib.rt:205:1
 collect-branch-same-length : (t : ℕ) → collect-branch-lts.Need-same-length (collect-branch-claims t) (collect-branch-at t) collect-branch.Post collect-branch-Inv-loop collect-branch-μ-loop
 collect-branch-same-length t c = c .before .before .loop .inv .left .long
 
--- src/lib.rt:205:1
 collect-branch-returns : (t : ℕ) → collect-branch-lts.Need-returns (collect-branch-claims t) (collect-branch-at t) collect-branch.Post collect-branch-Inv-loop collect-branch-μ-loop
 collect-branch-returns t c = blocks-end _ _ (c .before .before .before .before .branch-stmt .ensures) (c .before .before .loop .inv) (c .if1 .left)
 
@@ -189,143 +179,109 @@ collect-match-Inv-loop image table symbols rows₀ written cases after₀ i₀ r
 abbrev collect-match-μ-loop : collect-match-lts.MeasureT-loop
 collect-match-μ-loop image table symbols rows₀ written cases after₀ i₀ rows after i = cases .0 .count - i
 
--- src/lib.rt:261:37
 collect-match-match-stmt-requires : (t : ℕ) → collect-match-lts.Need-match-stmt-requires (collect-match-claims t) (collect-match-at t) collect-match.Post collect-match-Inv-loop collect-match-μ-loop
 collect-match-match-stmt-requires t c κs = search needs
 
--- src/lib.rt:262:9
 collect-match-collect-term-requires : (t : ℕ) → collect-match-lts.Need-collect-term-requires (collect-match-claims t) (collect-match-at t) collect-match.Post collect-match-Inv-loop collect-match-μ-loop
 collect-match-collect-term-requires t c κs = (matchOf _ _ (c .before .before .before .before .before .before .before .pre .1) (c .before .before .before .match-stmt .ensures)) .first
 
--- src/lib.rt:264:5
 collect-match-loop-holds : (t : ℕ) → collect-match-lts.Need-loop-holds (collect-match-claims t) (collect-match-at t) collect-match.Post collect-match-Inv-loop collect-match-μ-loop
 collect-match-loop-holds t c = rows-start _ _ ((matchOf _ _ (c .before .before .before .before .before .before .before .before .before .before .pre .1) (c .before .before .before .before .before .before .match-stmt .ensures)) .second (c .before .before .collect-term .ensures .count))
 
--- src/lib.rt:265:13
 collect-match-nth-case-requires : (t : ℕ) → collect-match-lts.Need-nth-case-requires (collect-match-claims t) (collect-match-at t) collect-match.Post collect-match-Inv-loop collect-match-μ-loop
 collect-match-nth-case-requires t c κs = let s = ((matchOf _ _ (c .before .before .before .before .before .before .before .before .before .before .before .before .before .pre .1) (c .before .before .before .before .before .before .before .before .before .match-stmt .ensures)) .second (c .before .before .before .before .before .collect-term .ensures .count)) .run .short in omega arith
 
--- src/lib.rt:266:9
 collect-match-collect-match-case-requires :
     (t : ℕ) → collect-match-lts.Need-collect-match-case-requires (collect-match-claims t) (collect-match-at t) collect-match.Post collect-match-Inv-loop collect-match-μ-loop
 collect-match-collect-match-case-requires t c κs = let o = case-item _ _ ((matchOf _ _ (c .before .before .before .before .before .before .before .before .before .before .before .before .before .before .before .pre .1) (c .before .before .before .before .before .before .before .before .before .before .before .match-stmt .ensures)) .second (c .before .before .before .before .before .before .before .collect-term .ensures .count)) (c .before .before .before .before .loop .inv) (c .before .before .if1 .taken) (c .before .nth-case .ensures) in (let l = o .low in let e = (matchOf _ _ (c .before .before .before .before .before .before .before .before .before .before .before .before .before .before .before .pre .1) (c .before .before .before .before .before .before .before .before .before .before .before .match-stmt .ensures)) .node in omega arith, o .ready)
 
--- src/lib.rt:267:9
 collect-match-add-i : (t : ℕ) → collect-match-lts.Need-add-i (collect-match-claims t) (collect-match-at t) collect-match.Post collect-match-Inv-loop collect-match-μ-loop
 collect-match-add-i t c = search needs
 
--- src/lib.rt:264:5
 collect-match-loop-less : (t : ℕ) → collect-match-lts.Need-loop-less (collect-match-claims t) (collect-match-at t) collect-match.Post collect-match-Inv-loop collect-match-μ-loop
 collect-match-loop-less t c = search needs
 
--- src/lib.rt:264:5
 collect-match-loop-again : (t : ℕ) → collect-match-lts.Need-loop-again (collect-match-claims t) (collect-match-at t) collect-match.Post collect-match-Inv-loop collect-match-μ-loop
 collect-match-loop-again t c = rows-next _ _ (c .before .before .before .before .before .before .before .loop .inv) (case-item _ _ ((matchOf _ _ (c .before .before .before .before .before .before .before .before .before .before .before .before .before .before .before .before .before .before .pre .1) (c .before .before .before .before .before .before .before .before .before .before .before .before .before .before .match-stmt .ensures)) .second (c .before .before .before .before .before .before .before .before .before .before .collect-term .ensures .count)) (c .before .before .before .before .before .before .before .loop .inv) (c .before .before .before .before .before .if1 .taken) (c .before .before .before .before .nth-case .ensures)) (c .before .before .collect-match-case .ensures) (c .before .before .collect-match-case .kept .1 .1 .1 .0)
 
--- src/lib.rt:250:1
 collect-match-same-length : (t : ℕ) → collect-match-lts.Need-same-length (collect-match-claims t) (collect-match-at t) collect-match.Post collect-match-Inv-loop collect-match-μ-loop
 collect-match-same-length t c = c .before .before .loop .inv .left .long ∙ c .before .before .before .before .before .collect-term .kept .1 .1 .1 .0
 
--- src/lib.rt:250:1
 collect-match-returns : (t : ℕ) → collect-match-lts.Need-returns (collect-match-claims t) (collect-match-at t) collect-match.Post collect-match-Inv-loop collect-match-μ-loop
 collect-match-returns t c = appended-as ((matchOf _ _ (c .before .before .before .before .before .before .before .before .before .before .before .before .before .pre .1) (c .before .before .before .before .before .before .before .before .before .match-stmt .ensures)) .whole) (appended-next (c .before .before .before .before .before .collect-term .ensures) (rows-end _ _ (c .before .before .loop .inv) (c .if1 .left)))
 
--- src/lib.rt:283:39
 collect-match-case-match-case-requires : (t : ℕ) → collect-match-case-lts.Need-match-case-requires (collect-match-case-claims t) (collect-match-case-at t) collect-match-case.Post
 collect-match-case-match-case-requires t c κs = search needs
 
--- src/lib.rt:284:9
 collect-match-case-collect-term-requires :
     (t : ℕ) → collect-match-case-lts.Need-collect-term-requires (collect-match-case-claims t) (collect-match-case-at t) collect-match-case.Post
 collect-match-case-collect-term-requires t c κs = (matchCase _ _ (c .before .before .before .before .before .before .before .pre .1) (c .before .before .before .match-case .ensures)) .first
 
--- src/lib.rt:285:5
 collect-match-case-collect-stmts-requires :
     (t : ℕ) → collect-match-case-lts.Need-collect-stmts-requires (collect-match-case-claims t) (collect-match-case-at t) collect-match-case.Post
 collect-match-case-collect-stmts-requires t c κs = let o = matchCase _ _ (c .before .before .before .before .before .before .before .before .before .before .before .pre .1) (c .before .before .before .before .before .before .before .match-case .ensures) in (let e = o .node in omega arith, o .second (c .before .before .before .collect-term .ensures .count))
 
--- src/lib.rt:272:1
 collect-match-case-same-length : (t : ℕ) → collect-match-case-lts.Need-same-length (collect-match-case-claims t) (collect-match-case-at t) collect-match-case.Post
 collect-match-case-same-length t c = search needs
 
--- src/lib.rt:272:1
 collect-match-case-returns : (t : ℕ) → collect-match-case-lts.Need-returns (collect-match-case-claims t) (collect-match-case-at t) collect-match-case.Post
 collect-match-case-returns t c = appended-as ((matchCase _ _ (c .before .before .before .before .before .before .before .before .before .before .before .before .before .before .pre .1) (c .before .before .before .before .before .before .before .before .before .before .match-case .ensures)) .whole) (appended-next (c .before .before .before .before .before .before .collect-term .ensures) (c .before .before .collect-stmts .ensures))
 
--- src/lib.rt:191:11
 collect-stmt-stmt-requires : (t : ℕ) → collect-stmt-lts.Need-stmt-requires (collect-stmt-claims t) (collect-stmt-at t) collect-stmt.Post
 collect-stmt-stmt-requires t c κs = search needs
 
--- src/lib.rt:192:18
 collect-stmt-enum-known-id : (t : ℕ) → collect-stmt-lts.Need-enum-known-id (collect-stmt-claims t) (collect-stmt-at t) collect-stmt.Post
 collect-stmt-enum-known-id t c = search needs
 
--- src/lib.rt:193:35
 collect-stmt-if-stmt-requires : (t : ℕ) → collect-stmt-lts.Need-if-stmt-requires (collect-stmt-claims t) (collect-stmt-at t) collect-stmt.Post
 collect-stmt-if-stmt-requires t c κs = search needs
 
--- src/lib.rt:194:13
 collect-stmt-collect-if-atom-requires : (t : ℕ) → collect-stmt-lts.Need-collect-if-atom-requires (collect-stmt-claims t) (collect-stmt-at t) collect-stmt.Post
 collect-stmt-collect-if-atom-requires t c κs = (if-stmt _ _ (stmt-case _ _ (c .before .before .before .before .before .before .before .before .before .before .pre .1) (c .before .before .before .before .before .before .stmt .ensures) (c .before .before .before .before .id .given .1)) (c .before .before .if-stmt .ensures)) .ready
 
--- src/lib.rt:196:20
 collect-stmt-enum-known-id-2 : (t : ℕ) → collect-stmt-lts.Need-enum-known-id-2 (collect-stmt-claims t) (collect-stmt-at t) collect-stmt.Post
 collect-stmt-enum-known-id-2 t c = search needs
 
--- src/lib.rt:197:37
 collect-stmt-then-stmt-requires : (t : ℕ) → collect-stmt-lts.Need-then-stmt-requires (collect-stmt-claims t) (collect-stmt-at t) collect-stmt.Post
 collect-stmt-then-stmt-requires t c κs = search needs
 
--- src/lib.rt:198:13
 collect-stmt-collect-then-atom-requires :
     (t : ℕ) → collect-stmt-lts.Need-collect-then-atom-requires (collect-stmt-claims t) (collect-stmt-at t) collect-stmt.Post
 collect-stmt-collect-then-atom-requires t c κs = (then-stmt _ _ (stmt-case _ _ (c .before .before .before .before .before .before .before .before .before .before .pre .1) (c .before .before .before .before .before .before .stmt .ensures) (c .before .before .before .before .id2 .given .1)) (c .before .before .then-stmt .ensures)) .ready
 
--- src/lib.rt:200:22
 collect-stmt-enum-known-id-3 : (t : ℕ) → collect-stmt-lts.Need-enum-known-id-3 (collect-stmt-claims t) (collect-stmt-at t) collect-stmt.Post
 collect-stmt-enum-known-id-3 t c = search needs
 
--- src/lib.rt:200:29
 collect-stmt-collect-branch-requires : (t : ℕ) → collect-stmt-lts.Need-collect-branch-requires (collect-stmt-claims t) (collect-stmt-at t) collect-stmt.Post
 collect-stmt-collect-branch-requires t c κs = let o = stmt-case _ _ (c .before .before .before .before .before .before .before .before .pre .1) (c .before .before .before .before .stmt .ensures) (c .before .before .id3 .given .1) in (let l = o .low in omega arith, o .ready)
 
--- src/lib.rt:201:21
 collect-stmt-enum-known-id-4 : (t : ℕ) → collect-stmt-lts.Need-enum-known-id-4 (collect-stmt-claims t) (collect-stmt-at t) collect-stmt.Post
 collect-stmt-enum-known-id-4 t c = search needs
 
--- src/lib.rt:201:28
 collect-stmt-collect-match-requires : (t : ℕ) → collect-stmt-lts.Need-collect-match-requires (collect-stmt-claims t) (collect-stmt-at t) collect-stmt.Post
 collect-stmt-collect-match-requires t c κs = let o = stmt-case _ _ (c .before .before .before .before .before .before .before .before .pre .1) (c .before .before .before .before .stmt .ensures) (c .before .before .id4 .given .1) in (let l = o .low in omega arith, o .ready)
 
--- src/lib.rt:180:1
 collect-stmt-same-length : (t : ℕ) → collect-stmt-lts.Need-same-length (collect-stmt-claims t) (collect-stmt-at t) collect-stmt.Post
 collect-stmt-same-length t c = search needs
 
--- src/lib.rt:180:1
 collect-stmt-returns : (t : ℕ) → collect-stmt-lts.Need-returns (collect-stmt-claims t) (collect-stmt-at t) collect-stmt.Post
 collect-stmt-returns t c = appended-as ((if-stmt _ _ (stmt-case _ _ (c .before .before .before .before .before .before .before .before .before .before .before .before .before .pre .1) (c .before .before .before .before .before .before .before .before .before .stmt .ensures) (c .before .before .before .before .before .before .before .id .given .1)) (c .before .before .before .before .before .if-stmt .ensures)) .whole) (c .before .before .collect-if-atom .ensures)
 
--- src/lib.rt:180:1
 collect-stmt-same-length-2 : (t : ℕ) → collect-stmt-lts.Need-same-length-2 (collect-stmt-claims t) (collect-stmt-at t) collect-stmt.Post
 collect-stmt-same-length-2 t c = search needs
 
--- src/lib.rt:180:1
 collect-stmt-returns-2 : (t : ℕ) → collect-stmt-lts.Need-returns-2 (collect-stmt-claims t) (collect-stmt-at t) collect-stmt.Post
 collect-stmt-returns-2 t c = appended-as ((then-stmt _ _ (stmt-case _ _ (c .before .before .before .before .before .before .before .before .before .before .before .before .before .pre .1) (c .before .before .before .before .before .before .before .before .before .stmt .ensures) (c .before .before .before .before .before .before .before .id2 .given .1)) (c .before .before .before .before .before .then-stmt .ensures)) .whole) (c .before .before .collect-then-atom .ensures)
 
--- src/lib.rt:180:1
 collect-stmt-same-length-3 : (t : ℕ) → collect-stmt-lts.Need-same-length-3 (collect-stmt-claims t) (collect-stmt-at t) collect-stmt.Post
 collect-stmt-same-length-3 t c = search needs
 
--- src/lib.rt:180:1
 collect-stmt-returns-3 : (t : ℕ) → collect-stmt-lts.Need-returns-3 (collect-stmt-claims t) (collect-stmt-at t) collect-stmt.Post
 collect-stmt-returns-3 t c = appended-as ((stmt-case _ _ (c .before .before .before .before .before .before .before .before .before .before .before .pre .1) (c .before .before .before .before .before .before .before .stmt .ensures) (c .before .before .before .before .before .id3 .given .1)) .whole) (c .before .before .collect-branch .ensures)
 
--- src/lib.rt:180:1
 collect-stmt-same-length-4 : (t : ℕ) → collect-stmt-lts.Need-same-length-4 (collect-stmt-claims t) (collect-stmt-at t) collect-stmt.Post
 collect-stmt-same-length-4 t c = search needs
 
--- src/lib.rt:180:1
 collect-stmt-returns-4 : (t : ℕ) → collect-stmt-lts.Need-returns-4 (collect-stmt-claims t) (collect-stmt-at t) collect-stmt.Post
 collect-stmt-returns-4 t c = appended-as ((stmt-case _ _ (c .before .before .before .before .before .before .before .before .before .before .before .pre .1) (c .before .before .before .before .before .before .before .stmt .ensures) (c .before .before .before .before .before .id4 .given .1)) .whole) (c .before .before .collect-match .ensures)
 
@@ -335,35 +291,27 @@ collect-stmts-Inv-loop image table symbols rows₀ written stmts i₀ after₀ r
 abbrev collect-stmts-μ-loop : collect-stmts-lts.MeasureT-loop
 collect-stmts-μ-loop image table symbols rows₀ written stmts i₀ after₀ rows i after = stmts .0 .count - i
 
--- src/lib.rt:242:5
 collect-stmts-loop-holds : (t : ℕ) → collect-stmts-lts.Need-loop-holds (collect-stmts-claims t) (collect-stmts-at t) collect-stmts.Post collect-stmts-Inv-loop collect-stmts-μ-loop
 collect-stmts-loop-holds t c = rows-start _ _ (c .before .before .before .pre .1)
 
--- src/lib.rt:243:13
 collect-stmts-nth-stmt-requires : (t : ℕ) → collect-stmts-lts.Need-nth-stmt-requires (collect-stmts-claims t) (collect-stmts-at t) collect-stmts.Post collect-stmts-Inv-loop collect-stmts-μ-loop
 collect-stmts-nth-stmt-requires t c κs = let s = c .before .before .before .before .before .before .pre .1 .run .short in omega arith
 
--- src/lib.rt:244:9
 collect-stmts-collect-stmt-requires : (t : ℕ) → collect-stmts-lts.Need-collect-stmt-requires (collect-stmts-claims t) (collect-stmts-at t) collect-stmts.Post collect-stmts-Inv-loop collect-stmts-μ-loop
 collect-stmts-collect-stmt-requires t c κs = let o = stmt-item _ _ (c .before .before .before .before .before .before .before .before .pre .1) (c .before .before .before .before .loop .inv) (c .before .before .if1 .taken) (c .before .nth-stmt .ensures) in (let l = o .low in omega arith, o .ready)
 
--- src/lib.rt:245:9
 collect-stmts-add-i : (t : ℕ) → collect-stmts-lts.Need-add-i (collect-stmts-claims t) (collect-stmts-at t) collect-stmts.Post collect-stmts-Inv-loop collect-stmts-μ-loop
 collect-stmts-add-i t c = search needs
 
--- src/lib.rt:242:5
 collect-stmts-loop-less : (t : ℕ) → collect-stmts-lts.Need-loop-less (collect-stmts-claims t) (collect-stmts-at t) collect-stmts.Post collect-stmts-Inv-loop collect-stmts-μ-loop
 collect-stmts-loop-less t c = search needs
 
--- src/lib.rt:242:5
 collect-stmts-loop-again : (t : ℕ) → collect-stmts-lts.Need-loop-again (collect-stmts-claims t) (collect-stmts-at t) collect-stmts.Post collect-stmts-Inv-loop collect-stmts-μ-loop
 collect-stmts-loop-again t c = rows-next _ _ (c .before .before .before .before .before .before .before .loop .inv) (stmt-item _ _ (c .before .before .before .before .before .before .before .before .before .before .before .pre .1) (c .before .before .before .before .before .before .before .loop .inv) (c .before .before .before .before .before .if1 .taken) (c .before .before .before .before .nth-stmt .ensures)) (c .before .before .collect-stmt .ensures) (c .before .before .collect-stmt .kept .1 .1 .1 .0)
 
--- src/lib.rt:229:1
 collect-stmts-same-length : (t : ℕ) → collect-stmts-lts.Need-same-length (collect-stmts-claims t) (collect-stmts-at t) collect-stmts.Post collect-stmts-Inv-loop collect-stmts-μ-loop
 collect-stmts-same-length t c = c .before .before .loop .inv .left .long
 
--- src/lib.rt:229:1
 collect-stmts-returns : (t : ℕ) → collect-stmts-lts.Need-returns (collect-stmts-claims t) (collect-stmts-at t) collect-stmts.Post collect-stmts-Inv-loop collect-stmts-μ-loop
 collect-stmts-returns t c = rows-end _ _ (c .before .before .loop .inv) (c .if1 .left)
 

@@ -60,52 +60,40 @@ collect-decl-claims t = (decl-reads.Asked, decl-reads.Learnt, rule-decl-reads.As
 abbrev collect-decls-claims : ℕ → collect-decls-lts.Claims
 collect-decls-claims t = (nth-decl-reads.Asked, nth-decl-reads.Learnt, collect-decl-below t, collect-decl.Post)
 
--- src/lib.rt:575:11
 collect-decl-decl-requires : (t : ℕ) → collect-decl-lts.Need-decl-requires (collect-decl-claims t) (collect-decl-at t) collect-decl.Post
 collect-decl-decl-requires t c κs = search needs
 
--- src/lib.rt:577:20
 collect-decl-enum-known-id : (t : ℕ) → collect-decl-lts.Need-enum-known-id (collect-decl-claims t) (collect-decl-at t) collect-decl.Post
 collect-decl-enum-known-id t c = search needs
 
--- src/lib.rt:578:46
 collect-decl-rule-decl-requires : (t : ℕ) → collect-decl-lts.Need-rule-decl-requires (collect-decl-claims t) (collect-decl-at t) collect-decl.Post
 collect-decl-rule-decl-requires t c κs = search needs
 
--- src/lib.rt:579:13
 collect-decl-collect-stmts-requires : (t : ℕ) → collect-decl-lts.Need-collect-stmts-requires (collect-decl-claims t) (collect-decl-at t) collect-decl.Post
 collect-decl-collect-stmts-requires t c κs = (ruleRun _ _ ((decl-case _ _ (c .before .before .before .before .before .before .before .before .before .before .pre .1) (c .before .before .before .before .before .before .decl .ensures) (c .before .before .before .before .id .given .1)) .listing) (c .before .before .rule-decl .ensures)) .run
 
--- src/lib.rt:581:21
 collect-decl-enum-known-id-2 : (t : ℕ) → collect-decl-lts.Need-enum-known-id-2 (collect-decl-claims t) (collect-decl-at t) collect-decl.Post
 collect-decl-enum-known-id-2 t c = search needs
 
--- src/lib.rt:582:47
 collect-decl-model-decl-requires : (t : ℕ) → collect-decl-lts.Need-model-decl-requires (collect-decl-claims t) (collect-decl-at t) collect-decl.Post
 collect-decl-model-decl-requires t c κs = search needs
 
--- src/lib.rt:583:13
 collect-decl-collect-decls-requires : (t : ℕ) → collect-decl-lts.Need-collect-decls-requires (collect-decl-claims t) (collect-decl-at t) collect-decl.Post
 collect-decl-collect-decls-requires t c κs = let d = decl-case _ _ (c .before .before .before .before .before .before .before .before .before .before .pre .1) (c .before .before .before .before .before .before .decl .ensures) (c .before .before .before .before .id2 .given .1) in let m = modelRun _ _ (d .listing) (c .before .before .model-decl .ensures) in (let l = d .low in let e = m .node in omega arith, m .run)
 
--- src/lib.rt:564:1
 collect-decl-returns : (t : ℕ) → collect-decl-lts.Need-returns (collect-decl-claims t) (collect-decl-at t) collect-decl.Post
 unfolding joined
 collect-decl-returns t c = appended-no _ _ (ap joined (decl-none _ _ (c .before .before .before .before .before .pre .1) (c .before .decl .ensures) (c .match .keys1)))
 
--- src/lib.rt:564:1
 collect-decl-same-length : (t : ℕ) → collect-decl-lts.Need-same-length (collect-decl-claims t) (collect-decl-at t) collect-decl.Post
 collect-decl-same-length t c = search needs
 
--- src/lib.rt:564:1
 collect-decl-returns-2 : (t : ℕ) → collect-decl-lts.Need-returns-2 (collect-decl-claims t) (collect-decl-at t) collect-decl.Post
 collect-decl-returns-2 t c = appended-as (ap joined ((decl-case _ _ (c .before .before .before .before .before .before .before .before .before .before .before .before .before .pre .1) (c .before .before .before .before .before .before .before .before .before .decl .ensures) (c .before .before .before .before .before .before .before .id .given .1)) .whole) ∙ (ruleRun _ _ ((decl-case _ _ (c .before .before .before .before .before .before .before .before .before .before .before .before .before .pre .1) (c .before .before .before .before .before .before .before .before .before .decl .ensures) (c .before .before .before .before .before .before .before .id .given .1)) .listing) (c .before .before .before .before .before .rule-decl .ensures)) .whole) (c .before .before .collect-stmts .ensures)
 
--- src/lib.rt:564:1
 collect-decl-same-length-2 : (t : ℕ) → collect-decl-lts.Need-same-length-2 (collect-decl-claims t) (collect-decl-at t) collect-decl.Post
 collect-decl-same-length-2 t c = search needs
 
--- src/lib.rt:564:1
 collect-decl-returns-3 : (t : ℕ) → collect-decl-lts.Need-returns-3 (collect-decl-claims t) (collect-decl-at t) collect-decl.Post
 collect-decl-returns-3 t c = appended-as (ap joined ((decl-case _ _ (c .before .before .before .before .before .before .before .before .before .before .before .before .before .pre .1) (c .before .before .before .before .before .before .before .before .before .decl .ensures) (c .before .before .before .before .before .before .before .id2 .given .1)) .whole ∙ (modelRun _ _ ((decl-case _ _ (c .before .before .before .before .before .before .before .before .before .before .before .before .before .pre .1) (c .before .before .before .before .before .before .before .before .before .decl .ensures) (c .before .before .before .before .before .before .before .id2 .given .1)) .listing) (c .before .before .before .before .before .model-decl .ensures)) .whole)) (c .before .before .collect-decls .ensures)
 
@@ -115,35 +103,27 @@ collect-decls-Inv-loop image table symbols rows₀ written decls i₀ after₀ r
 abbrev collect-decls-μ-loop : collect-decls-lts.MeasureT-loop
 collect-decls-μ-loop image table symbols rows₀ written decls i₀ after₀ rows i after = decls .0 .count - i
 
--- src/lib.rt:556:5
 collect-decls-loop-holds : (t : ℕ) → collect-decls-lts.Need-loop-holds (collect-decls-claims t) (collect-decls-at t) collect-decls.Post collect-decls-Inv-loop collect-decls-μ-loop
 collect-decls-loop-holds t c = decls-start _ _ (c .before .before .before .pre .1)
 
--- src/lib.rt:557:13
 collect-decls-nth-decl-requires : (t : ℕ) → collect-decls-lts.Need-nth-decl-requires (collect-decls-claims t) (collect-decls-at t) collect-decls.Post collect-decls-Inv-loop collect-decls-μ-loop
 collect-decls-nth-decl-requires t c κs = let s = c .before .before .before .before .before .before .pre .1 .run .short in omega arith
 
--- src/lib.rt:558:9
 collect-decls-collect-decl-requires : (t : ℕ) → collect-decls-lts.Need-collect-decl-requires (collect-decls-claims t) (collect-decls-at t) collect-decls.Post collect-decls-Inv-loop collect-decls-μ-loop
 collect-decls-collect-decl-requires t c κs = let o = decls-item _ _ (c .before .before .before .before .before .before .before .before .pre .1) (c .before .before .before .before .loop .inv) (c .before .before .if1 .taken) (c .before .nth-decl .ensures) in (let l = o .low in omega arith, o .listing)
 
--- src/lib.rt:559:9
 collect-decls-add-i : (t : ℕ) → collect-decls-lts.Need-add-i (collect-decls-claims t) (collect-decls-at t) collect-decls.Post collect-decls-Inv-loop collect-decls-μ-loop
 collect-decls-add-i t c = search needs
 
--- src/lib.rt:556:5
 collect-decls-loop-less : (t : ℕ) → collect-decls-lts.Need-loop-less (collect-decls-claims t) (collect-decls-at t) collect-decls.Post collect-decls-Inv-loop collect-decls-μ-loop
 collect-decls-loop-less t c = search needs
 
--- src/lib.rt:556:5
 collect-decls-loop-again : (t : ℕ) → collect-decls-lts.Need-loop-again (collect-decls-claims t) (collect-decls-at t) collect-decls.Post collect-decls-Inv-loop collect-decls-μ-loop
 collect-decls-loop-again t c = decls-next _ _ (c .before .before .before .before .before .before .before .loop .inv) (decls-item _ _ (c .before .before .before .before .before .before .before .before .before .before .before .pre .1) (c .before .before .before .before .before .before .before .loop .inv) (c .before .before .before .before .before .if1 .taken) (c .before .before .before .before .nth-decl .ensures)) (c .before .before .collect-decl .ensures) (c .before .before .collect-decl .kept .1 .1 .1 .0)
 
--- src/lib.rt:543:1
 collect-decls-same-length : (t : ℕ) → collect-decls-lts.Need-same-length (collect-decls-claims t) (collect-decls-at t) collect-decls.Post collect-decls-Inv-loop collect-decls-μ-loop
 collect-decls-same-length t c = c .before .before .loop .inv .left .long
 
--- src/lib.rt:543:1
 collect-decls-returns : (t : ℕ) → collect-decls-lts.Need-returns (collect-decls-claims t) (collect-decls-at t) collect-decls.Post collect-decls-Inv-loop collect-decls-μ-loop
 collect-decls-returns t c = decls-end _ _ (c .before .before .loop .inv) (c .if1 .left)
 

@@ -9,38 +9,26 @@ use Rattle.occurrences.proofs.CollectRules.{moduleRun}
 use borrow.Author.Needs.{needs}
 use Rattle.occurrences.proofs.check_module.Statement.{statement}
 use Rattle.occurrences.proofs.check_module.Tie as tie
-use Rattle.occurrences.proofs.check_module.Reads as reads
-use Rattle.occurrences.proofs.check_module.Lts as lts
-use Rattle.ast.proofs.node_count.Reads as node-count-reads
-use Rattle.occurrences.proofs.check_decls.Reads as check-decls-reads
-use Rattle.typed.proofs.module.Reads as module-reads
 
--- src/lib.rt:60:34
 node-count-requires : tie.Need-node-count-requires
 node-count-requires c κs = search needs
 
--- src/lib.rt:60:34
 sub-t9 : tie.Need-sub-t9
 sub-t9 c = let s = (sized _ (c .before .before .before .pre .0 .accepted)) .some in let e = c .node-count .ensures in omega arith
 
--- src/lib.rt:61:28
 module-requires : tie.Need-module-requires
 module-requires c κs = search needs
 
--- src/lib.rt:64:40
 slice-aggregate-check-decls : tie.Need-slice-aggregate-check-decls
 slice-aggregate-check-decls c = search needs
 
--- src/lib.rt:64:51
 slice-aggregate-check-decls-2 : tie.Need-slice-aggregate-check-decls-2
 slice-aggregate-check-decls-2 c = search needs
 
--- src/lib.rt:64:5
 check-decls-requires : tie.Need-check-decls-requires
 unfolding last
 check-decls-requires c κs = ((moduleRun _ _ (c .before .before .before .before .before .before .before .pre .0) (ap (λ (x : ℕ). x - 1) (c .before .before .before .before .node-count .ensures)) (c .before .before .before .«module» .ensures)) .run, record { symbols = c .before .before .before .before .before .before .before .pre .1; long = (let s = (sized _ (c .before .before .before .before .before .before .before .pre .0 .accepted)) .fewNodes in let e = length-replicate {A = ℕ} 4097 0 in omega arith); zeros = refl })
 
--- src/lib.rt:56:1
 returns : tie.Need-returns
 unfolding last
 returns c = c .before .before .check-decls .ensures .lone-is ∙ sym (ap lone ((moduleRun _ _ (c .before .before .before .before .before .before .before .before .before .before .pre .0) (ap (λ (x : ℕ). x - 1) (c .before .before .before .before .before .before .before .node-count .ensures)) (c .before .before .before .before .before .before .«module» .ensures)) .by-rule))

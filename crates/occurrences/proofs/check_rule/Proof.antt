@@ -3,42 +3,28 @@ use Rattle.occurrences.proofs.CollectLone.{searched}
 use borrow.Author.Needs.{needs}
 use Rattle.occurrences.proofs.check_rule.Statement.{statement}
 use Rattle.occurrences.proofs.check_rule.Tie as tie
-use Rattle.occurrences.proofs.check_rule.Reads as reads
-use Rattle.occurrences.proofs.check_rule.Lts as lts
-use Rattle.occurrences.proofs.collect_stmts.Reads as collect-stmts-reads
-use Rattle.occurrences.proofs.count_bindings.Reads as count-bindings-reads
-use Rattle.occurrences.proofs.first_lone.Reads as first-lone-reads
-use Rattle.typed.proofs.rule_decl.Reads as rule-decl-reads
 
--- src/lib.rt:127:38
 rule-decl-requires : tie.Need-rule-decl-requires
 rule-decl-requires c κs = search needs
 
--- src/lib.rt:128:9
 collect-stmts-requires : tie.Need-collect-stmts-requires
 collect-stmts-requires c κs = (ruleRun _ _ (c .before .before .before .before .before .before .before .pre .0) (c .before .before .rule-decl .ensures)) .run
 
--- src/lib.rt:129:5
 count-bindings-requires : tie.Need-count-bindings-requires
 count-bindings-requires c κs = search needs
 
--- src/lib.rt:130:9
 first-lone-requires : tie.Need-first-lone-requires
 first-lone-requires c κs = search needs
 
--- src/lib.rt:131:5
 count-bindings-requires-2 : tie.Need-count-bindings-requires-2
 count-bindings-requires-2 c κs = search needs
 
--- src/lib.rt:116:1
 same-length : tie.Need-same-length
 same-length c = search needs
 
--- src/lib.rt:116:1
 same-length-2 : tie.Need-same-length-2
 same-length-2 c = search needs
 
--- src/lib.rt:116:1
 returns : tie.Need-returns
 returns c = searched _ _ (c .before .before .before .before .before .before .before .before .before .before .before .before .before .before .before .before .before .before .before .before .before .before .before .pre .0) (c .before .before .before .before .before .before .before .before .before .before .before .before .before .before .before .before .before .before .before .before .before .before .before .pre .1) (c .before .before .before .before .before .before .before .before .before .before .before .before .before .before .before .before .before .before .rule-decl .ensures) (c .before .before .before .before .before .before .before .before .before .before .before .before .before .before .before .collect-stmts .ensures) (c .before .before .before .before .before .before .before .before .before .before .count-bindings .ensures) (c .before .before .before .before .before .first-lone .ensures) (c .before .before .count-bindings2 .ensures)
 

@@ -9,50 +9,34 @@ use Rattle.occurrences.proofs.CollectSteps.{ident-put, ident-fits}
 use borrow.Author.Needs.{needs}
 use Rattle.occurrences.proofs.collect_ident.Statement.{statement}
 use Rattle.occurrences.proofs.collect_ident.Tie as tie
-use Rattle.occurrences.proofs.collect_ident.Reads as reads
-use Rattle.occurrences.proofs.collect_ident.Lts as lts
-use Rattle.ast.proofs.node_count.Reads as node-count-reads
-use Rattle.rows.proofs.put_row.Reads as put-row-reads
-use Rattle.table.proofs.at_exit.Reads as at-exit-reads
-use Rattle.table.proofs.is_var.Reads as is-var-reads
 
--- src/lib.rt:413:9
 at-exit-requires : tie.Need-at-exit-requires
 at-exit-requires c κs = search needs
 
--- src/lib.rt:414:9
 is-var-requires : tie.Need-is-var-requires
 is-var-requires c κs = search needs
 
--- src/lib.rt:415:9
 returns : tie.Need-returns
 returns c = appended-no _ _ (ident-other _ _ _ _ _ (sym (c .before .before .at-exit .ensures)) (sym (c .before .is-var .ensures) ∙ not-true (c .before .is-var .result) (c .if1 .taken)))
 
--- src/lib.rt:418:19
 enum-known-found : tie.Need-enum-known-found
 enum-known-found c = search needs
 
--- src/lib.rt:419:17
 node-count-requires : tie.Need-node-count-requires
 node-count-requires c κs = search needs
 
--- src/lib.rt:420:13
 put-row-requires : tie.Need-put-row-requires
 put-row-requires c κs = ident-fits _ _ _ _ (sym (c .before .before .before .before .before .before .before .at-exit .ensures) ∙ ap optionOf (c .before .before .before .found .given .1)) (ap (isKind _ identTermKind) (sym (ap optionOf (c .before .before .before .found .given .1))) ∙ sym (c .before .before .before .before .before .before .is-var .ensures) ∙ not-false (c .before .before .before .before .before .before .is-var .result) (c .before .before .before .before .before .if1 .left)) (c .before .before .before .before .before .before .before .before .before .before .before .pre)
 
--- src/lib.rt:422:27
 enum-told : tie.Need-enum-told
 enum-told c = search needs
 
--- src/lib.rt:401:1
 same-length : tie.Need-same-length
 same-length c = search needs
 
--- src/lib.rt:401:1
 returns-2 : tie.Need-returns-2
 returns-2 c = ident-put _ _ _ _ (sym (c .before .before .before .before .before .before .before .before .before .before .at-exit .ensures) ∙ ap optionOf (c .before .before .before .before .before .before .found .given .1)) (ap (isKind _ identTermKind) (sym (ap optionOf (c .before .before .before .before .before .before .found .given .1))) ∙ sym (c .before .before .before .before .before .before .before .before .before .is-var .ensures) ∙ not-false (c .before .before .before .before .before .before .before .before .before .is-var .result) (c .before .before .before .before .before .before .before .before .if1 .left)) (c .before .before .before .before .node-count .ensures) (c .before .before .put-row .ensures)
 
--- src/lib.rt:401:1
 returns-3 : tie.Need-returns-3
 unfolding isKind
 returns-3 c = appended-no _ _ (ident-other _ _ _ _ _ (sym (c .before .before .before .before .at-exit .ensures)) (ap (isKind _ identTermKind) (ap optionOf (c .enum-told .given .1))))

@@ -8,34 +8,23 @@ use Rattle.occurrences.proofs.CollectSteps.{appended-as}
 use borrow.Author.Needs.{needs}
 use Rattle.occurrences.proofs.collect_module.Statement.{statement}
 use Rattle.occurrences.proofs.collect_module.Tie as tie
-use Rattle.occurrences.proofs.collect_module.Reads as reads
-use Rattle.occurrences.proofs.collect_module.Lts as lts
-use Rattle.ast.proofs.node_count.Reads as node-count-reads
-use Rattle.occurrences.proofs.collect_decls.Reads as collect-decls-reads
-use Rattle.typed.proofs.module.Reads as module-reads
 
--- src/lib.rt:538:34
 node-count-requires : tie.Need-node-count-requires
 node-count-requires c κs = search needs
 
--- src/lib.rt:538:34
 sub-t8 : tie.Need-sub-t8
 sub-t8 c = let s = (sized _ (c .before .before .before .before .pre .accepted)) .some in let e = c .node-count .ensures in omega arith
 
--- src/lib.rt:539:28
 module-requires : tie.Need-module-requires
 module-requires c κs = search needs
 
--- src/lib.rt:540:5
 collect-decls-requires : tie.Need-collect-decls-requires
 unfolding last
 collect-decls-requires c κs = (moduleRun _ _ (c .before .before .before .before .before .before .before .pre) (ap (λ (x : ℕ). x - 1) (c .before .before .before .node-count .ensures)) (c .before .before .«module» .ensures)) .run
 
--- src/lib.rt:534:1
 same-length : tie.Need-same-length
 same-length c = search needs
 
--- src/lib.rt:534:1
 returns : tie.Need-returns
 unfolding last
 returns c = appended-as ((moduleRun _ _ (c .before .before .before .before .before .before .before .before .before .before .pre) (ap (λ (x : ℕ). x - 1) (c .before .before .before .before .before .before .node-count .ensures)) (c .before .before .before .before .before .«module» .ensures)) .whole) (c .before .before .collect-decls .ensures)

@@ -4,109 +4,76 @@ use Rattle.occurrences.proofs.CollectCases.{then-case}
 use borrow.Author.Needs.{needs}
 use Rattle.occurrences.proofs.collect_then_atom.Statement.{statement}
 use Rattle.occurrences.proofs.collect_then_atom.Tie as tie
-use Rattle.occurrences.proofs.collect_then_atom.Reads as reads
-use Rattle.occurrences.proofs.collect_then_atom.Lts as lts
-use Rattle.occurrences.proofs.collect_pred_expr.Reads as collect-pred-expr-reads
-use Rattle.occurrences.proofs.collect_term.Reads as collect-term-reads
-use Rattle.occurrences.proofs.collect_term_list.Reads as collect-term-list-reads
-use Rattle.typed.proofs.defined_then_atom.Reads as defined-then-atom-reads
-use Rattle.typed.proofs.equal_atom.Reads as equal-atom-reads
-use Rattle.typed.proofs.pred_atom.Reads as pred-atom-reads
-use Rattle.typed.proofs.then_atom.Reads as then-atom-reads
 
--- src/lib.rt:333:11
 then-atom-requires : tie.Need-then-atom-requires
 then-atom-requires c κs = search needs
 
--- src/lib.rt:334:25
 enum-known-id : tie.Need-enum-known-id
 enum-known-id c = search needs
 
--- src/lib.rt:335:42
 equal-atom-requires : tie.Need-equal-atom-requires
 equal-atom-requires c κs = search needs
 
--- src/lib.rt:336:17
 collect-term-requires : tie.Need-collect-term-requires
 collect-term-requires c κs = (two-terms _ _ (then-case _ _ (c .before .before .before .before .before .before .before .before .before .before .before .pre) (c .before .before .before .before .before .before .before .then-atom .ensures) (c .before .before .before .before .before .id .given .1)) (c .before .before .before .equal-atom .ensures)) .first
 
--- src/lib.rt:337:13
 collect-term-requires-2 : tie.Need-collect-term-requires-2
 collect-term-requires-2 c κs = (two-terms _ _ (then-case _ _ (c .before .before .before .before .before .before .before .before .before .before .before .before .before .before .before .pre) (c .before .before .before .before .before .before .before .before .before .before .before .then-atom .ensures) (c .before .before .before .before .before .before .before .before .before .id .given .1)) (c .before .before .before .before .before .before .before .equal-atom .ensures)) .second (c .before .before .before .collect-term .ensures .count)
 
--- src/lib.rt:339:27
 enum-known-id-2 : tie.Need-enum-known-id-2
 enum-known-id-2 c = search needs
 
--- src/lib.rt:340:49
 defined-then-atom-requires : tie.Need-defined-then-atom-requires
 defined-then-atom-requires c κs = search needs
 
--- src/lib.rt:342:34
 enum-known-var : tie.Need-enum-known-var
 enum-known-var c = search needs
 
--- src/lib.rt:343:25
 collect-term-requires-3 : tie.Need-collect-term-requires-3
 collect-term-requires-3 c κs = (defined-var _ _ (then-case _ _ (c .before .before .before .before .before .before .before .before .before .before .before .before .before .pre) (c .before .before .before .before .before .before .before .before .before .then-atom .ensures) (c .before .before .before .before .before .before .before .id2 .given .1)) (c .before .before .before .before .before .defined-then-atom .ensures) (c .before .before .var .given .1)) .first
 
--- src/lib.rt:344:21
 collect-term-requires-4 : tie.Need-collect-term-requires-4
 collect-term-requires-4 c κs = (defined-var _ _ (then-case _ _ (c .before .before .before .before .before .before .before .before .before .before .before .before .before .before .before .before .before .pre) (c .before .before .before .before .before .before .before .before .before .before .before .before .before .then-atom .ensures) (c .before .before .before .before .before .before .before .before .before .before .before .id2 .given .1)) (c .before .before .before .before .before .before .before .before .before .defined-then-atom .ensures) (c .before .before .before .before .before .before .var .given .1)) .second (c .before .before .before .collect-term3 .ensures .count)
 
--- src/lib.rt:346:74
 enum-told : tie.Need-enum-told
 enum-told c = search needs
 
--- src/lib.rt:346:38
 collect-term-requires-5 : tie.Need-collect-term-requires-5
 collect-term-requires-5 c κs = (defined-bare _ _ (then-case _ _ (c .before .before .before .before .before .before .before .before .before .before .before .before .pre) (c .before .before .before .before .before .before .before .before .then-atom .ensures) (c .before .before .before .before .before .before .id2 .given .1)) (c .before .before .before .before .defined-then-atom .ensures) (c .before .enum-told .given .1)) .ready
 
--- src/lib.rt:349:24
 enum-known-id-3 : tie.Need-enum-known-id-3
 enum-known-id-3 c = search needs
 
--- src/lib.rt:350:43
 pred-atom-requires : tie.Need-pred-atom-requires
 pred-atom-requires c κs = search needs
 
--- src/lib.rt:351:17
 collect-pred-expr-requires : tie.Need-collect-pred-expr-requires
 collect-pred-expr-requires c κs = (pred-atom _ _ (then-case _ _ (c .before .before .before .before .before .before .before .before .before .before .before .pre) (c .before .before .before .before .before .before .before .then-atom .ensures) (c .before .before .before .before .before .id3 .given .1)) (c .before .before .before .pred-atom .ensures)) .first
 
--- src/lib.rt:352:13
 collect-term-list-requires : tie.Need-collect-term-list-requires
 collect-term-list-requires c κs = (pred-atom _ _ (then-case _ _ (c .before .before .before .before .before .before .before .before .before .before .before .before .before .before .before .pre) (c .before .before .before .before .before .before .before .before .before .before .before .then-atom .ensures) (c .before .before .before .before .before .before .before .before .before .id3 .given .1)) (c .before .before .before .before .before .before .before .pred-atom .ensures)) .second (c .before .before .before .collect-pred-expr .ensures .count)
 
--- src/lib.rt:322:1
 same-length : tie.Need-same-length
 same-length c = search needs
 
--- src/lib.rt:322:1
 returns : tie.Need-returns
 returns c = appended-as ((two-terms _ _ (then-case _ _ (c .before .before .before .before .before .before .before .before .before .before .before .before .before .before .before .before .before .before .pre) (c .before .before .before .before .before .before .before .before .before .before .before .before .before .before .then-atom .ensures) (c .before .before .before .before .before .before .before .before .before .before .before .before .id .given .1)) (c .before .before .before .before .before .before .before .before .before .before .equal-atom .ensures)) .whole) (appended-next (c .before .before .before .before .before .before .collect-term .ensures) (c .before .before .collect-term2 .ensures))
 
--- src/lib.rt:322:1
 same-length-2 : tie.Need-same-length-2
 same-length-2 c = search needs
 
--- src/lib.rt:322:1
 returns-2 : tie.Need-returns-2
 returns-2 c = appended-as ((defined-var _ _ (then-case _ _ (c .before .before .before .before .before .before .before .before .before .before .before .before .before .before .before .before .before .before .before .before .pre) (c .before .before .before .before .before .before .before .before .before .before .before .before .before .before .before .before .then-atom .ensures) (c .before .before .before .before .before .before .before .before .before .before .before .before .before .before .id2 .given .1)) (c .before .before .before .before .before .before .before .before .before .before .before .before .defined-then-atom .ensures) (c .before .before .before .before .before .before .before .before .before .var .given .1)) .whole) (appended-next (c .before .before .before .before .before .before .collect-term3 .ensures) (c .before .before .collect-term4 .ensures))
 
--- src/lib.rt:322:1
 same-length-3 : tie.Need-same-length-3
 same-length-3 c = search needs
 
--- src/lib.rt:322:1
 returns-3 : tie.Need-returns-3
 returns-3 c = appended-as ((defined-bare _ _ (then-case _ _ (c .before .before .before .before .before .before .before .before .before .before .before .before .before .before .before .pre) (c .before .before .before .before .before .before .before .before .before .before .before .then-atom .ensures) (c .before .before .before .before .before .before .before .before .before .id2 .given .1)) (c .before .before .before .before .before .before .before .defined-then-atom .ensures) (c .before .before .before .before .enum-told .given .1)) .whole) (c .before .before .collect-term5 .ensures)
 
--- src/lib.rt:322:1
 same-length-4 : tie.Need-same-length-4
 same-length-4 c = search needs
 
--- src/lib.rt:322:1
 returns-4 : tie.Need-returns-4
 returns-4 c = appended-as ((pred-atom _ _ (then-case _ _ (c .before .before .before .before .before .before .before .before .before .before .before .before .before .before .before .before .before .before .pre) (c .before .before .before .before .before .before .before .before .before .before .before .before .before .before .then-atom .ensures) (c .before .before .before .before .before .before .before .before .before .before .before .before .id3 .given .1)) (c .before .before .before .before .before .before .before .before .before .before .pred-atom .ensures)) .whole) (appended-next (c .before .before .before .before .before .before .collect-pred-expr .ensures) (c .before .before .collect-term-list .ensures))
 

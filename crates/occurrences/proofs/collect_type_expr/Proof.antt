@@ -4,37 +4,25 @@ use Rattle.occurrences.proofs.CollectCases.{type-case, type-none}
 use borrow.Author.Needs.{needs}
 use Rattle.occurrences.proofs.collect_type_expr.Statement.{statement}
 use Rattle.occurrences.proofs.collect_type_expr.Tie as tie
-use Rattle.occurrences.proofs.collect_type_expr.Reads as reads
-use Rattle.occurrences.proofs.collect_type_expr.Lts as lts
-use Rattle.occurrences.proofs.collect_term.Reads as collect-term-reads
-use Rattle.typed.proofs.term_member.Reads as term-member-reads
-use Rattle.typed.proofs.type_expr.Reads as type-expr-reads
 
--- src/lib.rt:480:11
 type-expr-requires : tie.Need-type-expr-requires
 type-expr-requires c κs = search needs
 
--- src/lib.rt:482:26
 enum-known-id : tie.Need-enum-known-id
 enum-known-id c = search needs
 
--- src/lib.rt:483:48
 term-member-requires : tie.Need-term-member-requires
 term-member-requires c κs = search needs
 
--- src/lib.rt:484:13
 collect-term-requires : tie.Need-collect-term-requires
 collect-term-requires c κs = (term-member _ _ (type-case _ _ (c .before .before .before .before .before .before .before .before .before .before .pre) (c .before .before .before .before .before .before .type-expr .ensures) (c .before .before .before .before .id .given .1)) (c .before .before .term-member .ensures)) .ready
 
--- src/lib.rt:469:1
 returns : tie.Need-returns
 returns c = appended-no _ _ (type-none _ _ (c .before .before .before .before .before .pre) (c .before .type-expr .ensures) (c .match .keys1))
 
--- src/lib.rt:469:1
 same-length : tie.Need-same-length
 same-length c = search needs
 
--- src/lib.rt:469:1
 returns-2 : tie.Need-returns-2
 returns-2 c = appended-as ((term-member _ _ (type-case _ _ (c .before .before .before .before .before .before .before .before .before .before .before .before .before .pre) (c .before .before .before .before .before .before .before .before .before .type-expr .ensures) (c .before .before .before .before .before .before .before .id .given .1)) (c .before .before .before .before .before .term-member .ensures)) .whole) (c .before .before .collect-term .ensures)
 

@@ -5,12 +5,6 @@ use Rattle.occurrences.specs.Promises.{recounted}
 use Rattle.occurrences.proofs.CollectLone.{Counted, counted-start, counted-next, counted-end}
 use Rattle.occurrences.proofs.count_bindings.Statement.{statement}
 use Rattle.occurrences.proofs.count_bindings.Tie as tie
-use Rattle.occurrences.proofs.count_bindings.Reads as reads
-use Rattle.occurrences.proofs.count_bindings.Lts as lts
-use Rattle.ast.proofs.node_count.Reads as node-count-reads
-use Rattle.ast.proofs.wide.Reads as wide-reads
-use Rattle.occurrences.proofs.count_binding.Reads as count-binding-reads
-use Rattle.rows.proofs.right_at.Reads as right-at-reads
 use borrow.Author.Needs.{needs}
 
 abbrev Inv-loop : tie.InvT-loop
@@ -19,43 +13,33 @@ Inv-loop image rows written counts₀ up n i₀ counts i = Counted n rows writte
 abbrev μ-loop : tie.MeasureT-loop
 μ-loop image rows written counts₀ up n i₀ counts i = written - i
 
--- src/lib.rt:139:9
 node-count-requires : tie.Need-node-count-requires Inv-loop μ-loop
 node-count-requires c κs = search needs
 
--- src/lib.rt:141:5
 loop-holds : tie.Need-loop-holds Inv-loop μ-loop
 loop-holds c = counted-start _ _ _ _ _
 
--- src/lib.rt:142:13
 right-at-requires : tie.Need-right-at-requires Inv-loop μ-loop
 right-at-requires c κs = search needs
 
--- src/lib.rt:143:31
 wide-requires : tie.Need-wide-requires Inv-loop μ-loop
 wide-requires c κs = search needs
 
--- src/lib.rt:143:9
 count-binding-requires : tie.Need-count-binding-requires Inv-loop μ-loop
 count-binding-requires c κs = search needs
 
--- src/lib.rt:144:9
 add-i : tie.Need-add-i Inv-loop μ-loop
 add-i c = search needs
 
--- src/lib.rt:141:5
 loop-less : tie.Need-loop-less Inv-loop μ-loop
 loop-less c = search needs
 
--- src/lib.rt:141:5
 loop-again : tie.Need-loop-again Inv-loop μ-loop
 loop-again c = counted-next _ _ _ _ (c .before .before .before .before .before .before .before .loop .inv) (c .before .before .before .before .before .before .loop-test .taken) (c .before .before .before .wide .ensures ∙ c .before .before .before .before .before .right-at .ensures) (c .before .before .count-binding .ensures)
 
--- src/lib.rt:136:1
 same-length : tie.Need-same-length Inv-loop μ-loop
 same-length c = c .before .loop .inv .long
 
--- src/lib.rt:136:1
 returns : tie.Need-returns Inv-loop μ-loop
 returns c = counted-end _ _ _ _ (c .before .loop .inv) (c .loop-test .left) ∙ ap (λ (m : ℕ). recounted (c .before .before .before .before .before .before .args .up) (rights (readRows m (c .before .before .before .before .before .before .args .rows .now) (c .before .before .before .before .before .before .args .written) 0)) (c .before .before .before .before .before .before .args .counts .now)) (c .before .before .node-count .ensures)
 

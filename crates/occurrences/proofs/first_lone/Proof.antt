@@ -1,18 +1,11 @@
-use mathlib.Core.Path.{_≡_, sym, ap, subst, _∙_}
+use mathlib.Core.Path.{ap, _∙_}
 use Prim.Native.Nat.{ℕ, _-_}
 use lib.ListN.{getD}
 use Rattle.rows.specs.Rows.{readRows}
-use Rattle.occurrences.specs.Promises.{loneOf, under}
+use Rattle.occurrences.specs.Promises.{under}
 use Rattle.occurrences.proofs.CollectLone.{Under, under-start, under-next, under-here, under-end}
 use Rattle.occurrences.proofs.first_lone.Statement.{statement}
 use Rattle.occurrences.proofs.first_lone.Tie as tie
-use Rattle.occurrences.proofs.first_lone.Reads as reads
-use Rattle.occurrences.proofs.first_lone.Lts as lts
-use Rattle.ast.proofs.node_count.Reads as node-count-reads
-use Rattle.ast.proofs.wide.Reads as wide-reads
-use Rattle.rows.proofs.left_at.Reads as left-at-reads
-use Rattle.rows.proofs.right_at.Reads as right-at-reads
-use Rattle.table.proofs.get.Reads as get-reads
 use borrow.Author.Needs.{needs}
 
 abbrev Inv-loop : tie.InvT-loop
@@ -21,47 +14,36 @@ Inv-loop image rows written counts n i₀ i = Under n rows written counts i
 abbrev μ-loop : tie.MeasureT-loop
 μ-loop image rows written counts n i₀ i = written - i
 
--- src/lib.rt:167:9
 node-count-requires : tie.Need-node-count-requires Inv-loop μ-loop
 node-count-requires c κs = search needs
 
--- src/lib.rt:169:5
 loop-holds : tie.Need-loop-holds Inv-loop μ-loop
 loop-holds c = under-start _ _ _ _
 
--- src/lib.rt:170:13
 right-at-requires : tie.Need-right-at-requires Inv-loop μ-loop
 right-at-requires c κs = search needs
 
--- src/lib.rt:171:31
 wide-requires : tie.Need-wide-requires Inv-loop μ-loop
 wide-requires c κs = search needs
 
--- src/lib.rt:171:12
 get-requires : tie.Need-get-requires Inv-loop μ-loop
 get-requires c κs = search needs
 
--- src/lib.rt:172:17
 left-at-requires : tie.Need-left-at-requires Inv-loop μ-loop
 left-at-requires c κs = search needs
 
--- src/lib.rt:173:13
 returns : tie.Need-returns Inv-loop μ-loop
 returns c = under-here _ _ _ _ (c .before .before .before .before .before .before .loop .inv) (c .before .before .before .before .before .loop-test .taken) (c .left-at .ensures) (c .before .before .before .before .right-at .ensures) (c .before .before .get .ensures ∙ ap (λ (k : ℕ). getD (c .before .before .before .before .before .before .before .before .before .before .before .args .counts .now) k 0) (c .before .before .before .wide .ensures)) (c .before .if1 .taken) ∙ ap (λ (m : ℕ). under (c .before .before .before .before .before .before .before .before .before .before .before .args .counts .now) (readRows m (c .before .before .before .before .before .before .before .before .before .before .before .args .rows .now) (c .before .before .before .before .before .before .before .before .before .before .before .args .written) 0)) (c .before .before .before .before .before .before .before .node-count .ensures)
 
--- src/lib.rt:175:9
 add-i : tie.Need-add-i Inv-loop μ-loop
 add-i c = search needs
 
--- src/lib.rt:169:5
 loop-less : tie.Need-loop-less Inv-loop μ-loop
 loop-less c = search needs
 
--- src/lib.rt:169:5
 loop-again : tie.Need-loop-again Inv-loop μ-loop
 loop-again c = under-next _ _ _ _ (c .before .before .before .before .before .loop .inv) (c .before .before .before .before .loop-test .taken) (c .before .before .before .right-at .ensures) (c .before .get .ensures ∙ ap (λ (k : ℕ). getD (c .before .before .before .before .before .before .before .before .before .before .args .counts .now) k 0) (c .before .before .wide .ensures)) (c .if1 .left)
 
--- src/lib.rt:164:1
 returns-2 : tie.Need-returns-2 Inv-loop μ-loop
 returns-2 c = under-end _ _ _ _ (c .before .loop .inv) (c .loop-test .left) ∙ ap (λ (m : ℕ). under (c .before .before .before .before .before .before .args .counts .now) (readRows m (c .before .before .before .before .before .before .args .rows .now) (c .before .before .before .before .before .before .args .written) 0)) (c .before .before .node-count .ensures)
 
