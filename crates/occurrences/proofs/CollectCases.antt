@@ -6,7 +6,7 @@ use denote.Enum.Declared.{tagOf}
 use types.Run.{OneOf, miss}
 use Rattle.ast.specs.Is.{kindBy, oneTerm, twoTerms}
 use Rattle.ast.specs.Kinds.{inner, plain, term, head, name, kindOf}
-use Rattle.ast.specs.Named.{appHeadKind, appHeadMemberKind, appTermKind, branchStmtKind, definedThenAtomKind, ifAtomKind, ifStmtKind, matchStmtKind, predAtomKind, predExprKind, stmtKind, termKind, termMemberKind, thenAtomKind, thenStmtKind, typeExprKind, varIfAtomKind}
+use Rattle.ast.specs.Named.{ambientPredExprKind, ambientTypeExprKind, appHeadKind, appHeadMemberKind, appTermKind, branchStmtKind, definedIfAtomKind, definedThenAtomKind, equalAtomKind, ifAtomKind, ifStmtKind, matchStmtKind, morTypeExprKind, predAtomKind, predExprKind, stmtKind, termKind, termMemberKind, thenAtomKind, thenStmtKind, typeExprKind, varIfAtomKind}
 use Rattle.ast.specs.Tree.{ordered}
 use Rattle.ast.proofs.Shapes.{termKinds, headKinds}
 use Rattle.typed.specs.Nodes.{termAt, appHeadAt, typeExprAt, predExprAt, ifAtomAt, thenAtomAt, stmtAt}
@@ -79,19 +79,19 @@ module _ (img : List ℕ) (t : Table) (n c : ℕ) where
 
 -- the kinds of the children of a type expression's cases, of a predicate expression's, of atoms' and of a statement's
 abbrev typeKinds : List ℕ
-typeKinds = 24 ∷ 17 ∷ 25 ∷ []
+typeKinds = ambientTypeExprKind ∷ termMemberKind ∷ morTypeExprKind ∷ []
 
 abbrev predKinds : List ℕ
-predKinds = 27 ∷ 17 ∷ []
+predKinds = ambientPredExprKind ∷ termMemberKind ∷ []
 
 abbrev ifKinds : List ℕ
-ifKinds = 30 ∷ 32 ∷ 31 ∷ 33 ∷ []
+ifKinds = equalAtomKind ∷ definedIfAtomKind ∷ predAtomKind ∷ varIfAtomKind ∷ []
 
 abbrev thenKinds : List ℕ
-thenKinds = 30 ∷ 34 ∷ 31 ∷ []
+thenKinds = equalAtomKind ∷ definedThenAtomKind ∷ predAtomKind ∷ []
 
 abbrev stmtKinds : List ℕ
-stmtKinds = 37 ∷ 38 ∷ 39 ∷ 40 ∷ []
+stmtKinds = ifStmtKind ∷ thenStmtKind ∷ branchStmtKind ∷ matchStmtKind ∷ []
 
 -- the case s of the answer o
 module _ (img : List ℕ) (t : Table) where

@@ -10,7 +10,7 @@ use lib.Dec.{eqb, leb}
 use lib.ListN.{length, length-append, getD, set, replicate, length-set, length-replicate, getD-replicate}
 use lib.Seq.{getD-set-same, getD-set-other, ext-getD}
 use borrow.Author.Tests.{eqb-true, eqb-false, le-leb, lt-leb}
-use Rattle.ast.specs.Image.{nodes, kindAt, field}
+use Rattle.ast.specs.Image.{nodes, field}
 use Rattle.ast.specs.Kinds.{kindOf}
 use Rattle.ast.specs.Items.{items}
 use Rattle.ast.specs.Named.{ruleDeclKind}
@@ -23,7 +23,7 @@ use Rattle.ast.proofs.Runs.{sat, claimed-times}
 use Rattle.ast.proofs.Unfold.{All, nil, cons, All-map}
 use Rattle.typed.specs.RowShapes.{WordList}
 use Rattle.typed.specs.declared.nodes.NodeList.{NodeList}
-use Rattle.table.specs.Table.{Table}
+use Rattle.table.specs.Table.{Table, isVar}
 use Rattle.rows.specs.Rows.{Row, row, rights, Appended, readRows}
 use Rattle.rows.proofs.Reading.{read-appended, read-more, read-end, read-all}
 use Rattle.occurrences.specs.Spots.{Spot, spotsSeq}
@@ -113,7 +113,7 @@ module _ (img : List ℕ) (t : Table) (symbols : Nodes img t) where
   listed-low : (n : ℕ) (o : Option ℕ) (l : List Row) → ((m : ℕ) → o ≡ some m → m < nodes img) → All (λ v. v < nodes img) (rights l) → All (λ v. v < nodes img) (rights (listed img t n o l))
   unfolding listed rights
   listed-low n nothing l h a = a
-  listed-low n (some i) l h a = go (eqb (kindAt img i) 13)
+  listed-low n (some i) l h a = go (isVar img (some i))
     where
       go : (b : Bool) → All (λ v. v < nodes img) (rights (elim b as (λ _. List Row) [ true ↦ row n i ∷ l | false ↦ l ]))
       go true = cons (h i refl) a

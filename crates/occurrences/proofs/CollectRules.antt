@@ -15,7 +15,7 @@ use Rattle.ast.specs.Kinds.{outer, inner, root, decl, signature, rule, enum, mo
 use Rattle.ast.specs.Tree.{Tree, node, block, Trees, none, _◂_, ordered, treeAt}
 use Rattle.ast.specs.Items.{items, below}
 use Rattle.ast.specs.Is.{Is, kindBy}
-use Rattle.ast.specs.Named.{ctorDeclKind, declKind, enumDeclKind, modelDeclKind, ruleDeclKind, stmtKind}
+use Rattle.ast.specs.Named.{constDeclKind, ctorDeclKind, declKind, enumDeclKind, funcDeclKind, modelDeclKind, predDeclKind, ruleDeclKind, stmtKind, typeDeclKind}
 use Rattle.ast.specs.Tests.{verdict}
 use Rattle.ast.proofs.Row.{append, append-none, Child, Items, FormedFields, allKids, next, ends, nodeOf}
 use Rattle.ast.proofs.Shapes.{tree-of, row, child-is, case-kids, case-one, case-child, run-item, run-list, run-tail}
@@ -75,7 +75,7 @@ module _ (img : List ℕ) (t : Table) where
 
 -- the declarations ---------------------------------------------------------------------------------------------------------
 abbrev declKinds : List ℕ
-declKinds = 2 ∷ 3 ∷ 4 ∷ 5 ∷ 6 ∷ 7 ∷ 8 ∷ []
+declKinds = typeDeclKind ∷ predDeclKind ∷ funcDeclKind ∷ constDeclKind ∷ ruleDeclKind ∷ enumDeclKind ∷ modelDeclKind ∷ []
 
 abbrev unmeant : ℕ → Option ℕ
 unmeant x = nothing

@@ -275,17 +275,17 @@ module _ (img : List ℕ) (t : Table) where
   termList p q = listRun p q
 
   -- a term, then a list: a match case and a match
-  pub record TermList (k n a : ℕ) (l : NodeList) (c : ℕ) : Type 0 where
+  pub record ThenList (k n a : ℕ) (l : NodeList) (c : ℕ) : Type 0 where
     pub node : l .node .0 ≡ n
     pub first : Ready img t (kindOf termKind) a c
     pub second : {r : ℕ} → r ≡ c + length (rowsIn img t a) → ReadyAll img t k l r
     pub whole : rowsIn img t n ≡ rowsIn img t a ++ rowsOf img t l
 
-  termThenList : (cl : Class) {k n a c : ℕ} {l : NodeList} → threads cl ≡ true → ((ts : Trees) → ordered cl ts ≡ ts) → Ready img t (kindBy cl (child termKind ∷ list k ∷ [])) n c
-      → WordList img n a l → TermList k n a l c
+  thenList : (cl : Class) {k n a c : ℕ} {l : NodeList} → threads cl ≡ true → ((ts : Trees) → ordered cl ts ≡ ts) → Ready img t (kindBy cl (child termKind ∷ list k ∷ [])) n c
+      → WordList img n a l → ThenList k n a l c
   unfolding FormedFields next kindOf bare
-  termThenList cl {k} {n} {a} {c} {l} u straight p q =
-      subst (λ (x : ℕ). TermList k n x l c) (sym (q .first))
+  thenList cl {k} {n} {a} {c} {l} u straight p q =
+      subst (λ (x : ℕ). ThenList k n x l c) (sym (q .first))
       (record {
         node = q .list .node;
         first = record { is = is; room = room-first _ _ room };
@@ -305,13 +305,13 @@ module _ (img : List ℕ) (t : Table) where
       room : Room img t (rowsIn img t (field img n 0) ++ rowsAt img t n (field img n 1) 2) c
       room = room-as w (p .room)
 
-  pub matchCase : {n a c : ℕ} {l : NodeList} → Ready img t (kindOf matchCaseKind) n c → WordList img n a l → TermList stmtKind n a l c
+  pub matchCase : {n a c : ℕ} {l : NodeList} → Ready img t (kindOf matchCaseKind) n c → WordList img n a l → ThenList stmtKind n a l c
   unfolding kindOf threads ordered
-  matchCase p q = termThenList (inner case) refl (λ ts. refl) p q
+  matchCase p q = thenList (inner case) refl (λ ts. refl) p q
 
-  pub matchOf : {n a c : ℕ} {l : NodeList} → Ready img t (kindOf matchStmtKind) n c → WordList img n a l → TermList matchCaseKind n a l c
+  pub matchOf : {n a c : ℕ} {l : NodeList} → Ready img t (kindOf matchStmtKind) n c → WordList img n a l → ThenList matchCaseKind n a l c
   unfolding kindOf threads ordered
-  matchOf p q = termThenList (inner plain) refl (λ ts. refl) p q
+  matchOf p q = thenList (inner plain) refl (λ ts. refl) p q
 
   -- a loop over the blocks of a branch: after i of them it stands at place j
   pub record BlocksLeft (l : NodeList) (i j c : ℕ) (ws : List ℕ) (d : ℕ) (us : List ℕ) : Type 0 where
