@@ -9,7 +9,6 @@ use lib.ListN.{length, getD, drop}
 use Rattle.ast.specs.Answer.{Answer, refused, twice, result, other}
 use Rattle.ast.specs.Image.{nodes}
 use Rattle.ast.specs.Tests.{verdict}
-use Rattle.ast.proofs.Accepted.{both}
 use Rattle.rows.specs.Rows.{Row, rowsLength}
 use Rattle.table.specs.Layout.{tableLength}
 use Rattle.table.specs.State.{Walked}
@@ -22,6 +21,7 @@ use Rattle.scopes.proofs.Resolving.{past-kept, long-kept, table-accepted, walke
 use Rattle.sight.specs.Listing.{tableIn}
 use Rattle.bindings.specs.Errors.{errorRows, testErrors, errors}
 use Rattle.bindings.proofs.Bound.{rows-few}
+use Rattle.bindings.proofs.Calls.{errors-rows}
 use Rattle.occurrences.specs.Occurrences.{occurrenceRows, occurrences, loneAnswer, lone, rowsByRule, once}
 use Rattle.occurrences.proofs.Few as list
 use Rattle.ast.specs.Rules.{moduleRules}
@@ -111,10 +111,6 @@ unfolding loneAnswer
 lone-fills none = tt
 lone-fills (some w) = tt
 
-errors-tested : (img tab rows : List ℕ) (mode : ℕ) → testErrors img tab rows mode ≡ 0 → testRows img tab rows ≡ 0
-unfolding testErrors
-errors-tested img tab rows mode e = (both _ _ e) .0
-
 -- the four calls -----------------------------------------------------------------------------------------------------------
 module _ (img tab : List ℕ) where
   pub resolve-left : TableLeft img tab ((resolve img tab) .answer) ((resolve img tab) .table)
@@ -137,8 +133,8 @@ module _ (img tab : List ℕ) where
     module _ (mode : ℕ) where
       pub errors-table-left : TableLeft img tab ((errors img tab rows mode) .answer) ((errors img tab rows mode) .table)
       unfolding errors
-      errors-table-left = rows-table-left img tab rows (errors-tested img tab rows mode) (λ t. errorRows img t mode) (λ a t. rows-few img a t mode)
+      errors-table-left = rows-table-left img tab rows (errors-rows img tab rows mode) (λ t. errorRows img t mode) (λ a t. rows-few img a t mode)
 
       pub errors-rows-left : RowsLeft img rows ((errors img tab rows mode) .answer) ((errors img tab rows mode) .rows)
       unfolding errors
-      errors-rows-left = rows-left img tab rows (errors-tested img tab rows mode) (λ t. errorRows img t mode) (λ a t. rows-few img a t mode)
+      errors-rows-left = rows-left img tab rows (errors-rows img tab rows mode) (λ t. errorRows img t mode) (λ a t. rows-few img a t mode)
