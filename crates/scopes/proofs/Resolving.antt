@@ -228,7 +228,7 @@ run-all f zero i h = refl
 run-all f (suc c) i h = skip _ _ (h i (omega arith) (omega arith)) ∙ run-all f c (i + 1) (λ j l k. h j (omega arith) (omega arith))
 
 -- 16 does not refuse it
-headed-sound : (img ws : List ℕ) (e : Walked) → tableLength (nodes img) ≤ length ws → Ended img ws e → testSound img (headed img (e .table)) ≡ 0
+pub headed-sound : (img ws : List ℕ) (e : Walked) → tableLength (nodes img) ≤ length ws → Ended img ws e → testSound img (headed img (e .table)) ≡ 0
 headed-sound img ws e long d =
     let t = e .table in
     let vs = headed img t in
