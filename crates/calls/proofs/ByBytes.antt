@@ -207,7 +207,9 @@ module _ (img tab rows : List ℕ) where
     bindings-by-bytes r i p j o w k e =
         let t = ended .0 .table in
         let kind = (demand.row-kind img tab rows unrefused once w k) .1 in
-        let f = climb-row img (left .table) _ _ _ _ (w .right) e in
+        let f =
+        climb-row img (left .table) (suc (exitAt img (left .table) (p .node))) ((tableIn img (left .table)) .symbols) (exitAt img (left .table) (p .node)) (nameOf img (p .ident))
+        (w .right) e in
         lookup-own img (left .table) (exitAt img (left .table) (p .node)) (nameOf img (p .ident)) (w .right) accepted
         (subst (λ (vs : List ℕ). testLookup img vs (exitAt img vs (p .node)) ≡ 0) (sym table-is)
         (lookup-passes _ (exit-below img (counted img t) r ((resolved img tab (ended .0) accepted (ended .1)) .walks r i) p j)))
