@@ -1,8 +1,9 @@
 -- In the table that Resolve leaves, an ordinary ident term introduces its name, as row 1 reads it off entry and exit, exactly if lookup of
--- the name at the term's entry gives neither a Var nor a Const.
+-- the name at the term's entry gives neither a Var nor a Const. The terms are those of specs/Terms.antt; none that sight calls ordinary is
+-- left out.
 use mathlib.Core.Path.{_≡_, refl, sym, _∙_, ap, subst}
-use mathlib.Core.Logic.{inl, inr}
-use mathlib.Core.Bool.{Bool, true, false, not}
+use mathlib.Core.Logic.{_⊎_, inl, inr}
+use mathlib.Core.Bool.{Bool, true, false, not, false≢true}
 use mathlib.Core.List.{List, [], _∷_, _++_}
 use Prim.Native.Nat.{ℕ, zero, suc}
 use Rattle.ast.specs.Image.{kindAt, nameOf}
@@ -20,15 +21,17 @@ use Rattle.scopes.proofs.Resolving.{table-accepted}
 use Rattle.scopes.proofs.Single.{single-done}
 use Rattle.bindings.specs.Errors.{introduces}
 use Rattle.occurrences.specs.Spots.{Spot}
-use Rattle.sight.specs.Listing.{tableIn, Unrefused}
-use Rattle.sight.specs.Sight.{In}
+use Rattle.sight.specs.Listing.{placesOf, tableIn, Unrefused}
+use Rattle.sight.specs.Sight.{Sort, ordinary, declared, applied, defined, Place, Met, add, opened, headSort, place, placeSeq, placeThen, placeFirst, rulePlaces, In}
 use Rattle.sight.proofs.Answering.{passes}
+use Rattle.sight.proofs.Listing.{spotOf}
+use Rattle.sight.proofs.Members.{in-left, in-right}
 use Rattle.sight.proofs.Resolving.{resolved, left-table}
 use Rattle.sight.proofs.Steps.{IdentOnly, Idents, Body, Bodies, Members}
 use Rattle.meaning.specs.Meaning.{Env, Part, occurs, declares, names, defines, meetIdent, meet}
 use Rattle.meaning.specs.Meaning as meaning
 use Rattle.meaning.specs.Recorded.{Around}
-use Rattle.meaning.specs.Terms.{termIf, terms, termsSeq, termsFirst, ruleTerms}
+use Rattle.meaning.specs.Terms.{belowHead, termIf, terms, termsSeq, termsFirst, ruleTerms}
 use Rattle.meaning.proofs.Faults.{introduces-is}
 use Rattle.meaning.proofs.Told.{defines-bodies, is-value, meets, meetsSeq, Told, ToldSeq, ToldThen}
 use Rattle.meaning.proofs.Rules.{rules-told}
@@ -58,13 +61,13 @@ module _ (img : List ℕ) (T₀ : Table) where
   kind = kindAt img
 
   -- the part of ordinary ident terms
-  abbrev ordinary : Part → Bool
-  ordinary occurs = true
-  ordinary declares = false
-  ordinary names = false
-  ordinary (defines before) = false
+  abbrev isOccurs : Part → Bool
+  isOccurs occurs = true
+  isOccurs declares = false
+  isOccurs names = false
+  isOccurs (defines before) = false
 
-  ident-each : (p : Part) (n i : ℕ) (env : Env) → kind i ≡ 13 → Around img T₀ n env (meetIdent name kind p i env) → Each (termIf (ordinary p) n i)
+  ident-each : (p : Part) (n i : ℕ) (env : Env) → kind i ≡ 13 → Around img T₀ n env (meetIdent name kind p i env) → Each (termIf (isOccurs p) n i)
   unfolding termIf meaning.introduces
   ident-each occurs n i env k h =
       cons
@@ -74,10 +77,10 @@ module _ (img : List ℕ) (T₀ : Table) where
   ident-each names n i env k h = nil
   ident-each (defines before) n i env k h = nil
 
-  lone-each : (p : Part) (n : ℕ) (ts : Trees) → IdentOnly img ts → (env : Env) → Around img T₀ n env (meetsSeq img T₀ p ts env) → Each (termsSeq (ordinary p) n ts)
+  lone-each : (p : Part) (n : ℕ) (ts : Trees) → IdentOnly img ts → (env : Env) → Around img T₀ n env (meetsSeq img T₀ p ts env) → Each (termsSeq (isOccurs p) n ts)
   unfolding terms meet
   lone-each p n ts h env =
-      subst (λ (us : Trees). Around img T₀ n env (meetsSeq img T₀ p us env) → Each (termsSeq (ordinary p) n us)) (sym (h .only))
+      subst (λ (us : Trees). Around img T₀ n env (meetsSeq img T₀ p us env) → Each (termsSeq (isOccurs p) n us)) (sym (h .only))
       (λ r. both (ident-each p n (h .i) env (h .kind) r) nil)
 
   -- member names are none
@@ -91,7 +94,7 @@ module _ (img : List ℕ) (T₀ : Table) where
   mutual
     unfolding Told Body terms
 
-    each : (u : Tree) → Body img u → (p : Part) (o : ℕ) (env : Env) → Told img T₀ p u env → Each (terms (ordinary p) o u)
+    each : (u : Tree) → Body img u → (p : Part) (o : ℕ) (env : Env) → Told img T₀ p u env → Each (terms (isOccurs p) o u)
     each (block ts) h p o env t = eachSeq ts h occurs o env t
     each (node n k (outer c) sh ts) h p o env t = nil
     each (node n k (inner plain) sh ts) h p o env t = eachSeq ts h occurs n env (t .1)
@@ -107,11 +110,11 @@ module _ (img : List ℕ) (T₀ : Table) where
     each (node n k (inner definedThen) sh ts) h p o env t = eachFirst ts (defines-bodies img ts h) (defines env) refl n env (t .1)
     each (node n k (inner arg) sh ts) h p o env t = nil
 
-    eachSeq : (us : Trees) → Bodies img us → (p : Part) (o : ℕ) (env : Env) → ToldSeq img T₀ p us env → Each (termsSeq (ordinary p) o us)
+    eachSeq : (us : Trees) → Bodies img us → (p : Part) (o : ℕ) (env : Env) → ToldSeq img T₀ p us env → Each (termsSeq (isOccurs p) o us)
     eachSeq none h p o env t = nil
     eachSeq (u ◂ us) h p o env t = both (each u (h .0) p o env (t .0)) (eachSeq us (h .1) p o (meets img T₀ p u env) (t .1))
 
-    eachFirst : (us : Trees) → Bodies img us → (p : Part) → ordinary p ≡ false → (o : ℕ) (env : Env) → ToldThen img T₀ p us env → Each (termsFirst o us)
+    eachFirst : (us : Trees) → Bodies img us → (p : Part) → isOccurs p ≡ false → (o : ℕ) (env : Env) → ToldThen img T₀ p us env → Each (termsFirst o us)
     eachFirst none h p q o env t = nil
     eachFirst (u ◂ us) h p q o env t =
         both (each u (h .0) occurs o env (t .0))
@@ -140,3 +143,66 @@ introduces-by-entry img tab unrefused once r i s j =
     let d = single-done img tab p once in
     let same = ap (λ (w : Way). tableIn img (tableBy img tab w)) (way-fills img tab p (d .1)) ∙ left-table img tab p (d .1) in
     subst (λ (t : Table). ByEntry img t (s .node) (s .ident)) (sym same) (rules-by-entry img tab (d .0) (table-accepted img tab p) (d .1) r i s j)
+
+-- none is left out: every place of a rule that sight calls ordinary is listed
+abbrev isOrdinary : Sort → Bool
+isOrdinary ordinary = true
+isOrdinary declared = false
+isOrdinary applied = false
+isOrdinary (defined k) = false
+
+module _ (p : Place) (own : p .sort ≡ ordinary) where
+  -- p was met before, or is listed
+  abbrev Met-or : List Spot → Met → Type 0
+  Met-or l m = In p (m .places) ⊎ In (spotOf p) l
+
+  here : (σ : Sort) (o : ℕ) (b : List ℕ) (i : ℕ) (m : Met) → In p ((add σ o b i m) .places) → Met-or (termIf (isOrdinary σ) o i) m
+  unfolding add termIf
+  here σ o b i m (inr j) = inl j
+  here ordinary o b i m (inl e) = inr (inl (ap spotOf e))
+  here declared o b i m (inl e) = absurd (false≢true (ap (λ (q : Place). isOrdinary (q .sort)) (sym e) ∙ ap isOrdinary own))
+  here applied o b i m (inl e) = absurd (false≢true (ap (λ (q : Place). isOrdinary (q .sort)) (sym e) ∙ ap isOrdinary own))
+  here (defined k) o b i m (inl e) = absurd (false≢true (ap (λ (q : Place). isOrdinary (q .sort)) (sym e) ∙ ap isOrdinary own))
+
+  -- of two lists one after the other
+  joined : (k l : List Spot) (m m′ : Met) → (In p (m′ .places) → Met-or k m) → Met-or l m′ → Met-or (k ++ l) m
+  joined k l m m′ f (inl i) = elim (f i) [ inl j ↦ inl j | inr j ↦ inr (in-left (spotOf p) k l j) ]
+  joined k l m m′ f (inr i) = inr (in-right (spotOf p) k l i)
+
+  mutual
+    unfolding place terms opened headSort belowHead
+
+    met : (u : Tree) (σ : Sort) (o : ℕ) (b : List ℕ) (m : Met) → In p ((place σ o b u m) .places) → Met-or (terms (isOrdinary σ) o u) m
+    met (block ts) σ o b m i = metSeq ts ordinary o (m .next ∷ b) (opened m) i
+    met (node n k (outer c) sh ts) σ o b m i = inl i
+    met (node n k (inner plain) sh ts) σ o b m i = metSeq ts ordinary n b m i
+    met (node n k (inner term) sh ts) σ o b m i = metSeq ts σ n b m i
+    met (node n k (inner ident) sh ts) σ o b m i = here σ o b n m i
+    met (node n k (inner head) [] ts) σ o b m i = metSeq ts ordinary n b m i
+    met (node n k (inner head) (zero ∷ sh) ts) σ o b m i = metSeq ts applied n b m i
+    met (node n k (inner head) (suc c ∷ sh) ts) σ o b m i = metSeq ts ordinary n b m i
+    met (node n k (inner headMember) sh ts) σ o b m i = metFirst ts n b m i
+    met (node n k (inner member) sh ts) σ o b m i = metFirst ts n b m i
+    met (node n k (inner case) sh ts) σ o b m i = metSeq ts ordinary n (m .next ∷ b) (opened m) i
+    met (node n k (inner ifVar) sh ts) σ o b m i = metThen ts declared refl n b m i
+    met (node n k (inner definedThen) sh ts) σ o b m i = metThen ts (defined (m .next)) refl n b m i
+    met (node n k (inner arg) sh ts) σ o b m i = inl i
+
+    metSeq : (us : Trees) (σ : Sort) (o : ℕ) (b : List ℕ) (m : Met) → In p ((placeSeq σ o b us m) .places) → Met-or (termsSeq (isOrdinary σ) o us) m
+    metSeq none σ o b m i = inl i
+    metSeq (u ◂ us) σ o b m i =
+        joined (terms (isOrdinary σ) o u) (termsSeq (isOrdinary σ) o us) m (place σ o b u m) (λ j. met u σ o b m j) (metSeq us σ o b (place σ o b u m) i)
+
+    metThen : (us : Trees) (σ : Sort) → isOrdinary σ ≡ false → (o : ℕ) (b : List ℕ) (m : Met) → In p ((placeThen σ o b us m) .places) → Met-or (termsFirst o us) m
+    metThen none σ q o b m i = inl i
+    metThen (u ◂ us) σ q o b m i =
+        joined (terms true o u) (termsSeq false o us) m (place ordinary o b u m) (λ j. met u ordinary o b m j)
+        (subst (λ (c : Bool). Met-or (termsSeq c o us) (place ordinary o b u m)) q (metSeq us σ o b (place ordinary o b u m) i))
+
+    metFirst : (us : Trees) (o : ℕ) (b : List ℕ) (m : Met) → In p ((placeFirst o b us m) .places) → Met-or (termsFirst o us) m
+    metFirst none o b m i = inl i
+    metFirst (u ◂ us) o b m i = joined (terms true o u) (termsSeq false o us) m (place ordinary o b u m) (λ j. met u ordinary o b m j) (inl i)
+
+pub ordinary-listed : (r : Rule) (p : Place) → In p (placesOf r) → p .sort ≡ ordinary → In (spotOf p) (ruleTerms r)
+unfolding rulePlaces ruleTerms
+ordinary-listed r p i q = elim (metSeq p q (r .statements) ordinary 0 [] (record { next = 0; places = [] }) i) [ inl j ↦ absurd j | inr j ↦ j ]

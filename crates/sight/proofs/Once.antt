@@ -25,7 +25,7 @@ use Rattle.table.specs.State.{Walked}
 use Rattle.table.specs.Table.{Table, lookup, exitAt}
 use Rattle.occurrences.specs.Occurrences.{ruleRows, allRows, occurrenceRows, occurrences, timesBound, loneIn, lone, rowsByRule, loneAnswer, once}
 use Rattle.sight.specs.Sight.{Place, In}
-use Rattle.sight.specs.Listing.{RuleRows, Repeated, NoLone, FirstLone, tableIn, Unrefused}
+use Rattle.sight.specs.Listing.{RuleRows, Shared, NoLone, FirstLone, tableIn, Unrefused}
 use Rattle.sight.proofs.Answering.{passes}
 use Rattle.sight.proofs.Demand.{list}
 use Rattle.sight.proofs.Leaving.{list-is}
@@ -129,7 +129,7 @@ module _ (img : List ℕ) (t : Table) where
       }
     where
       more : NoLone img rowsIn (r ∷ f .earlier)
-      more q (inl z) = subst (λ (y : Rule). Repeated img rowsIn y (rowsIn y)) (sym z) (none-lone (rowsIn r) (rowsIn r) e)
+      more q (inl z) = subst (λ (y : Rule). Shared img rowsIn y (rowsIn y)) (sym z) (none-lone (rowsIn r) (rowsIn r) e)
       more q (inr i) = f .none-earlier q i
 
   first-of : (rs : List Rule) → ((r : Rule) → In r rs → WalkOf img r t) → (w : Row) → lone (rowsByRule img t rs) ≡ some w → FirstLone img rowsIn rs w
@@ -147,9 +147,9 @@ module _ (img : List ℕ) (t : Table) where
   none-of [] e r i = absurd i
   none-of (r ∷ rs) e q i = go (loneIn (rowsIn r) (rowsIn r)) refl (λ h. none-of rs h q) e i
     where
-      go : (o : Option Row) → loneIn (rowsIn r) (rowsIn r) ≡ o → (lone (rowsByRule img t rs) ≡ nothing → In q rs → Repeated img rowsIn q (rowsIn q))
-          → _≡_ {A = Option Row} (elim o [ nothing ↦ lone (rowsByRule img t rs) | some v ↦ some v ]) nothing → In q (r ∷ rs) → Repeated img rowsIn q (rowsIn q)
-      go nothing p f h (inl z) = subst (λ (y : Rule). Repeated img rowsIn y (rowsIn y)) (sym z) (none-lone (rowsIn r) (rowsIn r) p)
+      go : (o : Option Row) → loneIn (rowsIn r) (rowsIn r) ≡ o → (lone (rowsByRule img t rs) ≡ nothing → In q rs → Shared img rowsIn q (rowsIn q))
+          → _≡_ {A = Option Row} (elim o [ nothing ↦ lone (rowsByRule img t rs) | some v ↦ some v ]) nothing → In q (r ∷ rs) → Shared img rowsIn q (rowsIn q)
+      go nothing p f h (inl z) = subst (λ (y : Rule). Shared img rowsIn y (rowsIn y)) (sym z) (none-lone (rowsIn r) (rowsIn r) p)
       go nothing p f h (inr j) = f h j
       go (some v) p f h j = let z : _≡_ {A = ℕ} 0 1 = cc in absurd (omega arith)
 

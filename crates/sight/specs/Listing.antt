@@ -67,12 +67,12 @@ module _ (img : List ℕ) (binding : Place → Option ℕ) where
 -- what Once says, by the rows of each rule
 module _ (img : List ℕ) (rows : Rule → List Row) where
   -- each of these rows has a binding that stands twice or more in the rule r
-  abbrev pub Repeated : Rule → List Row → Type 0
-  Repeated r ws = (w : Row) → In w ws → 2 ≤ timesBound (w .right) (rows r)
+  abbrev pub Shared : Rule → List Row → Type 0
+  Shared r ws = (w : Row) → In w ws → 2 ≤ timesBound (w .right) (rows r)
 
   -- no binding of these rules stands once
   abbrev pub NoLone : List Rule → Type 0
-  NoLone rs = (r : Rule) → In r rs → Repeated r (rows r)
+  NoLone rs = (r : Rule) → In r rs → Shared r (rows r)
 
   -- w is the first row, rule after rule, whose binding stands once in its own rule
   pub record FirstLone (rs : List Rule) (w : Row) : Type 0 where
@@ -87,7 +87,7 @@ module _ (img : List ℕ) (rows : Rule → List Row) where
     pub split : rows own ≡ before ++ (w ∷ after)
     -- all before it have bindings that stand twice or more in their own rule; its own stands once
     pub none-earlier : NoLone earlier
-    pub none-before : Repeated own before
+    pub none-before : Shared own before
     pub once : timesBound (w .right) (rows own) ≡ 1
     -- it is the row of a Term, and its binding is the IdentTerm of that Term
     pub place : Place
