@@ -1,6 +1,6 @@
 -- Document 01's sentences on rows 1 to 4, on the words that Errors leaves: for every image, table and rows for which the call gives no
 -- refusal, where no module or model list declares one name twice.
-use mathlib.Core.Path.{_≡_, refl, sym, ap, ap₂, subst, _∙_}
+use mathlib.Core.Path.{_≡_, refl, sym, ap, subst, _∙_}
 use mathlib.Core.Logic.{⊎-elim, _↔_}
 use mathlib.Core.Bool.{Bool, true, false}
 use mathlib.Core.List.{List, [], _++_, List·Memᴰ, List·Memᴰ·not-nil, List·Memᴰ·eq-of-singleton, List·Memᴰ·append-cases, Memᴰ·append-left, Memᴰ·append-right}
@@ -11,16 +11,15 @@ use lib.ListN.{length}
 use Rattle.ast.specs.Answer.{result}
 use Rattle.ast.specs.Image.{nodes}
 use Rattle.ast.specs.Tests.{verdict}
-use Rattle.table.specs.Layout.{tableLength}
 use Rattle.table.specs.State.{Walked}
 use Rattle.table.specs.Table.{Table}
 use Rattle.rows.specs.Rows.{Row, row, when, held}
 use Rattle.scopes.specs.Calls.{RowsOutcome, rowsCall}
-use Rattle.scopes.specs.Resolve.{testTable, zeroed, walked, headed, counted}
+use Rattle.scopes.specs.Resolve.{walked, counted}
 use Rattle.scopes.specs.Twice.{among, declaredTwice}
 use Rattle.scopes.specs.Walk.{done}
 use Rattle.scopes.proofs.Calls.{rowed-done, rowed-held, rowed-count}
-use Rattle.scopes.proofs.Resolving.{table-accepted, walked-ended, zeroed-long, headed-scopes, headed-symbols}
+use Rattle.scopes.proofs.Resolving.{table-accepted}
 use Rattle.scopes.proofs.Single.{single-done}
 use Rattle.bindings.specs.Errors.{strictFrom, strictRows, plainRows, errorRows, testErrors, errors}
 use Rattle.bindings.specs.Promises.{ofMode}
@@ -31,13 +30,7 @@ use Rattle.sentences.proofs.Repeats as repeats
 use Rattle.sentences.proofs.Sentences as sentences
 use Rattle.sight.specs.Listing.{tableIn, Unrefused}
 use Rattle.sight.proofs.Answering.{passes}
-
--- the table that a call leaves, as Lookup reads it, is the one that the walk ended with
-pub left-table : (img tab : List ℕ) → testTable img tab ≡ 0 → {e : Walked} → walked img tab ≡ done e → tableIn img (headed img (e .table)) ≡ counted img (e .table)
-left-table img tab p {e} h =
-    let d = walked-ended img tab p e h in
-    let l : tableLength (nodes img) ≤ length (e .table .words) = (let z = d .long in let y = zeroed-long img tab in omega arith) in
-    ap₂ (λ (k y : ℕ). record { words = headed img (e .table); scopes = k; symbols = y }) (headed-scopes img (e .table) l) (headed-symbols img (e .table) l)
+use Rattle.sight.proofs.Resolving.{left-table}
 
 -- strict mode adds rows 4 alone
 strict-numbers : (img ns : List ℕ) (c n : ℕ) (w : Row) → List·Memᴰ w (strictFrom img ns c n) → w .left ≡ 4

@@ -51,7 +51,7 @@ module _ (img : List ℕ) where
   is-kind k nothing = refl
   is-kind k (some n) = refl
 
-  is-value : (o : Option ℕ) → isValue img o ≡ meaning.isValue (kindAt img) o
+  pub is-value : (o : Option ℕ) → isValue img o ≡ meaning.isValue (kindAt img) o
   unfolding isValue meaning.isValue isKind isA
   is-value nothing = refl
   is-value (some n) = refl

@@ -18,3 +18,4 @@ pub mod Leaving
 pub mod LoneTerm
 pub mod Demand
 pub mod Answering
+pub mod Once

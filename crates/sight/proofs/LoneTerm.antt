@@ -19,7 +19,7 @@ use Rattle.sight.proofs.RowLaws.{bindingOf, rows-only, rows-all, rule-r
 use Rattle.sight.proofs.Spots.{ownerKind, ordered}
 use Rattle.sight.proofs.WholeModule.{WalkOf, var-is-occurrence, from-naming}
 
-bound-in : (b : ℕ) (w : Row) (ws : List Row) → In w ws → w .right ≡ b → 1 ≤ timesBound b ws
+pub bound-in : (b : ℕ) (w : Row) (ws : List Row) → In w ws → w .right ≡ b → 1 ≤ timesBound b ws
 unfolding timesBound
 bound-in b w [] i e = absurd i
 bound-in b w (v ∷ ws) (inl q) e =
@@ -77,6 +77,7 @@ module _ (img : List ℕ) (t : Table) (r : Rule) (walk : WalkOf img r t) where
   pub record Lone (w : Row) : Type 0 where
     pub place : Place
     pub here : In place (placesOf r)
+    pub occurs : Occurs img r place
     pub node : w .left ≡ place .node
     pub binding : w .right ≡ place .ident
     pub term : kindAt img (w .left) ≡ 12
@@ -102,6 +103,7 @@ module _ (img : List ℕ) (t : Table) (r : Rule) (walk : WalkOf img r t) where
       record {
         place = q;
         here = j;
+        occurs = o;
         node = left (rows-all img (bindingOf img t) (rows .rows) q (rows .all q j) o);
         binding = c;
         term =

@@ -1,17 +1,19 @@
 -- What resolving an accepted image leaves: no more scopes and symbols than nodes, the walk of every rule, and words that give the same
 -- lookups as the table.
-use mathlib.Core.Path.{_≡_, sym, _∙_, ap, subst}
+use mathlib.Core.Path.{_≡_, sym, _∙_, ap, ap₂, subst}
 use mathlib.Core.List.{List}
-use Prim.Native.Nat.{ℕ, suc}
+use Prim.Native.Nat.{ℕ, suc, _≤_}
 use native.Mathlib.Omega.{arith}
-use Rattle.ast.specs.Image.{last}
+use lib.ListN.{length}
+use Rattle.ast.specs.Image.{nodes, last}
 use Rattle.ast.specs.Tests.{verdict}
 use Rattle.ast.specs.Tree.{Tree}
+use Rattle.table.specs.Layout.{tableLength}
 use Rattle.table.specs.State.{Walked}
 use Rattle.table.specs.Table.{climb, lookup}
-use Rattle.scopes.specs.Resolve.{zeroed, walked, headed, counted}
+use Rattle.scopes.specs.Resolve.{testTable, zeroed, walked, headed, counted}
 use Rattle.scopes.specs.Walk.{done, resolveTree}
-use Rattle.scopes.proofs.Resolving.{Ended, walk-ended, zeroed-long, headed-symbols}
+use Rattle.scopes.proofs.Resolving.{Ended, walk-ended, walked-ended, zeroed-long, headed-scopes, headed-symbols}
 use Rattle.ast.specs.Rules.{Rule, moduleRules}
 use Rattle.sight.specs.Listing.{tableIn}
 use Rattle.sight.proofs.Verdict.{root-of}
@@ -35,3 +37,10 @@ module _ (img tab : List ℕ) (e : Walked) (accepted : verdict img ≡ 0) (done-
   unfolding lookup
   left-lookup s x =
       ap (λ (y : ℕ). climb img (suc s) (headed img (e .table)) y s x) (headed-symbols img (e .table) (let z = ended .long in let l = zeroed-long img tab in omega arith))
+
+-- the table that a call leaves, as Lookup reads it, is the one that the walk ended with
+pub left-table : (img tab : List ℕ) → testTable img tab ≡ 0 → {e : Walked} → walked img tab ≡ done e → tableIn img (headed img (e .table)) ≡ counted img (e .table)
+left-table img tab p {e} h =
+    let d = walked-ended img tab p e h in
+    let l : tableLength (nodes img) ≤ length (e .table .words) = (let z = d .long in let y = zeroed-long img tab in omega arith) in
+    ap₂ (λ (k y : ℕ). record { words = headed img (e .table); scopes = k; symbols = y }) (headed-scopes img (e .table) l) (headed-symbols img (e .table) l)

@@ -1,13 +1,14 @@
--- The words of the third demand's theorems: the list's order, which rows list the variable occurrences of a rule and of all rules, and
--- the table in which a binding is looked up.
+-- The words of the third demand's theorems: the list's order, which rows list the variable occurrences of a rule and of all rules, which
+-- row is the first lone one, and the table in which a binding is looked up.
 use mathlib.Core.Path.{_≡_}
 use mathlib.Core.Logic.{_⊎_}
 use mathlib.Core.List.{List, [], _∷_, _++_}
 use mathlib.Core.Option.{Option, some}
 use Prim.Native.Nat.{ℕ, _≤_, _<_}
 use Rattle.ast.specs.Answer.{Answer, refused, twice, result, other}
-use Rattle.ast.specs.Image.{nameOf}
+use Rattle.ast.specs.Image.{kindAt, nameOf}
 use Rattle.rows.specs.Rows.{Row, row}
+use Rattle.occurrences.specs.Occurrences.{timesBound}
 use Rattle.sound.specs.Sound.{scopesIn, symbolsIn}
 use Rattle.table.specs.Table.{Table}
 use Rattle.sight.specs.Sight.{Sort, ordinary, declared, applied, defined, Place, In, rulePlaces, outerConst, Occurrence}
@@ -62,6 +63,39 @@ module _ (img : List ℕ) (binding : Place → Option ℕ) where
   pub data AllRows : List Rule → List Row → Type 0 where
     noRule : AllRows [] []
     rule : {r : Rule} {rs : List Rule} {ws vs : List Row} → RuleRows r ws → AllRows rs vs → AllRows (r ∷ rs) (ws ++ vs)
+
+-- what Once says, by the rows of each rule
+module _ (img : List ℕ) (rows : Rule → List Row) where
+  -- each of these rows has a binding that stands twice or more in the rule r
+  abbrev pub Shared : Rule → List Row → Type 0
+  Shared r ws = (w : Row) → In w ws → 2 ≤ timesBound (w .right) (rows r)
+
+  -- no binding of these rules stands once
+  abbrev pub NoLone : List Rule → Type 0
+  NoLone rs = (r : Rule) → In r rs → Shared r (rows r)
+
+  -- w is the first row, rule after rule, whose binding stands once in its own rule
+  pub record FirstLone (rs : List Rule) (w : Row) : Type 0 where
+    -- its rule, and the rules before and after it
+    pub earlier : List Rule
+    pub own : Rule
+    pub later : List Rule
+    pub rules : rs ≡ earlier ++ (own ∷ later)
+    -- the rows before and after it in its rule
+    pub before : List Row
+    pub after : List Row
+    pub split : rows own ≡ before ++ (w ∷ after)
+    -- all before it have bindings that stand twice or more in their own rule; its own stands once
+    pub none-earlier : NoLone earlier
+    pub none-before : Shared own before
+    pub once : timesBound (w .right) (rows own) ≡ 1
+    -- it is the row of a Term, and its binding is the IdentTerm of that Term
+    pub place : Place
+    pub here : In place (placesOf own)
+    pub occurs : Occurs img own place
+    pub node : w .left ≡ place .node
+    pub ident : w .right ≡ place .ident
+    pub term : kindAt img (w .left) ≡ 12
 
 -- no number stands twice
 abbrev pub Distinct : List ℕ → Type 0
