@@ -105,7 +105,7 @@ fn check_decl(
             Checked::Ok,
         Decl::Rule(id) => check_rule(image, table, symbols, rows, counts, id),
         Decl::Model(id) => {
-            let ModelDecl { name: _, body } = typed::model_decl(image, id);
+            let ModelDecl { body, .. } = typed::model_decl(image, id);
             check_decls(image, table, symbols, rows, counts, body)
         }
     }
@@ -124,7 +124,7 @@ fn check_rule(
     requires { ⌜ (Listing (now image) (sought (now table) symbols) (kindOf ruleDeclKind) (rule .0 .0) 0) × (Scratch (now image) (sought (now table) symbols) (now rows) (now counts)) ⌝ }
     ensures { λ r. ⌜ Searched (listsIn (now (image .entry)) (sought (now (table .entry)) symbols) (rule .0 .0)) (now (counts .entry)) r (now (counts .exit)) ⌝ }
 {
-    let RuleDecl { name: _, body } = typed::rule_decl(image, rule);
+    let RuleDecl { body, .. } = typed::rule_decl(image, rule);
     let written = collect_stmts(image, table, symbols, rows, 0, body);
     count_bindings(image, rows, written, counts, true);
     let found = first_lone(image, rows, written, counts);
@@ -374,7 +374,7 @@ fn collect_term(
             collect_term_list(image, table, symbols, rows, after_head, args)
         }
         Term::Member(id) => {
-            let TermMember { term, name: _ } = typed::term_member(image, id);
+            let TermMember { term, .. } = typed::term_member(image, id);
             collect_term(image, table, symbols, rows, written, term)
         }
         Term::Dom(id) => {
@@ -480,7 +480,7 @@ fn collect_type_expr(
     match typed::type_expr(image, typ) {
         TypeExpr::Ambient(_) | TypeExpr::Mor(_) => written,
         TypeExpr::Member(id) => {
-            let TermMember { term, name: _ } = typed::term_member(image, id);
+            let TermMember { term, .. } = typed::term_member(image, id);
             collect_term(image, table, symbols, rows, written, term)
         }
     }
@@ -500,7 +500,7 @@ fn collect_pred_expr(
     match typed::pred_expr(image, pred) {
         PredExpr::Ambient(_) => written,
         PredExpr::Member(id) => {
-            let TermMember { term, name: _ } = typed::term_member(image, id);
+            let TermMember { term, .. } = typed::term_member(image, id);
             collect_term(image, table, symbols, rows, written, term)
         }
     }
@@ -575,11 +575,11 @@ fn collect_decl(
     match typed::decl(image, decl) {
         Decl::Type(_) | Decl::Pred(_) | Decl::Func(_) | Decl::Const(_) | Decl::Enum(_) => written,
         Decl::Rule(id) => {
-            let RuleDecl { name: _, body } = typed::rule_decl(image, id);
+            let RuleDecl { body, .. } = typed::rule_decl(image, id);
             collect_stmts(image, table, symbols, rows, written, body)
         }
         Decl::Model(id) => {
-            let ModelDecl { name: _, body } = typed::model_decl(image, id);
+            let ModelDecl { body, .. } = typed::model_decl(image, id);
             collect_decls(image, table, symbols, rows, written, body)
         }
     }
