@@ -365,8 +365,10 @@ pub fn name(image: &[u8], name: u32) -> &[u8] {
     &image[start..start + len]
 }
 
-/// Rows that a call has written, as pairs.
+/// Rows that a call has written, as pairs. Of words that no call has written, those pairs that are there.
 pub fn pairs(rows: &[u32], nodes: usize) -> impl Iterator<Item = (u32, u32)> + '_ {
-    let count = rows[0] as usize;
-    (0..count).map(move |i| (rows[1 + i], rows[1 + nodes + i]))
+    let count = rows.first().map_or(0, |&count| count as usize);
+    let lefts = rows.iter().skip(1).copied();
+    let rights = rows.iter().skip(nodes.saturating_add(1)).copied();
+    lefts.zip(rights).take(count)
 }

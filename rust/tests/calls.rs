@@ -178,3 +178,11 @@ fn an_empty_module() {
     let mut table = [0; table_len(1)];
     assert_eq!(resolve(&EMPTY_MODULE, &mut table), Resolve::Done { scopes: 1, symbols: 0 });
 }
+
+#[test]
+fn pairs_of_any_words() {
+    assert_eq!(pairs(&[], 11).count(), 0);
+    assert_eq!(pairs(&[7], 0).count(), 0);
+    assert_eq!(pairs(&[9, 1, 2], 1).collect::<Vec<_>>(), [(1, 2)]);
+    assert_eq!(pairs(&[9, 1, 2], usize::MAX).count(), 0);
+}

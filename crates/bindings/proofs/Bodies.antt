@@ -13,17 +13,20 @@ use Rattle.ast.specs.Is.{Is, Run}
 use Rattle.ast.specs.Tree.{Tree, node, block, none, _◂_, swaps, ordered, treeAt}
 use Rattle.ast.specs.Items.{items, blocks}
 use Rattle.ast.proofs.Row.{Child, FormedFields, append, next, ends, nodeOf}
-use Rattle.ast.proofs.Shapes.{row as fields-of, tree-of, child-is, case-child, case-last, one-more, items-more, termKinds, run-item, run-list, run-tail}
+use Rattle.ast.proofs.Shapes.{row as fields-of, tree-of, child-is, case-child, one-more, items-more, termKinds, run-item, run-list, run-tail}
 use Rattle.ast.proofs.Vars.{PlainVar, named, wildcard, PlainAt, AfterFirst, Each, vars-at}
+use Rattle.typed.specs.RowShapes.{Listed}
+use Rattle.typed.specs.declared.nodes.NodeList.{NodeList}
+use Rattle.typed.proofs.Lists.{at-list}
 use Rattle.table.specs.Table.{Table}
 use Rattle.rows.specs.Rows.{Row}
-use Rattle.ast.proofs.Blocks.{BlocksFrom, next-block}
+use Rattle.ast.proofs.Blocks.{BlocksFrom, blocks-from, next-block}
 use Rattle.bindings.specs.Errors.{definedRow, isCtor, argRow, argRows, rowsOf, rowsSeq, declRows, declsRows}
 use Rattle.error.specs.Kinds.{asked}
-use Rattle.bindings.specs.Promises.{inside, listed, declared, ofPattern, ofCase, ofArgs}
+use Rattle.bindings.specs.Promises.{inside, listed, declared, ofStmts, ofDecls, ofPattern, ofCase, ofArgs}
 use Rattle.bindings.proofs.RowLaws.{rowsAt, plain-rows, term-rows, case-rows, defined-none, defined-some, one-inside, two-inside, case-inside, child-list-inside, branch-inside, pattern-first, pattern-none, pattern-app, args-inside, decl-child, rule-rows, model-rows, module-rows}
 use Rattle.bindings.proofs.Quiet.{quiet}
-use Rattle.bindings.proofs.Epic.{Down, Item, listed-start, listed-more}
+use Rattle.bindings.proofs.Epic.{Down, Item, Listing, listed-more}
 
 -- the kinds of the children of a ThenAtom's cases, and of a Stmt's
 abbrev pub atomKinds : List ℕ
@@ -61,18 +64,6 @@ module _ (img : List ℕ) where
   pub case-pattern : {n p : ℕ} → Is img (kindOf 35) n → p ≡ field img n 0 → Is img (kindOf 12) p
   unfolding kindOf FormedFields
   case-pattern {n} is q = child-is img is (subst (Child img n 12) (sym q) ((fields-of img is) .0))
-
-  pub stmt-last : {n : ℕ} → Is img (kindOf 36) n → field img n 0 < 4
-  unfolding kindOf
-  stmt-last is = case-last img _ stmtKinds is
-
-  pub atom-last : {n : ℕ} → Is img (kindOf 29) n → field img n 0 < 3
-  unfolding kindOf
-  atom-last is = case-last img _ atomKinds is
-
-  pub case-run : {n c : ℕ} → Is img (kindOf 35) n → c ≡ field img n 1 → Run img 36 n 2 c
-  unfolding kindOf next
-  case-run is q = run-tail img is refl q
 
 module _ (img : List ℕ) (t : Table) where
   -- then-atoms -----------------------------------------------------------------------------------------------------
@@ -171,26 +162,33 @@ module _ (img : List ℕ) (t : Table) where
   pub applied-no : {n h l : ℕ} {b : Bool} → Applied n h l → b ≡ isCtor img t (treeAt img h) → b ≡ false → ofPattern img t n ≡ []
   applied-no {n} {h} {l} a e z = a .same ∙ ap (λ (b : Bool). elim b as (λ _. List Row) [ true ↦ ofArgs img t l | false ↦ [] ]) (sym e ∙ z)
 
-  -- the arguments of a pattern: what is left after i of them
-  abbrev pub argsLeft : ℕ → ℕ → List Row
-  argsLeft n i = argRows img t (items img n (field img n 0 - i) (1 + i))
+  -- the arguments of a pattern, and what is left after i of them
+  pub args-list : {n : ℕ} {ns : NodeList} → Is img (kindOf 22) n → Listed img n 0 ns
+      → Listing img t 12 n (ns .node .0) (ns .count) (ns .first) (ofArgs img t n) (argRows img t (items img (ns .node .0) (ns .count) (ns .first)))
+  unfolding kindOf
+  args-list {n} is q =
+      at-list img (λ (m j c : ℕ). Listing img t 12 n m c j (ofArgs img t n) (argRows img t (items img m c j))) q
+      (record { low = omega arith; run = run-list img is refl; same = args-inside img t is })
 
-  pub args-start : {n : ℕ} → Is img (kindOf 22) n → ofArgs img t n ≡ argsLeft n 0
-  args-start {n} is = args-inside img t is ∙ ap (λ (c : ℕ). argRows img t (items img n c 1)) (sym (sub-zero (field img n 0)))
+  abbrev pub argsLeft : ℕ → ℕ → ℕ → ℕ → List Row
+  argsLeft n c j i = argRows img t (items img n (c - i) (j + i))
 
-  pub args-item : {n c : ℕ} (i : ℕ) → Is img (kindOf 22) n → i < field img n 0 → c ≡ field img n (1 + i) → Item img t 12 n c (argsLeft n i) (argRow img t (treeAt img c)) (argsLeft n (i + 1))
-  unfolding kindOf FormedFields argRows
-  args-item {n} {c} i is l q =
-      let h : Child img n 12 c = subst (Child img n 12) (sym q) ((fields-of img is) .0 i l) in
+  pub args-start : (n c j : ℕ) → argRows img t (items img n c j) ≡ argsLeft n c j 0
+  args-start n c j = ap₂ (λ (x y : ℕ). argRows img t (items img n x y)) (sym (sub-zero c)) (sym (add-zero j))
+
+  pub args-item : {n c j x : ℕ} (i : ℕ) → Run img 12 n j c → i < c → x ≡ field img n (j + i) → Item img t 12 n x (argsLeft n c j i) (argRow img t (treeAt img x)) (argsLeft n c j (i + 1))
+  unfolding argRows
+  args-item {n} {c} {j} {x} i h l q =
+      let z = run-item img h l q in
       record {
-        low = h .below;
-        is = child-is img is h;
-        same = ap (argRows img t) (items-more img n 1 (field img n 0) i l) ∙ ap (λ (x : ℕ). argRow img t (treeAt img x) ++ argsLeft n (i + 1)) (sym q);
+        low = z .0 .below;
+        is = z .1;
+        same = ap (argRows img t) (items-more img n j c i l) ∙ ap (λ (y : ℕ). argRow img t (treeAt img y) ++ argsLeft n c j (i + 1)) (sym q);
       }
 
-  pub args-end : (n i : ℕ) → field img n 0 ≤ i → argsLeft n i ≡ []
+  pub args-end : (n c j i : ℕ) → c ≤ i → argsLeft n c j i ≡ []
   unfolding argRows items
-  args-end n i h = let z : field img n 0 - i ≡ 0 = omega arith in ap (λ (x : ℕ). argRows img t (items img n x (1 + i))) z
+  args-end n c j i h = let z : c - i ≡ 0 = omega arith in ap (λ (x : ℕ). argRows img t (items img n x (j + i))) z
 
   -- statements -----------------------------------------------------------------------------------------------------
   stmt-down : {n d : ℕ} → Is img (kindOf 36) n → (c : ℕ) → c ≡ field img n 0 → d ≡ field img n 1 → eqb (getD stmtKinds c noChild) noChild ≡ false
@@ -250,27 +248,31 @@ module _ (img : List ℕ) (t : Table) where
       }
 
   -- the cases of a match; the matched term gives no row
-  pub cases-start : {n : ℕ} → Is img (kindOf 40) n → inside img t false n ≡ listed img t false n (field img n 1 - 0) (2 + 0)
-  unfolding kindOf ordered FormedFields
-  cases-start {n} is =
+  pub cases-list : {n : ℕ} {ns : NodeList} → Is img (kindOf 40) n → Listed img n 1 ns
+      → Listing img t 35 n (ns .node .0) (ns .count) (ns .first) (inside img t false n) (ofStmts img t ns)
+  unfolding kindOf ordered FormedFields next
+  cases-list {n} is q =
       let h : Child img n 12 (field img n 0) = (fields-of img is) .0 in
-      child-list-inside img t false (inner plain) 12 35 is (λ ts. refl)
-      ∙ ap (λ (l : List Row). l ++ listed img t false n (field img n 1) 2) (quiet img t (is .accepted) n ((child-is img is h) .below) (h .kind) tt)
-      ∙ listed-start img t false n (field img n 1) 2
-
-  pub cases-item : {n x : ℕ} (i : ℕ) → Is img (kindOf 40) n → i < field img n 1 → x ≡ field img n (2 + i)
-      → Item img t 35 n x (listed img t false n (field img n 1 - i) (2 + i)) (ofCase img t x) (listed img t false n (field img n 1 - (i + 1)) (2 + (i + 1)))
-  unfolding kindOf FormedFields next
-  cases-item {n} {x} i is l q =
-      let h : Child img n 35 x = subst (Child img n 35) (sym q) ((fields-of img is) .1 .0 i l) in
-      let z = child-is img is h in
-      record {
-        low = h .below;
-        is = z;
+      at-list img (λ (m j c : ℕ). Listing img t 35 n m c j (inside img t false n) (listed img t false m c j)) q
+      (record {
+        low = omega arith;
+        run = run-tail img is refl refl;
         same =
-            listed-more img t false n (field img n 1) 2 i l
-            ∙ ap (λ (y : ℕ). rowsAt img t false n y ++ listed img t false n (field img n 1 - (i + 1)) (2 + (i + 1))) (sym q)
-            ∙ ap (λ (m : List Row). m ++ listed img t false n (field img n 1 - (i + 1)) (2 + (i + 1))) (case-rows img t false n z);
+            child-list-inside img t false (inner plain) 12 35 is (λ ts. refl)
+            ∙ ap (λ (l : List Row). l ++ listed img t false n (field img n 1) 2) (quiet img t (is .accepted) n ((child-is img is h) .below) (h .kind) tt);
+      })
+
+  pub cases-item : {n c j x : ℕ} (i : ℕ) → Run img 35 n j c → i < c → x ≡ field img n (j + i)
+      → Item img t 35 n x (listed img t false n (c - i) (j + i)) (ofCase img t x) (listed img t false n (c - (i + 1)) (j + (i + 1)))
+  cases-item {n} {c} {j} {x} i h l q =
+      let z = run-item img h l q in
+      record {
+        low = z .0 .below;
+        is = z .1;
+        same =
+            listed-more img t false n c j i l
+            ∙ ap (λ (y : ℕ). rowsAt img t false n y ++ listed img t false n (c - (i + 1)) (j + (i + 1))) (sym q)
+            ∙ ap (λ (m : List Row). m ++ listed img t false n (c - (i + 1)) (j + (i + 1))) (case-rows img t false n (z .1));
       }
 
   -- a case: its pattern's rows 3, then its statements
@@ -283,29 +285,45 @@ module _ (img : List ℕ) (t : Table) where
       ∙ ap (λ (l : List Row). l ++ listed img t false n (field img n 1) 2) (quiet img t (is .accepted) n ((child-is img is h) .below) (h .kind) tt)
       ∙ ap (λ (c : ℕ). listed img t false n c 2) (sym q))
 
+  pub case-list : {n : ℕ} {ns : NodeList} → Is img (kindOf 35) n → Listed img n 1 ns
+      → Listing img t 36 n (ns .node .0) (ns .count) (ns .first) (ofCase img t n) (ofPattern img t n ++ ofStmts img t ns)
+  unfolding kindOf next
+  case-list {n} is q =
+      at-list img (λ (m j c : ℕ). Listing img t 36 n m c j (ofCase img t n) (ofPattern img t n ++ listed img t false m c j)) q
+      (record { low = omega arith; run = run-tail img is refl refl; same = case-whole is refl })
+
   -- the blocks of a branch -----------------------------------------------------------------------------------------
   abbrev pub blocksLeft : ℕ → ℕ → ℕ → List Row
   blocksLeft n c j = rowsSeq img t false n (blocks img n c j)
 
-  pub blocks-whole : {n : ℕ} → Is img (kindOf 39) n → inside img t false n ≡ blocksLeft n (field img n 0 - 0) 1
-  blocks-whole {n} is = branch-inside img t false is ∙ ap (λ (c : ℕ). blocksLeft n c 1) (sym (sub-zero (field img n 0)))
+  pub record BlockList (n m c j : ℕ) : Type 0 where
+    pub low : m ≤ n
+    pub from : BlocksFrom img m c 0 j
+    pub same : inside img t false n ≡ blocksLeft m c j
 
-  -- one block more, of size s
-  pub record BlockItem (n i j s : ℕ) : Type 0 where
-    pub run : Run img 36 n (j + 1) s
-    pub from : BlocksFrom img n (field img n 0) (i + 1) (j + 1 + s)
-    pub same : blocksLeft n (field img n 0 - i) j ≡ listed img t false n s (j + 1) ++ blocksLeft n (field img n 0 - (i + 1)) (j + 1 + s)
+  pub block-list : {n : ℕ} {bs : NodeList} → Is img (kindOf 39) n → Listed img n 0 bs → BlockList n (bs .node .0) (bs .count) (bs .first)
+  block-list {n} is q = at-list img (λ (m j c : ℕ). BlockList n m c j) q (record { low = omega arith; from = blocks-from img is refl; same = branch-inside img t false is })
 
-  pub block-item : {n i j s : ℕ} → Is img (kindOf 39) n → BlocksFrom img n (field img n 0) i j → i < field img n 0 → s ≡ field img n j → BlockItem n i j s
+  pub blocks-start : (n c j : ℕ) → blocksLeft n c j ≡ blocksLeft n (c - 0) j
+  blocks-start n c j = ap (λ (x : ℕ). blocksLeft n x j) (sym (sub-zero c))
+
+  -- one block more
+  pub record BlockItem (n c i j m size first : ℕ) : Type 0 where
+    pub low : m ≤ n
+    pub run : Run img 36 m first size
+    pub from : BlocksFrom img n c (i + 1) (first + size)
+    pub same : blocksLeft n (c - i) j ≡ listed img t false m size first ++ blocksLeft n (c - (i + 1)) (first + size)
+
+  pub block-item : {n c i j : ℕ} {ns : NodeList} → BlocksFrom img n c i j → i < c → Listed img n j ns → BlockItem n c i j (ns .node .0) (ns .count) (ns .first)
   unfolding blocks rowsOf
-  block-item {n} {i} {j} {s} is b l q =
+  block-item {n} {c} {i} {j} b l q =
       let k = next-block img b l in
-      subst (λ (x : ℕ). BlockItem n i j x) (sym q)
-      (record { run = k .run; from = k .from; same = ap (λ (x : ℕ). blocksLeft n x j) (one-more l) })
+      at-list img (λ (m first size : ℕ). BlockItem n c i j m size first) q
+      (record { low = omega arith; run = k .run; from = k .from; same = ap (λ (x : ℕ). blocksLeft n x j) (one-more l) })
 
-  pub blocks-end : (n i j : ℕ) → field img n 0 ≤ i → blocksLeft n (field img n 0 - i) j ≡ []
+  pub blocks-end : (n c i j : ℕ) → c ≤ i → blocksLeft n (c - i) j ≡ []
   unfolding rowsOf blocks
-  blocks-end n i j h = let z : field img n 0 - i ≡ 0 = omega arith in ap (λ (x : ℕ). blocksLeft n x j) z
+  blocks-end n c i j h = let z : c - i ≡ 0 = omega arith in ap (λ (x : ℕ). blocksLeft n x j) z
 
   -- declarations ---------------------------------------------------------------------------------------------------
   pub declared-start : (n c j : ℕ) → declared img t n c j ≡ declared img t n (c - 0) (j + 0)
@@ -329,31 +347,27 @@ module _ (img : List ℕ) (t : Table) where
       }
 
   -- what a rule, a model and a module go down to
-  pub record Listing (k n d c j : ℕ) (l rows : List Row) : Type 0 where
-    pub low : d < n
-    pub run : Run img k d j c
-    pub same : l ≡ rows
-
-  pub decl-rule : {n d c : ℕ} → Is img (kindOf 1) n → 4 ≡ field img n 0 → d ≡ field img n 1 → c ≡ field img d 1
-      → Listing 36 n d c 2 (declRows img t (treeAt img n)) (listed img t false d c 2)
+  pub decl-rule : {n d : ℕ} {ns : NodeList} → Is img (kindOf 1) n → 4 ≡ field img n 0 → d ≡ field img n 1 → Listed img d 1 ns
+      → Listing img t 36 n (ns .node .0) (ns .count) (ns .first) (declRows img t (treeAt img n)) (ofStmts img t ns)
   unfolding kindOf FormedFields next ends
   decl-rule {n} {d} is q r z =
       let s = decl-child img t is 4 q r refl in
       let i = child-is img is (s .0) in
-      subst (λ (x : ℕ). Listing 36 n d x 2 (declRows img t (treeAt img n)) (listed img t false d x 2)) (sym z)
-      (record { low = s .0 .below; run = run-tail img i refl refl; same = s .1 ∙ rule-rows img t i })
+      at-list img (λ (m j c : ℕ). Listing img t 36 n m c j (declRows img t (treeAt img n)) (listed img t false m c j)) z
+      (record { low = (let a = s .0 .below in omega arith); run = run-tail img i refl refl; same = s .1 ∙ rule-rows img t i })
 
-  pub decl-model : {n d c : ℕ} → Is img (kindOf 1) n → 6 ≡ field img n 0 → d ≡ field img n 1 → c ≡ field img d 1
-      → Listing 1 n d c 2 (declRows img t (treeAt img n)) (declared img t d c 2)
+  pub decl-model : {n d : ℕ} {ns : NodeList} → Is img (kindOf 1) n → 6 ≡ field img n 0 → d ≡ field img n 1 → Listed img d 1 ns
+      → Listing img t 1 n (ns .node .0) (ns .count) (ns .first) (declRows img t (treeAt img n)) (ofDecls img t ns)
   unfolding kindOf FormedFields next ends
   decl-model {n} {d} is q r z =
       let s = decl-child img t is 6 q r refl in
       let i = child-is img is (s .0) in
-      subst (λ (x : ℕ). Listing 1 n d x 2 (declRows img t (treeAt img n)) (declared img t d x 2)) (sym z)
-      (record { low = s .0 .below; run = run-tail img i refl refl; same = s .1 ∙ model-rows img t i })
+      at-list img (λ (m j c : ℕ). Listing img t 1 n m c j (declRows img t (treeAt img n)) (declared img t m c j)) z
+      (record { low = (let a = s .0 .below in omega arith); run = run-tail img i refl refl; same = s .1 ∙ model-rows img t i })
 
-  pub module-run : {n c : ℕ} → Is img (kindOf 0) n → c ≡ field img n 0 → Run img 1 n 1 c × (declRows img t (treeAt img n) ≡ declared img t n c 1)
+  pub module-list : {n : ℕ} {ns : NodeList} → Is img (kindOf 0) n → Listed img n 0 ns
+      → Listing img t 1 n (ns .node .0) (ns .count) (ns .first) (declRows img t (treeAt img n)) (ofDecls img t ns)
   unfolding kindOf FormedFields next ends
-  module-run {n} is q =
-      subst (λ (x : ℕ). Run img 1 n 1 x × (declRows img t (treeAt img n) ≡ declared img t n x 1)) (sym q)
-      (run-list img is refl, module-rows img t is)
+  module-list {n} is z =
+      at-list img (λ (m j c : ℕ). Listing img t 1 n m c j (declRows img t (treeAt img n)) (declared img t m c j)) z
+      (record { low = omega arith; run = run-list img is refl; same = module-rows img t is })

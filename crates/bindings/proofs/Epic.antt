@@ -10,11 +10,14 @@ use lib.Dec.{eqb}
 use lib.ListN.{length-append, getD}
 use Rattle.ast.specs.Image.{nodes, field}
 use Rattle.ast.specs.Kinds.{inner, term, head, noChild, kindOf}
-use Rattle.ast.specs.Is.{Is, twoTerms}
+use Rattle.ast.specs.Is.{Is, Run}
 use Rattle.ast.specs.Tree.{ordered, treeAt}
 use Rattle.ast.specs.Items.{items}
 use Rattle.ast.proofs.Row.{Child, FormedFields, next}
-use Rattle.ast.proofs.Shapes.{row as fields-of, child-is, case-child, case-kids, items-more, term-last, termKinds, headKinds}
+use Rattle.ast.proofs.Shapes.{row as fields-of, child-is, case-child, case-kids, items-more, termKinds, headKinds, run-item, run-list}
+use Rattle.typed.specs.RowShapes.{Two, Listed}
+use Rattle.typed.specs.declared.nodes.NodeList.{NodeList}
+use Rattle.typed.proofs.Lists.{at-list}
 use Rattle.table.specs.Table.{Table}
 use Rattle.table.specs.Rising.{Sorted}
 use Rattle.rows.specs.Rows.{Row, Appended}
@@ -77,7 +80,7 @@ module _ (img : List ℕ) (t : Table) where
       let i = child-is img is (s .0) in
       record { low = s .0 .below; is = i; same = s .1 ∙ plain-rows img t true 21 _ n i (s .0 .kind) }
 
-  epic-member : {n d e : ℕ} → Is img (kindOf 12) n → 3 ≡ field img n 0 → d ≡ field img n 1 → e ≡ field img d 0 → Down true 12 n e (inside img t true n)
+  pub epic-member : {n d e : ℕ} → Is img (kindOf 12) n → 3 ≡ field img n 0 → d ≡ field img n 1 → e ≡ field img d 0 → Down true 12 n e (inside img t true n)
   unfolding kindOf FormedFields
   epic-member {n} {d} {e} is q r z =
       let s = term-down true is 3 q r refl in
@@ -90,7 +93,7 @@ module _ (img : List ℕ) (t : Table) where
         same = s .1 ∙ member-rows img t true n i ∙ term-rows img t true d (child-is img i h);
       })
 
-  epic-id : {n d e : ℕ} → Is img (kindOf 12) n → 6 ≡ field img n 0 → d ≡ field img n 1 → e ≡ field img d 0 → Down true 12 n e (inside img t true n)
+  pub epic-id : {n d e : ℕ} → Is img (kindOf 12) n → 6 ≡ field img n 0 → d ≡ field img n 1 → e ≡ field img d 0 → Down true 12 n e (inside img t true n)
   unfolding kindOf FormedFields asked
   epic-id {n} {d} {e} is q r z =
       let s = term-down true is 6 q r refl in
@@ -102,10 +105,6 @@ module _ (img : List ℕ) (t : Table) where
         is = child-is img i h;
         same = s .1 ∙ plain-rows img t true 20 _ n i (s .0 .kind) ∙ one-inside img t true 12 i refl ∙ term-rows img t true d (child-is img i h);
       })
-
-  -- a member's receiver, the argument of an Id
-  pub epic-inner : {n d e c : ℕ} → Is img (kindOf 12) n → (c ≡ 3) ⊎ (c ≡ 6) → c ≡ field img n 0 → d ≡ field img n 1 → e ≡ field img d 0 → Down true 12 n e (inside img t true n)
-  epic-inner is k q r z = ⊎-elim (λ w. epic-member is (sym w ∙ q) r z) (λ w. epic-id is (sym w ∙ q) r z) k
 
   -- below Dom and Cod nothing is asked for
   epic-dom : {n : ℕ} (c k : ℕ) → getD termKinds c noChild ≡ k → kindOf k ≡ kindOf 18 → asked k true ≡ false → eqb (getD termKinds c noChild) noChild ≡ false
@@ -120,21 +119,13 @@ module _ (img : List ℕ) (t : Table) where
       ∙ one-inside img t false 12 j refl
       ∙ quiet img t (is .accepted) _ ((child-is img j h) .below) (h .kind) tt
 
-  epic-wild : {n : ℕ} → Is img (kindOf 12) n → 1 ≡ field img n 0 → inside img t true n ≡ []
+  pub epic-below : {n : ℕ} → Is img (kindOf 12) n → (4 ≡ field img n 0) ⊎ (5 ≡ field img n 0) → inside img t true n ≡ []
+  unfolding kindOf asked
+  epic-below is h = ⊎-elim (λ q. epic-dom 4 18 refl refl refl refl is q) (λ q. epic-dom 5 19 refl refl refl refl is q) h
+
+  pub epic-wild : {n : ℕ} → Is img (kindOf 12) n → 1 ≡ field img n 0 → inside img t true n ≡ []
   unfolding kindOf ordered rowsOf
   epic-wild {n} is q = ap (rowsSeq img t true n) (case-kids img (inner term) termKinds is (λ ts. refl) 1 q)
-
-  pub epic-none : {n : ℕ} (c : ℕ) → Is img (kindOf 12) n → c ≡ field img n 0 → (c ≡ 0 → ⊥) → (c ≡ 2 → ⊥) → (c ≡ 3 → ⊥) → (c ≡ 6 → ⊥) → (c ≡ 7 → ⊥) → inside img t true n ≡ []
-  unfolding kindOf asked
-  epic-none zero is q h0 h2 h3 h6 h7 = absurd (h0 refl)
-  epic-none (suc zero) is q h0 h2 h3 h6 h7 = epic-wild is q
-  epic-none (suc (suc zero)) is q h0 h2 h3 h6 h7 = absurd (h2 refl)
-  epic-none (suc (suc (suc zero))) is q h0 h2 h3 h6 h7 = absurd (h3 refl)
-  epic-none (suc (suc (suc (suc zero)))) is q h0 h2 h3 h6 h7 = epic-dom 4 18 refl refl refl refl is q
-  epic-none (suc (suc (suc (suc (suc zero))))) is q h0 h2 h3 h6 h7 = epic-dom 5 19 refl refl refl refl is q
-  epic-none (suc (suc (suc (suc (suc (suc zero)))))) is q h0 h2 h3 h6 h7 = absurd (h6 refl)
-  epic-none (suc (suc (suc (suc (suc (suc (suc zero))))))) is q h0 h2 h3 h6 h7 = absurd (h7 refl)
-  epic-none (suc (suc (suc (suc (suc (suc (suc (suc c)))))))) is q h0 h2 h3 h6 h7 = absurd (let l = term-last img is in omega arith)
 
   -- two nodes that are gone down to
   pub record Both (k l n c d : ℕ) (rows first second : List Row) : Type 0 where
@@ -148,18 +139,19 @@ module _ (img : List ℕ) (t : Table) where
   abbrev pub headRows : ℕ → List Row
   headRows h = rowsOf img t true h (treeAt img h)
 
-  pub epic-two : {n c d : ℕ} → Is img twoTerms n → c ≡ field img n 0 → d ≡ field img n 1
-      → Both 12 12 n c d (inside img t true n) (inside img t true c) (inside img t true d)
+  -- the two terms of a Comp term or an Equal atom
+  pub two-down : {n m c d : ℕ} {l : List Row} → Down true 21 n m l → Two img m c d → Both 12 12 n c d l (inside img t true c) (inside img t true d)
   unfolding kindOf FormedFields next
-  epic-two {n} {c} {d} is q r =
-      let h : Child img n 12 c = subst (Child img n 12) (sym q) ((fields-of img is) .0) in
-      let k : Child img n 12 d = subst (Child img n 12) (sym r) ((fields-of img is) .1 .0) in
+  two-down {n} {m} {c} {d} o z =
+      let is = o .is in
+      let h : Child img m 12 c = subst (Child img m 12) (sym (z .first)) ((fields-of img is) .0) in
+      let k : Child img m 12 d = subst (Child img m 12) (sym (z .second)) ((fields-of img is) .1 .0) in
       record {
-        low = h .below;
-        low2 = k .below;
+        low = (let a = o .low in let b = h .below in omega arith);
+        low2 = (let a = o .low in let b = k .below in omega arith);
         is = child-is img is h;
         is2 = child-is img is k;
-        same = two-inside img t true 12 12 is q r ∙ ap₂ _++_ (term-rows img t true n (child-is img is h)) (term-rows img t true n (child-is img is k));
+        same = o .same ∙ two-inside img t true 12 12 is (z .first) (z .second) ∙ ap₂ _++_ (term-rows img t true m (child-is img is h)) (term-rows img t true m (child-is img is k));
       }
 
   -- the node above an app head does not matter
@@ -170,20 +162,21 @@ module _ (img : List ℕ) (t : Table) where
       go zero e = head-ident img t a o is e ∙ sym (head-ident img t a p is e)
       go (suc c) e = head-other img t a o c is e ∙ sym (head-other img t a p c is e)
 
-  pub app-both : {n c d : ℕ} → Is img (kindOf 14) n → c ≡ field img n 0 → d ≡ field img n 1
-      → Both 15 22 n c d (inside img t true n) (headRows c) (inside img t true d)
+  -- the head and the arguments of an application
+  pub app-down : {n m c d : ℕ} {l : List Row} → Down true 14 n m l → Two img m c d → Both 15 22 n c d l (headRows c) (inside img t true d)
   unfolding kindOf FormedFields next asked
-  app-both {n} {c} {d} is q r =
-      let h : Child img n 15 c = subst (Child img n 15) (sym q) ((fields-of img is) .0) in
-      let k : Child img n 22 d = subst (Child img n 22) (sym r) ((fields-of img is) .1 .0) in
+  app-down {n} {m} {c} {d} o z =
+      let is = o .is in
+      let h : Child img m 15 c = subst (Child img m 15) (sym (z .first)) ((fields-of img is) .0) in
+      let k : Child img m 22 d = subst (Child img m 22) (sym (z .second)) ((fields-of img is) .1 .0) in
       record {
-        low = h .below;
-        low2 = k .below;
+        low = (let a = o .low in let b = h .below in omega arith);
+        low2 = (let a = o .low in let b = k .below in omega arith);
         is = child-is img is h;
         is2 = child-is img is k;
         same =
-            two-inside img t true 15 22 is q r
-            ∙ ap₂ _++_ (head-alike true n c (child-is img is h)) (plain-rows img t true 22 _ n (child-is img is k) (k .kind));
+            o .same ∙ two-inside img t true 15 22 is (z .first) (z .second)
+            ∙ ap₂ _++_ (head-alike true m c (child-is img is h)) (plain-rows img t true 22 _ m (child-is img is k) (k .kind));
       }
 
   -- an app head
@@ -237,21 +230,28 @@ module _ (img : List ℕ) (t : Table) where
     pub is : Is img (kindOf k) c
     pub same : whole ≡ rows ++ more
 
-  pub epic-list : {n : ℕ} → Is img (kindOf 22) n → inside img t true n ≡ listed img t true n (field img n 0 - 0) (1 + 0)
-  unfolding kindOf
-  epic-list {n} is = list-inside img t true 12 is ∙ listed-start true n (field img n 0) 1
+  -- the rows l are those of the c nodes from place j of the row of d on, which is not above n
+  pub record Listing (k n d c j : ℕ) (l rows : List Row) : Type 0 where
+    pub low : d ≤ n
+    pub run : Run img k d j c
+    pub same : l ≡ rows
 
-  pub epic-item : {n c : ℕ} (i : ℕ) → Is img (kindOf 22) n → i < field img n 0 → c ≡ field img n (1 + i)
-      → Item 12 n c (listed img t true n (field img n 0 - i) (1 + i)) (inside img t true c) (listed img t true n (field img n 0 - (i + 1)) (1 + (i + 1)))
-  unfolding kindOf FormedFields
-  epic-item {n} {c} i is l q =
-      let h : Child img n 12 c = subst (Child img n 12) (sym q) ((fields-of img is) .0 i l) in
-      let z = child-is img is h in
+  pub terms-list : {n : ℕ} {ns : NodeList} → Is img (kindOf 22) n → Listed img n 0 ns
+      → Listing 12 n (ns .node .0) (ns .count) (ns .first) (inside img t true n) (listed img t true (ns .node .0) (ns .count) (ns .first))
+  unfolding kindOf
+  terms-list {n} is q =
+      at-list img (λ (m j c : ℕ). Listing 12 n m c j (inside img t true n) (listed img t true m c j)) q
+      (record { low = omega arith; run = run-list img is refl; same = list-inside img t true 12 is })
+
+  pub terms-item : {n c j x : ℕ} (i : ℕ) → Run img 12 n j c → i < c → x ≡ field img n (j + i)
+      → Item 12 n x (listed img t true n (c - i) (j + i)) (inside img t true x) (listed img t true n (c - (i + 1)) (j + (i + 1)))
+  terms-item {n} {c} {j} {x} i h l q =
+      let z = run-item img h l q in
       record {
-        low = h .below;
-        is = z;
+        low = z .0 .below;
+        is = z .1;
         same =
-            listed-more true n (field img n 0) 1 i l
-            ∙ ap (λ (x : ℕ). rowsAt img t true n x ++ listed img t true n (field img n 0 - (i + 1)) (1 + (i + 1))) (sym q)
-            ∙ ap (λ (m : List Row). m ++ listed img t true n (field img n 0 - (i + 1)) (1 + (i + 1))) (term-rows img t true n z);
+            listed-more true n c j i l
+            ∙ ap (λ (y : ℕ). rowsAt img t true n y ++ listed img t true n (c - (i + 1)) (j + (i + 1))) (sym q)
+            ∙ ap (λ (m : List Row). m ++ listed img t true n (c - (i + 1)) (j + (i + 1))) (term-rows img t true n (z .1));
       }

@@ -16,8 +16,11 @@ use Rattle.ast.specs.Rows.{opsFrom}
 use Rattle.ast.specs.Tests.{verdict}
 use Rattle.ast.specs.Is.{Is}
 use Rattle.ast.proofs.Row.{Child, FormedFields}
-use Rattle.ast.proofs.Shapes.{row as fields-of, one-more}
+use Rattle.ast.proofs.Shapes.{row as fields-of, one-more, run-list}
 use Rattle.ast.proofs.Accepted.{sized}
+use Rattle.typed.specs.RowShapes.{Listed}
+use Rattle.typed.specs.declared.nodes.NodeList.{NodeList}
+use Rattle.typed.proofs.Lists.{at-list}
 use Rattle.scopes.specs.Twice.{among}
 use Rattle.rows.specs.Rows.{Row, row, when}
 use Rattle.rows.proofs.Parts.{Left, left-room}
@@ -72,20 +75,19 @@ module _ (img : List ℕ) (n near : ℕ) (ms : List ℕ) where
     | suc y ↦ elim (eqb near (suc y)) [ true ↦ n ∷ repeated img (suc y) ns | false ↦ repeated img (suc y) ns ]
   ]) (sym e)
 
-  pub mark-new : (x : ℕ) → x ≡ field img n 0 → (x ≡ 0 → ⊥) → (near ≡ x → ⊥) → MarkedOne img n near ms x ms
-  mark-new zero e h k = absurd (h refl)
-  mark-new (suc x) e h k = record {
+  -- a name x, whose word is w; b says whether it is the nearest earlier one's
+  pub mark-new : {w : ℕ} {b : Bool} (x : ℕ) → w ≡ field img n 0 → w ≡ suc x → b ≡ eqb near (suc x) → b ≡ false → MarkedOne img n near ms (suc x) ms
+  mark-new x e z q h = record {
     so = λ ns. ap (λ (l : List ℕ). marked l ms)
-        (named x e ns ∙ ap (λ (b : Bool). elim b as (λ _. List ℕ) [ true ↦ n ∷ repeated img (suc x) ns | false ↦ repeated img (suc x) ns ]) (ne-eqb near (suc x) k));
+        (named x (sym z ∙ e) ns ∙ ap (λ (b : Bool). elim b as (λ _. List ℕ) [ true ↦ n ∷ repeated img (suc x) ns | false ↦ repeated img (suc x) ns ]) (sym q ∙ h));
   }
 
-  pub mark-again : (x : ℕ) {i : ℕ} → x ≡ field img n 0 → (x ≡ 0 → ⊥) → near ≡ x → i ≡ n → MarkedOne img n near ms x (set ms i 1)
+  pub mark-again : {w i : ℕ} {b : Bool} (x : ℕ) → w ≡ field img n 0 → w ≡ suc x → b ≡ eqb near (suc x) → b ≡ true → i ≡ n → MarkedOne img n near ms (suc x) (set ms i 1)
   unfolding marked
-  mark-again zero e h k q = absurd (h refl)
-  mark-again (suc x) e h k q = record {
+  mark-again x e z q h k = record {
     so = λ ns. ap (λ (l : List ℕ). marked l ms)
-        (named x e ns ∙ ap (λ (b : Bool). elim b as (λ _. List ℕ) [ true ↦ n ∷ repeated img (suc x) ns | false ↦ repeated img (suc x) ns ]) (eq-eqb near (suc x) k))
-        ∙ ap (λ (i : ℕ). marked (repeated img (suc x) ns) (set ms i 1)) (sym q);
+        (named x (sym z ∙ e) ns ∙ ap (λ (b : Bool). elim b as (λ _. List ℕ) [ true ↦ n ∷ repeated img (suc x) ns | false ↦ repeated img (suc x) ns ]) (sym q ∙ h))
+        ∙ ap (λ (i : ℕ). marked (repeated img (suc x) ns) (set ms i 1)) (sym k);
   }
 
 -- the arguments of a list: what is left after i of them
@@ -137,6 +139,25 @@ module _ (img : List ℕ) (m : ℕ) where
       let s = (sized img (is .accepted)) .fewNodes in
       let k = h .below in
       omega arith
+
+-- the list as it is read
+module _ (img : List ℕ) where
+  pub record Arguments (m j c : ℕ) : Type 0 where
+    pub is : Is img (kindOf 11) m
+    pub count : c ≡ field img m 0
+    pub first : j ≡ 1
+    pub short : j + c ≤ 8192
+
+  pub arguments : {m : ℕ} {ns : NodeList} → Is img (kindOf 11) m → Listed img m 0 ns → Arguments (ns .node .0) (ns .first) (ns .count)
+  unfolding kindOf
+  arguments {m} is q = at-list img Arguments q (record { is = is; count = refl; first = refl; short = (run-list img is refl) .short })
+
+  -- all of them are marked
+  pub list-done : {m k : ℕ} {vs : List ℕ} (near i : ℕ) (ms : List ℕ) → k ≡ m → marked (repeatedIn img k) ms ≡ marked (repeated img near (argsFrom img k i)) vs → field img k 0 ≤ i → vs ≡ marked (repeatedIn img m) ms
+  list-done {k = k} {vs} near i ms q e h = sym (ap (λ (x : ℕ). marked (repeatedIn img x) ms) (sym q) ∙ e ∙ none-marked img k near i vs h)
+
+  pub arg-read : {m j c x : ℕ} (i : ℕ) → Arguments m j c → x ≡ field img m (j + i) → x ≡ field img m (1 + i)
+  arg-read {m} i a e = e ∙ ap (λ (j : ℕ). field img m (j + i)) (a .first)
 
 pub to-next : (img : List ℕ) (m : ℕ) (ms : List ℕ) → marked (repeatedIn img m) (marked (repeatedTo img m) ms) ≡ marked (repeatedTo img (m + 1)) ms
 unfolding repeatedTo

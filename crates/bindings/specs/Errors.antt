@@ -4,7 +4,7 @@ use mathlib.Core.List.{List, [], _∷_, _++_}
 use mathlib.Core.Option.{Option, none as nothing, some}
 use Prim.Native.Nat.{ℕ, zero, suc, _+_}
 use lib.Dec.{leb, eqb}
-use Rattle.ast.specs.Named.{ctorDeclKind}
+use Rattle.ast.specs.Named.{ctorDeclKind, argDeclListKind, appTermKind}
 use Rattle.ast.specs.Image.{nodes, last, kindAt, startAt, field}
 use Rattle.ast.specs.Kinds.{outer, inner, root, decl, signature, rule, enum, model, plain, term, ident, head, headMember, member, case, ifVar, definedThen, arg}
 use Rattle.ast.specs.Tests.{_▸_, need}
@@ -89,7 +89,7 @@ module _ (img : List ℕ) (t : Table) where
   patternRows (block ts ◂ us) = []
   patternRows (node n k c sh none ◂ us) = []
   patternRows (node n k c sh (block ts ◂ vs) ◂ us) = []
-  patternRows (node n k c sh (node m l d sh2 ts ◂ vs) ◂ us) = elim (eqb l 14) [ true ↦ appRows ts | false ↦ [] ]
+  patternRows (node n k c sh (node m l d sh2 ts ◂ vs) ◂ us) = elim (eqb l appTermKind) [ true ↦ appRows ts | false ↦ [] ]
 
   -- the rows of a rule's tree: whether rows 1 are asked for, and the node above
   unfoldable mutual
@@ -164,7 +164,7 @@ module _ (img : List ℕ) where
 
   unfoldable pub repeatedIn : ℕ → List ℕ
   unfolding repeated argsOf
-  repeatedIn m = elim (eqb (kindAt img m) 11) [ true ↦ repeated 0 (argsOf m) | false ↦ [] ]
+  repeatedIn m = elim (eqb (kindAt img m) argDeclListKind) [ true ↦ repeated 0 (argsOf m) | false ↦ [] ]
 
   -- those of the argument lists among the first m nodes
   unfoldable pub repeatedTo : ℕ → List ℕ

@@ -10,6 +10,8 @@ use Rattle.ast.specs.Tests.{verdict}
 use Rattle.ast.specs.Is.{Is, Run}
 use Rattle.ast.specs.Tree.{treeAt}
 use Rattle.ast.specs.Items.{items, below}
+use Rattle.ast.specs.Named.{termKind}
+use Rattle.typed.specs.declared.nodes.NodeList.{NodeList}
 use Rattle.table.specs.Table.{Table}
 use Rattle.table.specs.Rising.{Sorted}
 use Rattle.rows.specs.Rows.{Row, rowsLength}
@@ -27,7 +29,7 @@ pub record Ready (img : List ℕ) (t : Table) (kd : Kind) (n : ℕ) (l : List Ro
 
 -- what a check of the variable n of a defined-then asks: it is of case Ident or Wildcard
 pub record PlainVariable (img : List ℕ) (t : Table) (n : ℕ) (l : List Row) (count : ℕ) : Type 0 where
-  pub is : Is img (kindOf 12) n
+  pub is : Is img (kindOf termKind) n
   pub plain : field img n 0 ≤ 1
   pub room : Room img t l count
 
@@ -35,6 +37,10 @@ pub record PlainVariable (img : List ℕ) (t : Table) (n : ℕ) (l : List Row) (
 pub record ReadyRun (img : List ℕ) (t : Table) (k n j c : ℕ) (l : List Row) (count : ℕ) : Type 0 where
   pub run : Run img k n j c
   pub room : Room img t l count
+
+-- of the nodes of a list
+abbrev pub ReadyAll : List ℕ → Table → ℕ → NodeList → List Row → ℕ → Type 0
+ReadyAll img t k ns l count = ReadyRun img t k (ns .node .0) (ns .first) (ns .count) l count
 
 module _ (img : List ℕ) (t : Table) where
   -- the rows below a node, rows 1 asked for or not
@@ -48,6 +54,13 @@ module _ (img : List ℕ) (t : Table) where
   -- those of the c declarations
   abbrev pub declared : ℕ → ℕ → ℕ → List Row
   declared n c j = declsRows img t (items img n c j)
+
+  -- the same for a list: of statements, of declarations
+  abbrev pub ofStmts : NodeList → List Row
+  ofStmts ns = listed false (ns .node .0) (ns .count) (ns .first)
+
+  abbrev pub ofDecls : NodeList → List Row
+  ofDecls ns = declared (ns .node .0) (ns .count) (ns .first)
 
   -- rows 3 of the pattern of a match case, and its rows
   abbrev pub ofPattern : ℕ → List Row

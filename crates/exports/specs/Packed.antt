@@ -2,7 +2,7 @@
 use mathlib.Core.Path.{_≡_}
 use mathlib.Core.List.{List}
 use Prim.Native.Nat.{ℕ, _+_, _*_}
-use Rattle.ast.specs.Answer.{Answer, refused, twice, result, other, Fits}
+use Rattle.ast.specs.Answer.{Answer, refused, twice, result, other, Short, Fits}
 use Rattle.names.specs.declared.NamePlace.{NamePlace}
 use Rattle.scopes.specs.Resolve.{Outcome}
 use Rattle.scopes.specs.Calls.{RowsOutcome}
@@ -37,3 +37,9 @@ pub record LeavesRows (o : RowsOutcome) (r : ℕ) (table rows : List ℕ) : Type
 -- the place of a name's bytes in the image: start · 2^32 + length
 abbrev pub placed : NamePlace → ℕ
 placed p = p .start * 4294967296 + p .len
+
+-- what the exported Name hands back for a place: the number, of which both are read off again
+pub record Places (r : ℕ) (p : NamePlace) : Type 0 where
+  pub number : r ≡ placed p
+  pub start-fits : Short (p .start)
+  pub len-fits : Short (p .len)

@@ -9,7 +9,7 @@ ghost use Rattle.bindings.specs.Errors.{errors};
 ghost use Rattle.occurrences.specs.Answers.{onceAnswer};
 ghost use Rattle.occurrences.specs.Occurrences as «calls-spec»;
 ghost use Rattle.ast.specs.Answer.{Short, Fits};
-ghost use Rattle.exports.specs.Packed.{fields, packed, Packs, Leaves, LeavesRows, placed};
+ghost use Rattle.exports.specs.Packed.{fields, packed, Packs, Leaves, LeavesRows, Places};
 use occurrences::Once;
 use scopes::Looked;
 use scopes::Resolved;
@@ -112,7 +112,7 @@ pub extern "C" fn eqlog_occurrences(image: &[u8], table: &mut [u32], rows: &mut 
 // Name: where the name's bytes stand in the image, start and length; 0 where there is none.
 #[no_mangle]
 pub extern "C" fn eqlog_name(image: &[u8], name: u32) -> u64
-    ensures { λ r. ⌜ r ≡ placed (namePlace (now (image .entry)) name) ⌝ }
+    ensures { λ r. ⌜ Places r (namePlace (now (image .entry)) name) ⌝ }
 {
     let p = names::name_place(image, name);
     (p.start as u64) * 4294967296 + (p.len as u64)

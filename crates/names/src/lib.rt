@@ -7,7 +7,7 @@ ghost use Rattle.ast.specs.Image as «image-spec»;
 ghost use Rattle.ast.specs.Tests as «tests-spec»;
 ghost use Rattle.ast.specs.Promises.{Within};
 ghost use Rattle.names.specs.Promises.{hash, Spanned, NameAt, Chain, Met};
-ghost use Rattle.names.specs.Name.{nameCall, namePlace};
+ghost use Rattle.names.specs.Name.{nameCall, namePlace, PartAt};
 ghost use Rattle.names.specs.Number.{numberOf, numberIn};
 use ast::Sizes;
 
@@ -217,7 +217,7 @@ pub fn name_place(image: &[u8], number: u32) -> NamePlace
 
 // Name: the name's own bytes, a part of the image; empty for a number not below S, or where the image is refused.
 pub fn name(image: &[u8], number: u32) -> &[u8]
-    ensures { λ r. ⌜ now r ≡ nameCall (now (image .entry)) number ⌝ }
+    ensures { λ r. ⌜ (now r ≡ nameCall (now (image .entry)) number) × (PartAt (image .entry) (namePlace (now (image .entry)) number) r) ⌝ }
 {
     let p = name_place(image, number);
     let start = p.start;

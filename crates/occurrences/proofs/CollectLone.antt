@@ -10,9 +10,10 @@ use lib.Dec.{eqb, leb}
 use lib.ListN.{length, length-append, getD, set, replicate, length-set, length-replicate, getD-replicate}
 use lib.Seq.{getD-set-same, getD-set-other, ext-getD}
 use borrow.Author.Tests.{eqb-true, eqb-false, le-leb, lt-leb}
-use Rattle.ast.specs.Image.{nodes, kindAt, field, nameOf}
+use Rattle.ast.specs.Image.{nodes, field}
 use Rattle.ast.specs.Kinds.{kindOf}
 use Rattle.ast.specs.Items.{items}
+use Rattle.ast.specs.Named.{ruleDeclKind}
 use Rattle.ast.specs.Promises.{bump, claimAll}
 use Rattle.ast.specs.declared.NodeId.{NodeId}
 use Rattle.ast.specs.Tests.{is, times}
@@ -20,17 +21,18 @@ use Rattle.ast.proofs.Accepted.{sized}
 use Rattle.ast.proofs.Count.{is-same, is-other}
 use Rattle.ast.proofs.Runs.{sat, claimed-times}
 use Rattle.ast.proofs.Unfold.{All, nil, cons, All-map}
-use Rattle.table.specs.Table.{Table, lookup, exitAt}
-use Rattle.table.proofs.Below.{climb-low}
-use Rattle.table.specs.Rising.{nodeAt}
+use Rattle.typed.specs.RowShapes.{WordList}
+use Rattle.typed.specs.declared.nodes.NodeList.{NodeList}
+use Rattle.table.specs.Table.{Table, isVar}
 use Rattle.rows.specs.Rows.{Row, row, rights, Appended, readRows}
 use Rattle.rows.proofs.Reading.{read-appended, read-more, read-end, read-all}
 use Rattle.occurrences.specs.Spots.{Spot, spotsSeq}
 use Rattle.occurrences.specs.Occurrences.{found, listed, rowsFor, timesBound, loneIn, lone}
-use Rattle.occurrences.specs.Promises.{rowsAt, joined, listsIn, listsAt, Listing, ListingRun, under, uncounted, recount, recounted, loneOf, Scratch, Searched}
+use Rattle.occurrences.specs.Promises.{rowsAt, rowsOf, joined, listsIn, listsOf, Listing, ListingAll, Nodes, under, uncounted, recount, recounted, loneOf, Scratch, Searched}
 use Rattle.occurrences.specs.declared.Checked.{Checked}
 use Rattle.occurrences.specs.declared.Checked.the-variants.{Ok, Lone}
-use Rattle.occurrences.proofs.CollectRules.{joined-append, items-done, items-all, RuleRun, ruleRun, DeclItem, declItem}
+use Rattle.occurrences.proofs.CollectRules.{joined-append, listsLeft, lists-done, lists-all, RuleRun, ruleRun, DeclItem, declItem}
+use Rattle.occurrences.proofs.Few.{lookup-low}
 
 -- no binding counted, and one more
 recounted-none : (up : Bool) (us : List ℕ) → recounted up [] us ≡ us
@@ -107,20 +109,20 @@ module _ (N : ℕ) (ws : List ℕ) (c : ℕ) where
     under-end {i} u h = sym (u .left ∙ ap (under us) (read-end N ws c i h))
 
 -- bindings are nodes ----------------------------------------------------------------------------------------------------------
-module _ (img : List ℕ) (t : Table) (low : (j : ℕ) → j < t .symbols → nodeAt (nodes img) (t .words) j < nodes img) where
+module _ (img : List ℕ) (t : Table) (symbols : Nodes img t) where
   listed-low : (n : ℕ) (o : Option ℕ) (l : List Row) → ((m : ℕ) → o ≡ some m → m < nodes img) → All (λ v. v < nodes img) (rights l) → All (λ v. v < nodes img) (rights (listed img t n o l))
   unfolding listed rights
   listed-low n nothing l h a = a
-  listed-low n (some i) l h a = go (eqb (kindAt img i) 13)
+  listed-low n (some i) l h a = go (isVar img (some i))
     where
       go : (b : Bool) → All (λ v. v < nodes img) (rights (elim b as (λ _. List Row) [ true ↦ row n i ∷ l | false ↦ l ]))
       go true = cons (h i refl) a
       go false = a
 
-  pub rights-low : (l : List Spot) → All (λ v. v < nodes img) (rights (rowsFor img t l))
-  unfolding rowsFor rights lookup
+  rights-low : (l : List Spot) → All (λ v. v < nodes img) (rights (rowsFor img t l))
+  unfolding rowsFor rights
   rights-low [] = nil
-  rights-low (s ∷ l) = listed-low (s .node) (found img t s) (rowsFor img t l) (λ m e. climb-low img t low (suc (exitAt img (t .words) (s .node))) (exitAt img (t .words) (s .node)) (nameOf img (s .ident)) m e) (rights-low l)
+  rights-low (s ∷ l) = listed-low (s .node) (found img t s) (rowsFor img t l) (lookup-low img t symbols _ _) (rights-low l)
 
 -- counts and lone rows ----------------------------------------------------------------------------------------------------------
 times-rights : (b : ℕ) (l : List Row) → timesBound b l ≡ times b (rights l)
@@ -224,58 +226,55 @@ searched-nothing e = record { lone-is = lone-none ∙ sym (ap lone e); clean = r
 
 module _ (img : List ℕ) (t : Table) where
   -- a rule: its rows collected, counted, searched, uncounted
-  pub searched : {rule n r : ℕ} {ws vs cs us zs : List ℕ} {x : Checked} → Listing img t (kindOf 6) rule 0 → Scratch img t ws cs → n ≡ nodes img
-      → Appended (nodes img) (joined (listsIn img t rule)) 0 ws r vs → us ≡ claimAll (rights (readRows n vs r 0)) cs → loneOf x ≡ under us (readRows n vs r 0)
-      → zs ≡ uncounted (rights (readRows n vs r 0)) us → Searched (listsIn img t rule) cs x zs
+  pub searched : {rule name r : ℕ} {body : NodeList} {ws vs cs us zs : List ℕ} {x : Checked} → Listing img t (kindOf ruleDeclKind) rule 0 → Scratch img t ws cs → WordList img rule name body
+      → Appended (nodes img) (rowsOf img t body) 0 ws r vs → us ≡ claimAll (rights (readRows (nodes img) vs r 0)) cs → loneOf x ≡ under us (readRows (nodes img) vs r 0)
+      → zs ≡ uncounted (rights (readRows (nodes img) vs r 0)) us → Searched (listsIn img t rule) cs x zs
   unfolding rowsAt
-  searched {rule} {n} {r} {ws} {vs} {cs} {us} {zs} {x} p s q a counts found cleared =
+  searched {rule} {r = r} {body} {ws} {vs} {cs} {us} {zs} {x} p s q a counts found cleared =
       record {
         lone-is = found ∙ ap₂ under by read ∙ under-lone l l few ∙ sym (lone-single l) ∙ sym (ap lone (u .single));
         clean = cleared ∙ ap₂ (λ (k : List Row) (ys : List ℕ). uncounted (rights k) ys) read by ∙ back-to-zeros (rights l) ∙ sym (s .zeros);
       }
     where
-      u : RuleRun img t rule (field img rule 1) 0
-      u = ruleRun img t p refl
+      u : RuleRun img t rule body 0
+      u = ruleRun img t p q
 
       l : List Row
-      l = rowsAt img t rule (field img rule 1) 2
+      l = rowsOf img t body
 
-      read : readRows n vs r 0 ≡ l
-      read =
-          ap (λ (m : ℕ). readRows m vs r 0) q
-          ∙ read-appended (subst (λ (k : List Row). Appended (nodes img) k 0 ws r vs) (u .whole) a)
-          (let f = subst (λ (k : List Row). 0 + length k ≤ nodes img) (u .whole) (p .few) in omega arith) (s .long)
+      read : readRows (nodes img) vs r 0 ≡ l
+      read = read-appended a (let f = subst (λ (k : List Row). 0 + length k ≤ nodes img) (u .whole) (p .few) in omega arith) (s .long)
 
       by : us ≡ claimAll (rights l) (replicate 2048 0)
       by = counts ∙ ap₂ (λ (k : List Row) (ys : List ℕ). claimAll (rights k) ys) read (s .zeros)
 
       few : All (λ v. v < 2048) (rights l)
-      few = let z = (sized img (p .is .accepted)) .fewNodes in All-map (λ c h. omega arith) (rights-low img t (s .symbols) (spotsSeq rule (items img rule (field img rule 1) 2)))
+      few = let z = (sized img (p .is .accepted)) .fewNodes in All-map (λ c h. omega arith) (rights-low img t (s .symbols) (spotsSeq (body .node .0) (items img (body .node .0) (body .count) (body .first))))
 
   -- a loop over declarations that found none yet
-  pub record ChecksLeft (n j count i : ℕ) (ws vs cs us : List ℕ) : Type 0 where
-    pub within : i ≤ count
-    pub few : 0 + length (joined (listsAt img t n (count - i) (j + i))) ≤ nodes img
-    pub same : lone (listsAt img t n count j) ≡ lone (listsAt img t n (count - i) (j + i))
+  pub record ChecksLeft (l : NodeList) (i : ℕ) (ws vs cs us : List ℕ) : Type 0 where
+    pub within : i ≤ l .count
+    pub few : 0 + length (joined (listsLeft img t l i)) ≤ nodes img
+    pub same : lone (listsOf img t l) ≡ lone (listsLeft img t l i)
     pub long : length vs ≡ length ws
     pub clean : us ≡ cs
 
-  pub checks-start : {n j count : ℕ} {ws cs : List ℕ} → ListingRun img t n j count 0 → ChecksLeft n j count 0 ws ws cs cs
-  checks-start {n} {j} {count} p =
-      let e = items-all img t n j count in
-      record { within = omega arith; few = subst (λ (l : List (List Row)). 0 + length (joined l) ≤ nodes img) e (p .few); same = ap lone e; long = refl; clean = refl }
+  pub checks-start : {l : NodeList} {ws cs : List ℕ} → ListingAll img t l 0 → ChecksLeft l 0 ws ws cs cs
+  checks-start {l} p =
+      let e = lists-all img t l in
+      record { within = omega arith; few = subst (λ (k : List (List Row)). 0 + length (joined k) ≤ nodes img) e (p .few); same = ap lone e; long = refl; clean = refl }
 
-  pub checks-item : {n j count i x : ℕ} {ws vs cs us : List ℕ} → ListingRun img t n j count 0 → ChecksLeft n j count i ws vs cs us → i < count → x ≡ field img n (j + i) → DeclItem img t n j count i x 0
-  checks-item p k l q = declItem img t p l q (k .few)
+  pub checks-item : {i x : ℕ} {l : NodeList} {ws vs cs us : List ℕ} → ListingAll img t l 0 → ChecksLeft l i ws vs cs us → i < l .count → x ≡ field img (l .node .0) (l .first + i) → DeclItem img t l i x 0
+  checks-item p k h q = declItem img t p h q (k .few)
 
-  pub checks-scratch : {n j count i : ℕ} {ws vs cs us : List ℕ} → Scratch img t ws cs → ChecksLeft n j count i ws vs cs us → Scratch img t vs us
+  pub checks-scratch : {i : ℕ} {l : NodeList} {ws vs cs us : List ℕ} → Scratch img t ws cs → ChecksLeft l i ws vs cs us → Scratch img t vs us
   checks-scratch s k = record { symbols = s .symbols; long = (let a = s .long in let b = k .long in omega arith); zeros = k .clean ∙ s .zeros }
 
-  pub checks-next : {n j count i x : ℕ} {ws vs zs cs us os : List ℕ} {r : Checked} → ChecksLeft n j count i ws vs cs us → i < count → DeclItem img t n j count i x 0 → Searched (listsIn img t x) us r os → r ≡ Ok → length zs ≡ length vs
-      → ChecksLeft n j count (i + 1) ws zs cs os
-  checks-next {n} {j} {count} {i} {x} {r = r} k l d f e long =
+  pub checks-next : {i x : ℕ} {l : NodeList} {ws vs zs cs us os : List ℕ} {r : Checked} → ChecksLeft l i ws vs cs us → DeclItem img t l i x 0 → Searched (listsIn img t x) us r os → r ≡ Ok → length zs ≡ length vs
+      → ChecksLeft l (i + 1) ws zs cs os
+  checks-next {i} {x} {l} {r = r} k d f e long =
       record {
-        within = omega arith;
+        within = (let h = d .within in omega arith);
         few = (let g = k .few in let a = ap (λ (m : List (List Row)). length (joined m)) (d .more) ∙ ap length (joined-append (listsIn img t x) rest) ∙ length-append (joined (listsIn img t x)) (joined rest) in omega arith);
         same = k .same ∙ ap lone (d .more) ∙ lone-skip (listsIn img t x) rest (sym (f .lone-is) ∙ ap loneOf e);
         long = long ∙ k .long;
@@ -283,15 +282,15 @@ module _ (img : List ℕ) (t : Table) where
       }
     where
       rest : List (List Row)
-      rest = listsAt img t n (count - (i + 1)) (j + (i + 1))
+      rest = listsLeft img t l (i + 1)
 
-  pub checks-found : {n j count i x : ℕ} {ws vs cs us os : List ℕ} {r : Checked} {a b : NodeId} → ChecksLeft n j count i ws vs cs us → DeclItem img t n j count i x 0 → Searched (listsIn img t x) us r os → r ≡ Lone a b
-      → Searched (listsAt img t n count j) cs (Lone a b) os
-  checks-found {n} {j} {count} {i} {x} {a = a} {b} k d f e =
+  pub checks-found : {i x : ℕ} {l : NodeList} {ws vs cs us os : List ℕ} {r : Checked} {a b : NodeId} → ChecksLeft l i ws vs cs us → DeclItem img t l i x 0 → Searched (listsIn img t x) us r os → r ≡ Lone a b
+      → Searched (listsOf img t l) cs (Lone a b) os
+  checks-found {i} {x} {l} {a = a} {b} k d f e =
       record {
-        lone-is = sym (k .same ∙ ap lone (d .more) ∙ lone-hit (listsIn img t x) (listsAt img t n (count - (i + 1)) (j + (i + 1))) (row (a .0) (b .0)) (sym (f .lone-is) ∙ ap loneOf e));
+        lone-is = sym (k .same ∙ ap lone (d .more) ∙ lone-hit (listsIn img t x) (listsLeft img t l (i + 1)) (row (a .0) (b .0)) (sym (f .lone-is) ∙ ap loneOf e));
         clean = f .clean ∙ k .clean;
       }
 
-  pub checks-end : {n j count i : ℕ} {ws vs cs us : List ℕ} → ChecksLeft n j count i ws vs cs us → count ≤ i → Searched (listsAt img t n count j) cs Ok us
-  checks-end {n} {j} {count} {i} k h = record { lone-is = lone-none ∙ sym (k .same ∙ ap lone (items-done img t n j count i h)); clean = k .clean }
+  pub checks-end : {i : ℕ} {l : NodeList} {ws vs cs us : List ℕ} → ChecksLeft l i ws vs cs us → l .count ≤ i → Searched (listsOf img t l) cs Ok us
+  checks-end {i} {l} k h = record { lone-is = lone-none ∙ sym (k .same ∙ ap lone (lists-done img t l i h)); clean = k .clean }

@@ -9,6 +9,7 @@ use lib.Dec.{eqb}
 use lib.ListN.{getD}
 use Rattle.ast.specs.Image.{kindAt, field}
 use Rattle.ast.specs.Kinds.{Class, outer, inner, plain, term, ident, head, headMember, member, case, ifVar, definedThen, arg, Field, name, child, list, cases, noChild, Kind, kindOf}
+use Rattle.ast.specs.Named.{branchStmtKind, definedThenAtomKind, identTermKind, varIfAtomKind}
 use Rattle.ast.specs.Tree.{Tree, node, block, Trees, none, _◂_, swap, ordered, treeAt}
 use Rattle.ast.specs.Items.{items, blocks, below}
 use Rattle.ast.specs.Is.{Is, kindBy}
@@ -83,7 +84,7 @@ module _ (img : List ℕ) (t : Table) where
   listed-append : (n : ℕ) (o : Option ℕ) (l k : List Row) → listed img t n o (l ++ k) ≡ listed img t n o l ++ k
   unfolding listed
   listed-append n nothing l k = refl
-  listed-append n (some i) l k = go (eqb (kindAt img i) 13)
+  listed-append n (some i) l k = go (isVar img (some i))
     where
       go : (b : Bool) → _≡_ {A = List Row} (elim b [ true ↦ row n i ∷ (l ++ k) | false ↦ l ++ k ]) (elim b [ true ↦ row n i ∷ l | false ↦ l ] ++ k)
       go true = refl
@@ -104,7 +105,7 @@ module _ (img : List ℕ) (t : Table) where
   ident-other n i nothing e q = ap (λ (o : Option ℕ). listed img t n o []) e
   ident-other n i (some b) e q = ap (λ (o : Option ℕ). listed img t n o []) e ∙ ap (λ (x : Bool). elim x as (λ _. List Row) [ true ↦ row n b ∷ [] | false ↦ [] ]) q
 
-  pub ident-rows : {i : ℕ} → Is img (kindOf 13) i → (n : ℕ) → rowsFor img t (spots n (treeAt img i)) ≡ identRows img t n i
+  pub ident-rows : {i : ℕ} → Is img (kindOf identTermKind) i → (n : ℕ) → rowsFor img t (spots n (treeAt img i)) ≡ identRows img t n i
   unfolding spots nodeOf kindOf
   ident-rows is n = ap (λ (u : Tree). rowsFor img t (spots n u)) (tree-of img is)
 
@@ -173,19 +174,19 @@ module _ (img : List ℕ) (t : Table) where
       ∙ ap (rowsFor img t) (e (kindAt img n) (shapes img n (child k ∷ fs) 0) (ordered cl (allKids img n (child k ∷ fs) 0)) ∙ ap (spotsFirst n) (straight (allKids img n (child k ∷ fs) 0)))
 
   -- an if-var: its type, then its term
-  pub ifVar-rows : {n : ℕ} → Is img (kindOf 33) n
+  pub ifVar-rows : {n : ℕ} → Is img (kindOf varIfAtomKind) n
       → rowsIn img t n ≡ rowsFor img t (spots n (treeAt img (field img n 1))) ++ rowsFor img t (spots n (treeAt img (field img n 0)))
   unfolding threads allKids ordered kindOf
   ifVar-rows {n} is = inside is refl ∙ ap (seqRows n) (kids-are is) ∙ seq-two n (treeAt img (field img n 1)) (treeAt img (field img n 0))
 
   -- a defined-then: its variable before its term
-  pub undefined-rows : {n : ℕ} → Is img (kindOf 34) n → field img n 0 ≡ 0 → rowsIn img t n ≡ rowsFor img t (spots n (treeAt img (field img n 1)))
+  pub undefined-rows : {n : ℕ} → Is img (kindOf definedThenAtomKind) n → field img n 0 ≡ 0 → rowsIn img t n ≡ rowsFor img t (spots n (treeAt img (field img n 1)))
   unfolding rowsIn spots nodeOf kindOf allKids ordered
   undefined-rows {n} is e =
       ap (λ (u : Tree). rowsFor img t (spots 0 u)) (tree-of img is)
       ∙ ap (λ (x : ℕ). rowsFor img t (spotsBack n (swap (append (elim x as (λ _. Trees) [ zero ↦ none | suc m ↦ treeAt img m ◂ none ]) (treeAt img (field img n 1) ◂ none))))) e
 
-  pub defined-rows : {n : ℕ} → Is img (kindOf 34) n → (m : ℕ) → field img n 0 ≡ suc m
+  pub defined-rows : {n : ℕ} → Is img (kindOf definedThenAtomKind) n → (m : ℕ) → field img n 0 ≡ suc m
       → rowsIn img t n ≡ rowsFor img t (spots n (treeAt img m)) ++ rowsFor img t (spots n (treeAt img (field img n 1)))
   unfolding rowsIn spots nodeOf kindOf allKids ordered
   defined-rows {n} is m e =
@@ -231,7 +232,7 @@ module _ (img : List ℕ) (t : Table) where
   unfoldable pub blockRows : (n c j : ℕ) → List Row
   blockRows n c j = seqRows n (blocks img n c j)
 
-  pub branch-rows : {n : ℕ} → Is img (kindOf 39) n → rowsIn img t n ≡ blockRows n (field img n 0) 1
+  pub branch-rows : {n : ℕ} → Is img (kindOf branchStmtKind) n → rowsIn img t n ≡ blockRows n (field img n 0) 1
   unfolding threads allKids ordered blockRows kindOf
   branch-rows {n} is = inside is refl ∙ ap (seqRows n) (kids-are is ∙ append-none _)
 

@@ -6,6 +6,8 @@ use mathlib.Core.Option.{Option, none as nothing}
 use Prim.Native.Nat.{ℕ, zero, suc, _+_, _-_, _<_, _≤_}
 use native.Mathlib.Omega.{arith}
 use native.Mathlib.Nat.{sub-zero, add-zero}
+use denote.Enum.Declared.{tagOf}
+use types.Run.{OneOf, miss}
 use lib.Dec.{eqb}
 use lib.ListN.{length, getD, length-append}
 use Rattle.ast.specs.Image.{nodes, field, last}
@@ -13,10 +15,19 @@ use Rattle.ast.specs.Kinds.{outer, inner, root, decl, signature, rule, enum, mo
 use Rattle.ast.specs.Tree.{Tree, node, block, Trees, none, _◂_, ordered, treeAt}
 use Rattle.ast.specs.Items.{items, below}
 use Rattle.ast.specs.Is.{Is, kindBy}
+use Rattle.ast.specs.Named.{constDeclKind, ctorDeclKind, declKind, enumDeclKind, funcDeclKind, modelDeclKind, predDeclKind, ruleDeclKind, stmtKind, typeDeclKind}
 use Rattle.ast.specs.Tests.{verdict}
 use Rattle.ast.proofs.Row.{append, append-none, Child, Items, FormedFields, allKids, next, ends, nodeOf}
-use Rattle.ast.proofs.Shapes.{tree-of, row, child-is, case-kids, case-one, case-child, case-last, run-item, run-list, run-tail}
+use Rattle.ast.proofs.Shapes.{tree-of, row, child-is, case-kids, case-one, case-child, run-item, run-list, run-tail}
 use Rattle.ast.proofs.Accepted.{sized}
+use Rattle.typed.specs.Nodes.{declAt}
+use Rattle.typed.specs.RowShapes.{Listed, WordList}
+use Rattle.typed.specs.declared.nodes.NodeList.{NodeList}
+use Rattle.typed.specs.declared.nodes.Decl.{Decl}
+use Rattle.typed.specs.declared.nodes.Decl.the-variants as decl-of
+use Rattle.typed.proofs.nodes.Decl as Decls
+use Rattle.typed.proofs.Enums.{DeclIs, decl-is}
+use Rattle.typed.proofs.Lists.{at-list}
 use Rattle.table.specs.Table.{Table}
 use Rattle.rows.specs.Rows.{Row, Appended}
 use Rattle.scopes.proofs.Rooting.{root-is}
@@ -24,7 +35,7 @@ use Rattle.rows.proofs.Parts.{Left, left-start, left-next, left-end}
 use Rattle.occurrences.specs.Spots.{Spot, spots, spotsSeq, ruleSpots}
 use Rattle.ast.specs.Rules.{Rule, rules, rulesAll, rulesOf, moduleRules}
 use Rattle.occurrences.specs.Occurrences.{found, listed, rowsFor, ruleRows, allRows, occurrenceRows, rowsByRule}
-use Rattle.occurrences.specs.Promises.{rowsAt, joined, listsIn, listsAt, ReadyRun, Listing, ListingRun, Whole}
+use Rattle.occurrences.specs.Promises.{rowsAt, rowsOf, joined, listsIn, listsAt, listsOf, ReadyRun, ReadyAll, Listing, ListingRun, ListingAll, Whole}
 use Rattle.occurrences.proofs.CollectRows.{bare, rows-append, owner}
 use Rattle.occurrences.proofs.CollectSteps.{left-count}
 
@@ -34,7 +45,7 @@ joined-append [] b = refl
 joined-append (l ∷ a) b = ap (λ (k : List Row). l ++ k) (joined-append a b) ∙ sym (append-assoc l (joined a) (joined b))
 
 module _ (img : List ℕ) (t : Table) where
-  pub all-joined : (rs : List Rule) → allRows img t rs ≡ joined (rowsByRule img t rs)
+  all-joined : (rs : List Rule) → allRows img t rs ≡ joined (rowsByRule img t rs)
   unfolding allRows joined rowsByRule
   all-joined [] = refl
   all-joined (r ∷ rs) = ap (λ (k : List Row). ruleRows img t r ++ k) (all-joined rs)
@@ -64,7 +75,7 @@ module _ (img : List ℕ) (t : Table) where
 
 -- the declarations ---------------------------------------------------------------------------------------------------------
 abbrev declKinds : List ℕ
-declKinds = 2 ∷ 3 ∷ 4 ∷ 5 ∷ 6 ∷ 7 ∷ 8 ∷ []
+declKinds = typeDeclKind ∷ predDeclKind ∷ funcDeclKind ∷ constDeclKind ∷ ruleDeclKind ∷ enumDeclKind ∷ modelDeclKind ∷ []
 
 abbrev unmeant : ℕ → Option ℕ
 unmeant x = nothing
@@ -78,25 +89,29 @@ module _ (img : List ℕ) (t : Table) where
   unfolding listsAt listsIn items rules
   lists-more n c j = lists-append img t (rules img unmeant (treeAt img (field img n j))) (rulesAll img unmeant (items img n c (j + 1)))
 
-  pub items-lists : (n j count i : ℕ) → i < count
+  items-lists : (n j count i : ℕ) → i < count
       → listsAt img t n (count - i) (j + i) ≡ listsIn img t (field img n (j + i)) ++ listsAt img t n (count - (i + 1)) (j + (i + 1))
   items-lists n j count i h =
       ap (λ (c : ℕ). listsAt img t n c (j + i)) (let z : count - i ≡ suc (count - (i + 1)) = omega arith in z)
       ∙ lists-more n (count - (i + 1)) (j + i)
       ∙ ap (λ (k : ℕ). listsIn img t (field img n (j + i)) ++ listsAt img t n (count - (i + 1)) k) (let z : j + i + 1 ≡ j + (i + 1) = omega arith in z)
 
-  pub items-done : (n j count i : ℕ) → count ≤ i → listsAt img t n (count - i) (j + i) ≡ []
-  items-done n j count i h = ap (λ (c : ℕ). listsAt img t n c (j + i)) (let z : count - i ≡ 0 = omega arith in z) ∙ lists-none n (j + i)
+  -- what is left of a list after i of its declarations
+  abbrev pub listsLeft : NodeList → ℕ → List (List Row)
+  listsLeft l i = listsAt img t (l .node .0) (l .count - i) (l .first + i)
 
-  pub items-all : (n j count : ℕ) → listsAt img t n count j ≡ listsAt img t n (count - 0) (j + 0)
-  items-all n j count = ap₂ (listsAt img t n) (sym (sub-zero count)) (sym (add-zero j))
+  pub lists-done : (l : NodeList) (i : ℕ) → l .count ≤ i → listsLeft l i ≡ []
+  lists-done l i h = ap (λ (c : ℕ). listsAt img t (l .node .0) c (l .first + i)) (let z : l .count - i ≡ 0 = omega arith in z) ∙ lists-none (l .node .0) (l .first + i)
+
+  pub lists-all : (l : NodeList) → listsOf img t l ≡ listsLeft l 0
+  lists-all l = ap₂ (listsAt img t (l .node .0)) (sym (sub-zero (l .count))) (sym (add-zero (l .first)))
 
   lists-one : (u : Tree) → rowsByRule img t (rulesAll img unmeant (u ◂ none)) ≡ rowsByRule img t (rules img unmeant u)
   unfolding rules
   lists-one u = ap (rowsByRule img t) (append-nil (rules img unmeant u))
 
   -- a declaration is that of its case
-  decl-lists : {n : ℕ} → Is img (kindOf 1) n → (x : ℕ) → x ≡ field img n 0 → eqb (getD declKinds x noChild) noChild ≡ false → listsIn img t n ≡ listsIn img t (field img n 1)
+  decl-lists : {n : ℕ} → Is img (kindOf declKind) n → (x : ℕ) → x ≡ field img n 0 → eqb (getD declKinds x noChild) noChild ≡ false → listsIn img t n ≡ listsIn img t (field img n 1)
   unfolding listsIn rules kindOf ordered nodeOf
   decl-lists {n} is x q s =
       ap (λ (u : Tree). rowsByRule img t (rules img unmeant u)) (tree-of img is)
@@ -109,7 +124,7 @@ module _ (img : List ℕ) (t : Table) where
     pub listing : Listing img t (kindOf k) d c
     pub whole : listsIn img t n ≡ listsIn img t d
 
-  pub declared : {n d c : ℕ} → Listing img t (kindOf 1) n c → (x : ℕ) → x ≡ field img n 0 → d ≡ field img n 1 → eqb (getD declKinds x noChild) noChild ≡ false
+  declared : {n d c : ℕ} → Listing img t (kindOf declKind) n c → (x : ℕ) → x ≡ field img n 0 → d ≡ field img n 1 → eqb (getD declKinds x noChild) noChild ≡ false
       → Declared (getD declKinds x noChild) n d c
   unfolding kindOf
   declared {n} {d} {c} p x q r s =
@@ -126,146 +141,176 @@ module _ (img : List ℕ) (t : Table) where
   unfolding listsIn rules rowsByRule nodeOf
   signature-none is = ap (λ (u : Tree). rowsByRule img t (rules img unmeant u)) (tree-of img is)
 
-  ctors-none : {kd : Kind} {n : ℕ} → Is img kd n → (c j : ℕ) → Items img n 9 c j → listsAt img t n c j ≡ []
+  ctors-none : {kd : Kind} {n : ℕ} → Is img kd n → (c j : ℕ) → Items img n ctorDeclKind c j → listsAt img t n c j ≡ []
   unfolding kindOf
   ctors-none is zero j h = lists-none _ j
   ctors-none {n = n} is (suc c) j h =
       lists-more n c j
-      ∙ ap₂ _++_ (signature-none (child-is img is (subst (λ (k : ℕ). Child img n 9 (field img n k)) (add-zero j) (h 0 (omega arith)))))
-      (ctors-none is c (j + 1) (λ i l. subst (λ (k : ℕ). Child img n 9 (field img n k)) (let z : j + suc i ≡ j + 1 + i = omega arith in z) (h (suc i) (omega arith))))
+      ∙ ap₂ _++_ (signature-none (child-is img is (subst (λ (k : ℕ). Child img n ctorDeclKind (field img n k)) (add-zero j) (h 0 (omega arith)))))
+      (ctors-none is c (j + 1) (λ i l. subst (λ (k : ℕ). Child img n ctorDeclKind (field img n k)) (let z : j + suc i ≡ j + 1 + i = omega arith in z) (h (suc i) (omega arith))))
 
-  enum-none : {n : ℕ} → Is img (kindOf 7) n → listsIn img t n ≡ []
+  enum-none : {n : ℕ} → Is img (kindOf enumDeclKind) n → listsIn img t n ≡ []
   unfolding listsIn rules nodeOf kindOf allKids ordered FormedFields next listsAt
   enum-none {n} is =
       ap (λ (u : Tree). rowsByRule img t (rules img unmeant u)) (tree-of img is)
       ∙ ap (λ (us : Trees). rowsByRule img t (rulesAll img unmeant us)) (append-none (items img n (field img n 1) 2))
       ∙ ctors-none is (field img n 1) 2 ((row img is) .1 .0)
 
-  pub decl-none : {n c : ℕ} → Listing img t (kindOf 1) n c → (4 ≡ field img n 0 → ⊥) → (6 ≡ field img n 0 → ⊥) → listsIn img t n ≡ []
-  unfolding kindOf
-  decl-none {n} {c} p h k = go (field img n 0) refl (case-last img (outer decl) declKinds (p .is))
-    where
-      at : (x : ℕ) → x ≡ field img n 0 → eqb (getD declKinds x noChild) noChild ≡ false → Declared (getD declKinds x noChild) n (field img n 1) c
-      at x q s = declared p x q refl s
+  -- the case of a declaration: a rule, a model, or one without rules
+  abbrev pub DeclCase : ℕ → ℕ → Decl → Type 0
+  DeclCase n c (decl-of.Type i) = listsIn img t n ≡ []
+  DeclCase n c (decl-of.Pred i) = listsIn img t n ≡ []
+  DeclCase n c (decl-of.Func i) = listsIn img t n ≡ []
+  DeclCase n c (decl-of.Const i) = listsIn img t n ≡ []
+  DeclCase n c (decl-of.Rule i) = Declared ruleDeclKind n (i .0 .0) c
+  DeclCase n c (decl-of.Enum i) = listsIn img t n ≡ []
+  DeclCase n c (decl-of.Model i) = Declared modelDeclKind n (i .0 .0) c
 
-      go : (x : ℕ) → x ≡ field img n 0 → x < 7 → listsIn img t n ≡ []
-      go zero q l = let d = at 0 q refl in d .whole ∙ signature-none (d .listing .is)
-      go (suc zero) q l = let d = at 1 q refl in d .whole ∙ signature-none (d .listing .is)
-      go (suc (suc zero)) q l = let d = at 2 q refl in d .whole ∙ signature-none (d .listing .is)
-      go (suc (suc (suc zero))) q l = let d = at 3 q refl in d .whole ∙ signature-none (d .listing .is)
-      go (suc (suc (suc (suc zero)))) q l = absurd (h q)
-      go (suc (suc (suc (suc (suc zero))))) q l = let d = at 5 q refl in d .whole ∙ enum-none (d .listing .is)
-      go (suc (suc (suc (suc (suc (suc zero)))))) q l = absurd (k q)
-      go (suc (suc (suc (suc (suc (suc (suc x))))))) q l = absurd (omega arith)
+  pub decl-case : {n c : ℕ} {o s : Decl} → Listing img t (kindOf declKind) n c → o ≡ declAt img n → o ≡ s → DeclCase n c s
+  unfolding kindOf
+  decl-case {n} {c} {s = s} p q r = go s (decl-is img (p .is) q r)
+    where
+      go : (s : Decl) → DeclIs img n s → DeclCase n c s
+      go (decl-of.Type i) h = let d = declared p 0 (h .number) (h .child) refl in d .whole ∙ signature-none (d .listing .is)
+      go (decl-of.Pred i) h = let d = declared p 1 (h .number) (h .child) refl in d .whole ∙ signature-none (d .listing .is)
+      go (decl-of.Func i) h = let d = declared p 2 (h .number) (h .child) refl in d .whole ∙ signature-none (d .listing .is)
+      go (decl-of.Const i) h = let d = declared p 3 (h .number) (h .child) refl in d .whole ∙ signature-none (d .listing .is)
+      go (decl-of.Rule i) h = declared p 4 (h .number) (h .child) refl
+      go (decl-of.Enum i) h = let d = declared p 5 (h .number) (h .child) refl in d .whole ∙ enum-none (d .listing .is)
+      go (decl-of.Model i) h = declared p 6 (h .number) (h .child) refl
+
+  -- Type, Pred, Func, Const or Enum
+  abbrev others : List ℕ
+  others = 0 ∷ 1 ∷ 2 ∷ 3 ∷ 5 ∷ []
+
+  pub decl-none : {n c : ℕ} {o : Decl} → Listing img t (kindOf declKind) n c → o ≡ declAt img n → OneOf others (tagOf Decls.the-type o) → listsIn img t n ≡ []
+  decl-none {n} {c} {o} p q k = go o refl k
+    where
+      go : (s : Decl) → o ≡ s → OneOf others (tagOf Decls.the-type s) → listsIn img t n ≡ []
+      go (decl-of.Type i) r k = decl-case p q r
+      go (decl-of.Pred i) r k = decl-case p q r
+      go (decl-of.Func i) r k = decl-case p q r
+      go (decl-of.Const i) r k = decl-case p q r
+      go (decl-of.Rule i) r k = absurd (miss others 4 tt k)
+      go (decl-of.Enum i) r k = decl-case p q r
+      go (decl-of.Model i) r k = absurd (miss others 6 tt k)
 
   -- a rule: its statements ---------------------------------------------------------------------------------------------------
   -- statements do not depend on the node above
-  items-owner : {kd : Kind} {n : ℕ} → Is img kd n → (c j : ℕ) → Items img n 36 c j → rowsFor img t (spotsSeq 0 (items img n c j)) ≡ rowsAt img t n c j
+  items-owner : {kd : Kind} {n : ℕ} → Is img kd n → (c j : ℕ) → Items img n stmtKind c j → rowsFor img t (spotsSeq 0 (items img n c j)) ≡ rowsAt img t n c j
   unfolding rowsAt items spots kindOf bare
   items-owner is zero j h = refl
   items-owner {n = n} is (suc c) j h =
-      let s = child-is img is (subst (λ (k : ℕ). Child img n 36 (field img n k)) (add-zero j) (h 0 (omega arith))) in
+      let s = child-is img is (subst (λ (k : ℕ). Child img n stmtKind (field img n k)) (add-zero j) (h 0 (omega arith))) in
       rows-append img t (spots 0 (treeAt img (field img n j))) (spotsSeq 0 (items img n c (j + 1)))
       ∙ ap₂ _++_ (owner img t s refl 0 ∙ sym (owner img t s refl n))
-      (items-owner is c (j + 1) (λ i l. subst (λ (k : ℕ). Child img n 36 (field img n k)) (let z : j + suc i ≡ j + 1 + i = omega arith in z) (h (suc i) (omega arith))))
+      (items-owner is c (j + 1) (λ i l. subst (λ (k : ℕ). Child img n stmtKind (field img n k)) (let z : j + suc i ≡ j + 1 + i = omega arith in z) (h (suc i) (omega arith))))
       ∙ sym (rows-append img t (spots n (treeAt img (field img n j))) (spotsSeq n (items img n c (j + 1))))
 
-  rule-lists : {n : ℕ} → Is img (kindOf 6) n → listsIn img t n ≡ rowsFor img t (spotsSeq 0 (items img n (field img n 1) 2)) ∷ []
+  rule-lists : {n : ℕ} → Is img (kindOf ruleDeclKind) n → listsIn img t n ≡ rowsFor img t (spotsSeq 0 (items img n (field img n 1) 2)) ∷ []
   unfolding listsIn rules nodeOf kindOf allKids ordered next rowsByRule ruleRows
   rule-lists {n} is =
       ap (λ (u : Tree). rowsByRule img t (rules img unmeant u)) (tree-of img is)
       ∙ ap (λ (us : Trees). rowsFor img t (spotsSeq 0 us) ∷ []) (append-none (items img n (field img n 1) 2))
 
-  pub record RuleRun (n size c : ℕ) : Type 0 where
-    pub run : ReadyRun img t 36 n 2 size c
-    pub single : listsIn img t n ≡ rowsAt img t n size 2 ∷ []
-    pub whole : joined (listsIn img t n) ≡ rowsAt img t n size 2
+  pub record RuleRun (n : ℕ) (l : NodeList) (c : ℕ) : Type 0 where
+    pub run : ReadyAll img t stmtKind l c
+    pub single : listsIn img t n ≡ rowsOf img t l ∷ []
+    pub whole : joined (listsIn img t n) ≡ rowsOf img t l
 
-  pub ruleRun : {n size c : ℕ} → Listing img t (kindOf 6) n c → size ≡ field img n 1 → RuleRun n size c
+  pub ruleRun : {n x c : ℕ} {l : NodeList} → Listing img t (kindOf ruleDeclKind) n c → WordList img n x l → RuleRun n l c
   unfolding kindOf FormedFields ends next joined
-  ruleRun {n} {size} {c} p q =
-      subst (λ (x : ℕ). RuleRun n x c) (sym q)
-      (record {
-        run = record {
-          run = run-tail img (p .is) refl refl;
-          room = record { sorted = p .sorted; fits = (let f = subst (λ (l : List Row). c + length l ≤ nodes img) w (p .few) in let z = (sized img (p .is .accepted)) .fewNodes in omega arith) };
-        };
-        single = s;
-        whole = w;
-      })
+  ruleRun {n} {c = c} {l} p q =
+      record {
+        run = at-list img (λ m j k. ReadyRun img t stmtKind m j k c) (q .list)
+            (record {
+              run = run-tail img (p .is) refl refl;
+              room = record { sorted = p .sorted; fits = (let f = subst (λ (k : List Row). c + length k ≤ nodes img) w (p .few) in let z = (sized img (p .is .accepted)) .fewNodes in omega arith) };
+            });
+        single = at-list img (λ m j k. listsIn img t n ≡ rowsAt img t m k j ∷ []) (q .list) s;
+        whole = at-list img (λ m j k. joined (listsIn img t n) ≡ rowsAt img t m k j) (q .list) w;
+      }
     where
-      hs : Items img n 36 (field img n 1) 2
-      hs = (row img (p .is)) .1 .0
-
       s : listsIn img t n ≡ rowsAt img t n (field img n 1) 2 ∷ []
-      s = rule-lists (p .is) ∙ ap (λ (l : List Row). l ∷ []) (items-owner (p .is) (field img n 1) 2 hs)
+      s = rule-lists (p .is) ∙ ap (λ (k : List Row). k ∷ []) (items-owner (p .is) (field img n 1) 2 ((row img (p .is)) .1 .0))
 
       w : joined (listsIn img t n) ≡ rowsAt img t n (field img n 1) 2
       w = ap joined s ∙ append-nil (rowsAt img t n (field img n 1) 2)
 
   -- a list of declarations ------------------------------------------------------------------------------------------------------
-  pub record ModelRun (n size c : ℕ) : Type 0 where
-    pub run : ListingRun img t n 2 size c
-    pub whole : listsIn img t n ≡ listsAt img t n size 2
+  pub record ModelRun (n : ℕ) (l : NodeList) (c : ℕ) : Type 0 where
+    pub node : l .node .0 ≡ n
+    pub run : ListingAll img t l c
+    pub whole : listsIn img t n ≡ listsOf img t l
 
-  model-lists : {n : ℕ} → Is img (kindOf 8) n → listsIn img t n ≡ listsAt img t n (field img n 1) 2
+  model-lists : {n : ℕ} → Is img (kindOf modelDeclKind) n → listsIn img t n ≡ listsAt img t n (field img n 1) 2
   unfolding listsIn listsAt rules nodeOf kindOf allKids ordered next
   model-lists {n} is =
       ap (λ (u : Tree). rowsByRule img t (rules img unmeant u)) (tree-of img is)
       ∙ free-all img t _ unmeant (append (items img n (field img n 1) 2) none)
       ∙ ap (λ (us : Trees). rowsByRule img t (rulesAll img unmeant us)) (append-none (items img n (field img n 1) 2))
 
-  pub modelRun : {n size c : ℕ} → Listing img t (kindOf 8) n c → size ≡ field img n 1 → ModelRun n size c
+  pub modelRun : {n x c : ℕ} {l : NodeList} → Listing img t (kindOf modelDeclKind) n c → WordList img n x l → ModelRun n l c
   unfolding kindOf FormedFields ends next
-  modelRun {n} {size} {c} p q =
+  modelRun {n} {c = c} {l} p q =
       let w = model-lists (p .is) in
-      subst (λ (x : ℕ). ModelRun n x c) (sym q)
-      (record {
-        run = record { run = run-tail img (p .is) refl refl; sorted = p .sorted; few = subst (λ (l : List (List Row)). c + length (joined l) ≤ nodes img) w (p .few) };
-        whole = w;
-      })
+      record {
+        node = q .list .node;
+        run = at-list img (λ m j k. ListingRun img t m j k c) (q .list)
+            (record { run = run-tail img (p .is) refl refl; sorted = p .sorted; few = subst (λ (k : List (List Row)). c + length (joined k) ≤ nodes img) w (p .few) });
+        whole = at-list img (λ m j k. listsIn img t n ≡ listsAt img t m k j) (q .list) w;
+      }
 
   -- the i-th declaration of a list, where d rows stand before
-  pub record DeclItem (n j count i x d : ℕ) : Type 0 where
-    pub low : x < n
-    pub listing : Listing img t (kindOf 1) x d
-    pub more : listsAt img t n (count - i) (j + i) ≡ listsIn img t x ++ listsAt img t n (count - (i + 1)) (j + (i + 1))
+  pub record DeclItem (l : NodeList) (i x d : ℕ) : Type 0 where
+    pub low : x < l .node .0
+    pub within : i < l .count
+    pub listing : Listing img t (kindOf declKind) x d
+    pub more : listsLeft l i ≡ listsIn img t x ++ listsLeft l (i + 1)
 
-  pub declItem : {n j count i x c d : ℕ} → ListingRun img t n j count c → i < count → x ≡ field img n (j + i)
-      → d + length (joined (listsAt img t n (count - i) (j + i))) ≤ nodes img → DeclItem n j count i x d
-  declItem {n} {j} {count} {i} {x} {d = d} p l q f =
-      let m = items-lists n j count i l in
-      let h = run-item img (p .run) l refl in
-      subst (λ (y : ℕ). DeclItem n j count i y d) (sym q)
+  pub declItem : {i x c d : ℕ} {l : NodeList} → ListingAll img t l c → i < l .count → x ≡ field img (l .node .0) (l .first + i) → d + length (joined (listsLeft l i)) ≤ nodes img → DeclItem l i x d
+  declItem {i} {x} {d = d} {l} p h q f =
+      subst (λ (y : ℕ). DeclItem l i y d) (sym q)
       (record {
-        low = h .0 .below;
+        low = o .0 .below;
+        within = h;
         listing = record {
-          is = h .1;
+          is = o .1;
           sorted = p .sorted;
-          few = (let g = subst (λ (k : List Row). d + length k ≤ nodes img) (ap joined m ∙ joined-append (listsIn img t (field img n (j + i))) (listsAt img t n (count - (i + 1)) (j + (i + 1)))) f in let a = length-append (joined (listsIn img t (field img n (j + i)))) (joined (listsAt img t n (count - (i + 1)) (j + (i + 1)))) in omega arith);
+          few = (let g = subst (λ (k : List Row). d + length k ≤ nodes img) (ap joined m ∙ joined-append (listsIn img t y) (listsLeft l (i + 1))) f in let a = length-append (joined (listsIn img t y)) (joined (listsLeft l (i + 1))) in omega arith);
         };
         more = m;
       })
+    where
+      y : ℕ
+      y = field img (l .node .0) (l .first + i)
 
-  -- the loop over a list of declarations
-  pub decls-start : {n j count c : ℕ} {ws : List ℕ} → ListingRun img t n j count c
-      → Left (nodes img) (joined (listsAt img t n count j)) (joined (listsAt img t n (count - 0) (j + 0))) c ws c ws
-  decls-start {n} {j} {count} p = left-start _ _ (ap joined (items-all n j count)) (let f = p .few in let z = (sized img (p .run .accepted)) .fewNodes in omega arith)
+      o : Child img (l .node .0) declKind y × Is img (kindOf declKind) y
+      o = run-item img (p .run) h refl
 
-  pub decls-item : {n j count i x c d : ℕ} {ws us : List ℕ} → ListingRun img t n j count c → i < count → x ≡ field img n (j + i)
-      → Left (nodes img) (joined (listsAt img t n count j)) (joined (listsAt img t n (count - i) (j + i))) c ws d us → DeclItem n j count i x d
-  decls-item p l q h = declItem p l q (let e = left-count h in let f = p .few in omega arith)
+      m : listsLeft l i ≡ listsIn img t y ++ listsLeft l (i + 1)
+      m = items-lists (l .node .0) (l .first) (l .count) i h
 
-  pub decls-next : {n j count i x c d e : ℕ} {ws us vs : List ℕ} → Left (nodes img) (joined (listsAt img t n count j)) (joined (listsAt img t n (count - i) (j + i))) c ws d us
-      → DeclItem n j count i x d → Appended (nodes img) (joined (listsIn img t x)) d us e vs → length vs ≡ length us
-      → Left (nodes img) (joined (listsAt img t n count j)) (joined (listsAt img t n (count - (i + 1)) (j + (i + 1)))) c ws e vs
-  decls-next {n} {j} {count} {i} {x} h k a long =
-      left-next h (ap joined (k .more) ∙ joined-append (listsIn img t x) (listsAt img t n (count - (i + 1)) (j + (i + 1)))) a long
+  -- the loop that collects the rows of a list of declarations: after i of them it stands at d
+  pub record DeclsLeft (l : NodeList) (i c : ℕ) (ws : List ℕ) (d : ℕ) (us : List ℕ) : Type 0 where
+    pub within : i ≤ l .count
+    pub left : Left (nodes img) (joined (listsOf img t l)) (joined (listsLeft l i)) c ws d us
 
-  pub decls-end : (n j : ℕ) {count i c d : ℕ} {ws us : List ℕ} → Left (nodes img) (joined (listsAt img t n count j)) (joined (listsAt img t n (count - i) (j + i))) c ws d us → count ≤ i
-      → Appended (nodes img) (joined (listsAt img t n count j)) c ws d us
+  pub decls-start : {c : ℕ} {l : NodeList} {ws : List ℕ} → ListingAll img t l c → DeclsLeft l 0 c ws c ws
+  decls-start {l = l} p =
+      record { within = omega arith; left = left-start _ _ (ap joined (lists-all l)) (let f = p .few in let z = (sized img (p .run .accepted)) .fewNodes in omega arith) }
+
+  pub decls-item : {i x c d : ℕ} {l : NodeList} {ws us : List ℕ} → ListingAll img t l c → DeclsLeft l i c ws d us → i < l .count → x ≡ field img (l .node .0) (l .first + i) → DeclItem l i x d
+  decls-item p k h q = declItem p h q (let e = left-count (k .left) in let f = p .few in omega arith)
+
+  pub decls-next : {i x c d e : ℕ} {l : NodeList} {ws us vs : List ℕ} → DeclsLeft l i c ws d us → DeclItem l i x d → Appended (nodes img) (joined (listsIn img t x)) d us e vs → length vs ≡ length us
+      → DeclsLeft l (i + 1) c ws e vs
+  decls-next {i} {x} {l = l} k o a long =
+      record { within = (let h = o .within in omega arith); left = left-next (k .left) (ap joined (o .more) ∙ joined-append (listsIn img t x) (listsLeft l (i + 1))) a long }
+
+  pub decls-end : {i c d : ℕ} {l : NodeList} {ws us : List ℕ} → DeclsLeft l i c ws d us → l .count ≤ i → Appended (nodes img) (joined (listsOf img t l)) c ws d us
   unfolding joined
-  decls-end n j {count} {i} h l = left-end h (ap joined (items-done n j count i l))
+  decls-end {i} {l = l} k h = left-end (k .left) (ap joined (lists-done l i h))
 
   -- the module --------------------------------------------------------------------------------------------------------------
   module-lists : verdict img ≡ 0 → rowsByRule img t (moduleRules img) ≡ listsAt img t (last img) (field img (last img) 0) 1
@@ -275,19 +320,23 @@ module _ (img : List ℕ) (t : Table) where
       ∙ free-all img t _ unmeant (append (items img (last img) (field img (last img) 0) 1) none)
       ∙ ap (λ (us : Trees). rowsByRule img t (rulesAll img unmeant us)) (append-none (items img (last img) (field img (last img) 0) 1))
 
-  pub record ModuleRun (n size : ℕ) : Type 0 where
-    pub run : ListingRun img t n 1 size 0
-    pub by-rule : rowsByRule img t (moduleRules img) ≡ listsAt img t n size 1
-    pub whole : occurrenceRows img t ≡ joined (listsAt img t n size 1)
+  pub record ModuleRun (l : NodeList) : Type 0 where
+    pub run : ListingAll img t l 0
+    pub by-rule : rowsByRule img t (moduleRules img) ≡ listsOf img t l
+    pub whole : occurrenceRows img t ≡ joined (listsOf img t l)
 
-  pub moduleRun : {n size : ℕ} → Whole img t → n ≡ last img → size ≡ field img n 0 → ModuleRun n size
+  pub moduleRun : {n : ℕ} {l : NodeList} → Whole img t → n ≡ last img → Listed img n 0 l → ModuleRun l
   unfolding kindOf FormedFields ends next occurrenceRows
-  moduleRun {n} {size} p q r =
-      subst (λ (x : ℕ). ModuleRun n x) (sym r) (subst (λ (x : ℕ). ModuleRun x (field img x 0)) (sym q)
-      (record { run = record { run = run-list img is refl; sorted = p .sorted; few = subst (λ (l : List Row). 0 + length l ≤ nodes img) w (let f = p .few in omega arith) }; by-rule = b; whole = w }))
+  moduleRun {n} {l} p e r =
+      record {
+        run = at-list img (λ m j k. ListingRun img t m j k 0) q
+            (record { run = run-list img (root-is img (p .accepted)) refl; sorted = p .sorted; few = subst (λ (k : List Row). 0 + length k ≤ nodes img) w (let f = p .few in omega arith) });
+        by-rule = at-list img (λ m j k. rowsByRule img t (moduleRules img) ≡ listsAt img t m k j) q b;
+        whole = at-list img (λ m j k. occurrenceRows img t ≡ joined (listsAt img t m k j)) q w;
+      }
     where
-      is : Is img (kindOf 0) (last img)
-      is = root-is img (p .accepted)
+      q : Listed img (last img) 0 l
+      q = subst (λ (x : ℕ). Listed img x 0 l) e r
 
       b : rowsByRule img t (moduleRules img) ≡ listsAt img t (last img) (field img (last img) 0) 1
       b = module-lists (p .accepted)

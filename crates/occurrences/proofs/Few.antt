@@ -6,17 +6,17 @@ use mathlib.Core.Option.{Option, none as nothing, some}
 use Prim.Native.Nat.{ℕ, suc, _+_, _<_, _≤_}
 use native.Mathlib.Omega.{arith}
 use native.Mathlib.Decide.{decLt}
-use lib.Dec.{eqb, leb}
+use lib.Dec.{leb}
 use lib.ListN.{length, length-append}
 use Rattle.ast.specs.Declarations.{orElse}
-use Rattle.ast.specs.Image.{nodes, kindAt, nameOf, last}
+use Rattle.ast.specs.Image.{nodes, last}
 use Rattle.ast.specs.Kinds.{outer, inner, root, decl, signature, rule, enum, model, plain, term, ident, head, headMember, member, case, ifVar, definedThen, arg}
 use Rattle.ast.specs.Tests.{times, verdict}
 use Rattle.ast.specs.Tree.{Tree, node, block, Trees, none, _◂_, treeAt, size, sizes}
 use Rattle.ast.proofs.Accepted.{sized}
 use Rattle.ast.proofs.Count.{nodesOf, nodesAll, is-same, nothing-else, tree-size}
 use Rattle.ast.proofs.Unfold.{All, nil, cons, All-append, All-split}
-use Rattle.table.specs.Table.{Table, lookup, exitAt}
+use Rattle.table.specs.Table.{Table, isVar, lookup}
 use Rattle.rows.specs.Rows.{Row, row}
 use Rattle.occurrences.specs.Spots.{Spot, spots, spotsSeq, spotsBack, spotsFirst, ruleSpots}
 use Rattle.ast.specs.Rules.{Rule, saysAll, rules, rulesAll, rulesOf, moduleRules}
@@ -113,7 +113,7 @@ module _ (img : List ℕ) (t : Table) where
   listed-few : (n : ℕ) (o : Option ℕ) (l : List Row) → length (listed img t n o l) ≤ suc (length l)
   unfolding listed
   listed-few n nothing l = omega arith
-  listed-few n (some i) l = go (eqb (kindAt img i) 13)
+  listed-few n (some i) l = go (isVar img (some i))
     where
       go : (b : Bool) → length {A = Row} (elim b as (λ _. List Row) [ true ↦ row n i ∷ l | false ↦ l ]) ≤ suc (length l)
       go true = omega arith
@@ -197,25 +197,27 @@ lone-in {P} all (v ∷ left) w e (more p h) = go (leb 2 (timesBound (v .right) a
     go false q r = let z : w ≡ v = cc in subst P (sym z) p
 
 module _ (img : List ℕ) (t : Table) (symbols : Nodes img t) where
+  -- what lookup gives is a node
+  pub lookup-low : (s x m : ℕ) → lookup img t s x ≡ some m → m < nodes img
+  unfolding lookup
+  lookup-low s x m e = climb-low img t symbols (suc s) s x m e
+
   abbrev pub Below : Row → Type 0
   Below w = (w .left < nodes img) × (w .right < nodes img)
 
   listed-below : (n : ℕ) (o : Option ℕ) (l : List Row) → n < nodes img → ((m : ℕ) → o ≡ some m → m < nodes img) → Each Below l → Each Below (listed img t n o l)
   unfolding listed
   listed-below n nothing l h f a = a
-  listed-below n (some i) l h f a = go (eqb (kindAt img i) 13)
+  listed-below n (some i) l h f a = go (isVar img (some i))
     where
       go : (b : Bool) → Each Below (elim b as (λ _. List Row) [ true ↦ row n i ∷ l | false ↦ l ])
       go true = more (h, f i refl) a
       go false = a
 
   rows-below : (l : List Spot) → All (λ v. v < nodes img) (owners l) → Each Below (rowsFor img t l)
-  unfolding rowsFor lookup
+  unfolding rowsFor
   rows-below [] a = empty
-  rows-below (s ∷ l) (cons h a) =
-      listed-below (s .node) (found img t s) (rowsFor img t l) h
-      (λ m e. climb-low img t symbols (suc (exitAt img (t .words) (s .node))) (exitAt img (t .words) (s .node)) (nameOf img (s .ident)) m e)
-      (rows-below l a)
+  rows-below (s ∷ l) (cons h a) = listed-below (s .node) (found img t s) (rowsFor img t l) h (lookup-low _ _) (rows-below l a)
 
   -- the first lone row of some rules, each of whose nodes are below N
   pub data Within : List Rule → Type 0 where

@@ -12,8 +12,10 @@ use Rattle.ast.specs.Kinds.{Kind}
 use Rattle.ast.specs.Tree.{treeAt}
 use Rattle.ast.specs.Items.{items}
 use Rattle.ast.specs.Is.{Is, Run}
+use Rattle.ast.specs.Named.{declKind}
 use Rattle.ast.specs.Promises.{bump, claimAll}
 use Rattle.ast.specs.Tests.{verdict}
+use Rattle.typed.specs.declared.nodes.NodeList.{NodeList}
 use Rattle.table.specs.Table.{Table}
 use Rattle.table.specs.Rising.{nodeAt, Sorted}
 use Rattle.rows.specs.Rows.{Row, row, rowsLength}
@@ -39,6 +41,10 @@ module _ (img : List ℕ) (t : Table) where
   unfoldable pub rowsAt : (n c j : ℕ) → List Row
   rowsAt n c j = rowsFor img t (spotsSeq n (items img n c j))
 
+  -- the rows of the nodes of a list
+  abbrev pub rowsOf : NodeList → List Row
+  rowsOf l = rowsAt (l .node .0) (l .count) (l .first)
+
   -- the rows of the rules of declaration n, a list for each rule; a rule's rows do not depend on what names mean outside
   unfoldable pub listsIn : ℕ → List (List Row)
   listsIn n = rowsByRule img t (rules img (λ x. nothing) (treeAt img n))
@@ -46,6 +52,10 @@ module _ (img : List ℕ) (t : Table) where
   -- of the c declarations that stand in the row of n from place j on
   unfoldable pub listsAt : (n c j : ℕ) → List (List Row)
   listsAt n c j = rowsByRule img t (rulesAll img (λ x. nothing) (items img n c j))
+
+  -- of the declarations of a list
+  abbrev pub listsOf : NodeList → List (List Row)
+  listsOf l = listsAt (l .node .0) (l .count) (l .first)
 
 unfoldable pub joined : List (List Row) → List Row
 joined [] = []
@@ -66,6 +76,10 @@ pub record ReadyRun (img : List ℕ) (t : Table) (k n j count c : ℕ) : Type 0 
   pub run : Run img k n j count
   pub room : Room img t (rowsAt img t n count j) c
 
+-- of the nodes of a list
+abbrev pub ReadyAll : List ℕ → Table → ℕ → NodeList → ℕ → Type 0
+ReadyAll img t k l c = ReadyRun img t k (l .node .0) (l .first) (l .count) c
+
 -- what the collector of a declaration asks: room for the rows of its rules in an array of N words, after the first c
 pub record Listing (img : List ℕ) (t : Table) (kd : Kind) (n c : ℕ) : Type 0 where
   pub is : Is img kd n
@@ -74,9 +88,13 @@ pub record Listing (img : List ℕ) (t : Table) (kd : Kind) (n c : ℕ) : Type 0
 
 -- the same of a run of declarations
 pub record ListingRun (img : List ℕ) (t : Table) (n j count c : ℕ) : Type 0 where
-  pub run : Run img 1 n j count
+  pub run : Run img declKind n j count
   pub sorted : Sorted (nodes img) (t .symbols) (t .words)
   pub few : c + length (joined (listsAt img t n count j)) ≤ nodes img
+
+-- of the declarations of a list
+abbrev pub ListingAll : List ℕ → Table → NodeList → ℕ → Type 0
+ListingAll img t l c = ListingRun img t (l .node .0) (l .first) (l .count) c
 
 -- the same of the whole module
 pub record Whole (img : List ℕ) (t : Table) : Type 0 where

@@ -7,7 +7,7 @@ use mathlib.Core.Option.{Option, none as nothing, some}
 use Prim.Native.Nat.{ℕ, _<_, _≤_}
 use native.Mathlib.Omega.{arith}
 use native.Mathlib.Nat.{eq-or-lt-of-le}
-use lib.ListN.{length}
+use lib.ListN.{length, getD}
 use lib.Seq.{getD-set-same}
 use Rattle.ast.specs.Image.{nodes, nameOf}
 use Rattle.ast.specs.Kinds.{outer, inner, root, decl, signature, rule, enum, model}
@@ -18,12 +18,13 @@ use Rattle.table.specs.Layout.{allOnes, parentPlace, scopePlace, nodePlace, tab
 use Rattle.table.specs.Rising.{scopeOf, nodeAt, parentAt}
 use Rattle.sound.specs.Sound.{isSymbol}
 use Rattle.table.specs.State.{Walked, childScope, ownSymbol, introduce, marked, back}
-use Rattle.table.specs.Table.{find, mark, newScope, newSymbol}
+use Rattle.table.specs.Table.{Table, find, mark, newScope, newSymbol}
 use Rattle.table.proofs.Frames.{SameRows, mark-word, scope-word, symbol-word, symbol-same, symbol-scope, symbol-node}
 use Rattle.ordered.specs.Walk.{occurs, walkSeq}
 use Rattle.ordered.specs.Promises.{Few}
 use Rattle.ordered.proofs.Kept.{mark-length, scope-length, symbol-length}
 use Rattle.ordered.proofs.Moves.{Moves as Walks, stay as rests, next as goes, marks as records, adds as brings, drops as leaves, seq-moves as walks-seq}
+use Rattle.scopes.specs.Resolve.{Unused, parent, scope, symbol}
 use Rattle.scopes.specs.Walk.{Listed, done, twice, recordedAll, enterName, andThen, enterNames, markAll, enterAll, visit, visitAll}
 use Rattle.scopes.proofs.Adds.{recordedAll-small, named, done-same, twice-done, opened}
 use Rattle.scopes.proofs.Namings.{Fit, Symbols, declaredAll-symbols, fit-smalls}
@@ -217,3 +218,52 @@ module _ (img : List ℕ) where
       let k = moves-good m h g in
       let l = g .live in
       record { long = k .long; live = omega arith; root = k .root; parents = k .parents; scopes = k .scopes; symbols = k .symbols }
+
+  -- an unused place was unused before, in a table of fewer scopes and symbols
+  pub unused-below : {t u : Table} {i : ℕ} → t .scopes ≤ u .scopes → t .symbols ≤ u .symbols → Unused img u i → Unused img t i
+  unused-below a b (parent k l h) = parent k (omega arith) h
+  unused-below a b (scope j l h) = scope j (omega arith) h
+  unused-below a b (symbol j l h) = symbol j (omega arith) h
+
+  pub unused-marked : (n a b : ℕ) (t : Table) → n < nodes img → {i : ℕ} → Unused img t i → getD ((mark img n a b t) .words) i 0 ≡ getD (t .words) i 0
+  unused-marked n a b t l (parent k p h) = mark-word img n a b t (parentPlace (nodes img) k) (omega arith) (omega arith)
+  unused-marked n a b t l (scope j p h) = mark-word img n a b t (scopePlace (nodes img) j) (omega arith) (omega arith)
+  unused-marked n a b t l (symbol j p h) = mark-word img n a b t (nodePlace (nodes img) j) (omega arith) (omega arith)
+
+  pub unused-opened : (p : ℕ) (t : Table) → t .scopes < nodes img → {i : ℕ} → Unused img (newScope img p t) i → getD ((newScope img p t) .words) i 0 ≡ getD (t .words) i 0
+  unfolding newScope
+  unused-opened p t l (parent k q h) = scope-word img p t (parentPlace (nodes img) k) (λ z. omega arith)
+  unused-opened p t l (scope j q h) = scope-word img p t (scopePlace (nodes img) j) (λ z. omega arith)
+  unused-opened p t l (symbol j q h) = scope-word img p t (nodePlace (nodes img) j) (λ z. omega arith)
+
+  unused-added : (s n : ℕ) (t : Table) → t .symbols < nodes img → {i : ℕ} → Unused img (newSymbol img s n t) i → getD ((newSymbol img s n t) .words) i 0 ≡ getD (t .words) i 0
+  unfolding newSymbol
+  unused-added s n t l (parent k q h) = symbol-word img s n t (parentPlace (nodes img) k) (λ z. omega arith) (λ z. omega arith)
+  unused-added s n t l (scope j q h) = symbol-word img s n t (scopePlace (nodes img) j) (λ z. omega arith) (λ z. omega arith)
+  unused-added s n t l (symbol j q h) = symbol-word img s n t (nodePlace (nodes img) j) (λ z. omega arith) (λ z. omega arith)
+
+  pub mark-unused : (n a b : ℕ) (t : Table) {i : ℕ} → Unused img (mark img n a b t) i → Unused img t i
+  unfolding mark
+  mark-unused n a b t u = unused-below (omega arith) (omega arith) u
+
+  add-few : (s n : ℕ) (t : Table) → (newSymbol img s n t) .symbols ≤ nodes img → t .symbols < nodes img
+  unfolding newSymbol
+  add-few s n t h = omega arith
+
+  open-few : (p : ℕ) (t : Table) → (newScope img p t) .scopes ≤ nodes img → t .scopes < nodes img
+  unfolding newScope
+  open-few p t h = omega arith
+
+  -- resolving stores nothing there
+  pub moves-unused : {e f : Walked} → Moves e f → Few img (f .table) → {i : ℕ} → Unused img (f .table) i → getD (f .table .words) i 0 ≡ getD (e .table .words) i 0
+  unfolding childScope ownSymbol
+  moves-unused stay h u = refl
+  moves-unused (next m n) h u =
+      let r = rises n in
+      let a = h .scopes in
+      let b = h .symbols in
+      moves-unused n h u ∙ moves-unused m (record { scopes = omega arith; symbols = omega arith }) (unused-below (r .0) (r .1) u)
+  moves-unused (marks {e = e} n a b l) h u = unused-marked n a b (e .table) l (mark-unused n a b (e .table) u)
+  moves-unused (adds {e = e} n i) h u = unused-added (e .scope) n (e .table) (add-few (e .scope) n (e .table) (h .symbols)) u
+  moves-unused (opens {e = e}) h u = unused-opened (e .scope) (e .table) (open-few (e .scope) (e .table) (h .scopes)) u
+  moves-unused (drops m) h u = moves-unused m h u

@@ -31,13 +31,13 @@ use Rattle.ordered.specs.Kept.{Kept}
 use Rattle.ordered.proofs.Kept.{past, mark-kept, scope-kept, mark-past, scope-past, mark-length, scope-length}
 use Rattle.rows.proofs.Appends.{clear-length, clear-long, clear-past}
 use Rattle.scopes.specs.Walk.{done, enterAll, visitAll, resolveTree}
-use Rattle.scopes.specs.Resolve.{testTable, zeroed, walked, headed, Way, refuses, stops, fills, way, answerBy, tableBy, tableCall, resolve}
+use Rattle.scopes.specs.Resolve.{testTable, zeroed, walked, headed, Way, refuses, stops, fills, way, answerBy, tableBy, tableCall, resolve, Unused}
 use Rattle.scopes.specs.Clash.{Clash, clashIn, firstClash}
 use Rattle.scopes.proofs.Adds.{addss, Newest, list-in}
 use Rattle.scopes.proofs.Calls.{Went, went}
 use Rattle.scopes.proofs.Clashes.{shows, list-shown, visitAll-shown}
 use Rattle.scopes.proofs.Namings.{Fit, tree-fits}
-use Rattle.scopes.proofs.Moves.{Good, good-mark, moves-good, enterAll-ends, visitAll-ends, ends-and}
+use Rattle.scopes.proofs.Moves.{Good, good-mark, moves-good, unused-below, unused-marked, unused-opened, mark-unused, moves-unused, enterAll-ends, visitAll-ends, ends-and}
 
 -- a table with no scope and no symbol
 pub none-kept : (img ws : List ℕ) → tableLength (nodes img) ≤ length ws → Kept img (record { words = ws; scopes = 0; symbols = 0 })
@@ -84,6 +84,12 @@ module _ (img ws : List ℕ) (n : ℕ) (below : n < nodes img) (long : tableLeng
         symbols = λ j k. absurd (omega arith);
       })
 
+  begun-unused : 0 < nodes img → {i : ℕ} → Unused img (begun .table) i → getD (begun .table .words) i 0 ≡ getD ws i 0
+  unfolding marked
+  begun-unused l u =
+      let v = mark-unused img n 0 0 (newScope img allOnes empty) u in
+      unused-marked img n 0 0 (newScope img allOnes empty) below v ∙ unused-opened img allOnes empty l v
+
 -- what is done at the end of the module
 pub record Ended (img ws : List ℕ) (e : Walked) : Type 0 where
   pub some : 1 ≤ e .table .scopes
@@ -93,6 +99,7 @@ pub record Ended (img ws : List ℕ) (e : Walked) : Type 0 where
   pub passed : past img (e .table) ≡ drop (tableLength (nodes img)) ws
   pub kept : Kept img (e .table)
   pub good : Good img e
+  pub unused : {i : ℕ} → Unused img (e .table) i → getD (e .table .words) i 0 ≡ getD ws i 0
 
 module _ (img ws : List ℕ) (long : tableLength (nodes img) ≤ length ws) where
   tree-ended : (n k : ℕ) (c : Class) (sh : List ℕ) (ts : Trees) → Small (nodes img) (node n k c sh ts) → Everywhere (Fit img) (node n k c sh ts) → size (node n k c sh ts) ≤ nodes img
@@ -107,6 +114,7 @@ module _ (img ws : List ℕ) (long : tableLength (nodes img) ≤ length ws) wher
       let d = addss ts in
       let g = w .more in
       let few : Few img (e .table) = record { scopes = omega arith; symbols = omega arith } in
+      let steps = ends-and img (enterAll img ts m) (visitAll img ts) (enterAll-ends img ts (fit .1) m) (λ f. visitAll-ends img ts (fit .1) f) e h in
       record {
         some = omega arith;
         scopes = omega arith;
@@ -114,7 +122,8 @@ module _ (img ws : List ℕ) (long : tableLength (nodes img) ≤ length ws) wher
         long = w .long ∙ begun-length img ws n (q .0) long;
         passed = w .passed few ∙ begun-past img ws n (q .0) long;
         kept = w .keeps few (begun-newest img ws n (q .0) long .kept);
-        good = moves-good img (ends-and img (enterAll img ts m) (visitAll img ts) (enterAll-ends img ts (fit .1) m) (λ f. visitAll-ends img ts (fit .1) f) e h) few (begun-good img ws n (q .0) long);
+        good = moves-good img steps few (begun-good img ws n (q .0) long);
+        unused = λ u. moves-unused img steps few u ∙ begun-unused img ws n (q .0) long (omega arith) (unused-below img (omega arith) (omega arith) u);
       }
 
   tree-shown : (u : Tree) → Small (nodes img) u → size u ≤ nodes img → shows (resolveTree img u (record { words = ws; scopes = 0; symbols = 0 })) ≡ clashIn (nameOf img) (moduleLists u)
@@ -219,7 +228,7 @@ run-all f zero i h = refl
 run-all f (suc c) i h = skip _ _ (h i (omega arith) (omega arith)) ∙ run-all f c (i + 1) (λ j l k. h j (omega arith) (omega arith))
 
 -- 16 does not refuse it
-headed-sound : (img ws : List ℕ) (e : Walked) → tableLength (nodes img) ≤ length ws → Ended img ws e → testSound img (headed img (e .table)) ≡ 0
+pub headed-sound : (img ws : List ℕ) (e : Walked) → tableLength (nodes img) ≤ length ws → Ended img ws e → testSound img (headed img (e .table)) ≡ 0
 headed-sound img ws e long d =
     let t = e .table in
     let vs = headed img t in

@@ -1,14 +1,14 @@
 -- Resolve: its answer and every word of the table afterwards, for every image and every lent table. Other calls resolve first: the
 -- ways that such a call can go, and what it leaves by each, are told here for all of them.
 use mathlib.Core.List.{List}
-use Prim.Native.Nat.{ℕ, zero, suc}
+use Prim.Native.Nat.{ℕ, zero, suc, _<_, _≤_}
 use lib.Dec.{leb}
 use lib.ListN.{length, set}
 use Rattle.ast.specs.Image.{nodes, last}
 use Rattle.ast.specs.Tests.{_▸_, need, verdict}
 use Rattle.ast.specs.Tree.{treeAt}
 use Rattle.ast.specs.Answer.{Answer, refused, twice as twiceAnswer, result}
-use Rattle.table.specs.Layout.{nodesPlace, scopesPlace, symbolsPlace, tableLength}
+use Rattle.table.specs.Layout.{nodesPlace, scopesPlace, symbolsPlace, parentPlace, scopePlace, nodePlace, tableLength}
 use Rattle.table.specs.Table.{Table}
 use Rattle.rows.specs.Rows.{cleared}
 use Rattle.scopes.specs.Walk.{Listed, done, twice, resolveTree}
@@ -72,3 +72,9 @@ tableCall img tab refusal f = let w = way img tab refusal in record { answer = a
 -- document 01's Resolve: K and Y
 unfoldable pub resolve : List ℕ → List ℕ → Outcome
 resolve img tab = tableCall img tab (testTable img tab) (λ t. result (t .scopes) (t .symbols))
+
+-- a place of a table's arrays that it does not use: the parent of a scope, or the scope or the node of a symbol, that is not there
+pub data Unused (img : List ℕ) (t : Table) : ℕ → Type 0 where
+  parent : (k : ℕ) → t .scopes ≤ k → k < nodes img → Unused img t (parentPlace (nodes img) k)
+  scope : (j : ℕ) → t .symbols ≤ j → j < nodes img → Unused img t (scopePlace (nodes img) j)
+  symbol : (j : ℕ) → t .symbols ≤ j → j < nodes img → Unused img t (nodePlace (nodes img) j)

@@ -1,6 +1,6 @@
 -- The third demand for one rule: lookup at the exits that the walk records gives a Var exactly at the variable
 -- occurrences, and gives two of them one node exactly where they are `Same`.
-use mathlib.Core.Path.{_≡_, refl, sym, _∙_, ap}
+use mathlib.Core.Path.{_≡_, refl, sym, _∙_, ap, subst}
 use mathlib.Core.Logic.{inl, inr, _↔_}
 use mathlib.Core.Bool.{Bool, true, false}
 use mathlib.Core.List.{List, []}
@@ -84,6 +84,11 @@ module _ (img : List ℕ) (ts : Trees) (e : Walked) (T : Table) (w : RuleWalk im
 
   abbrev boundAt : Place → Option ℕ
   boundAt p = bound img outer (suc (p .at)) ps (p .around) (nameOf img (p .ident))
+
+  -- the exit is a scope of the walk's end
+  pub exit-live : (p : Place) → In p ps → exitAt img (T .words) (p .node) < final .now .table .scopes
+  unfolding rulePlaces
+  exit-live p i = subst (λ (s : ℕ). s < final .now .table .scopes) (sym (w .exits p i)) ((end .seen p i) .0)
 
   binding-bound : (p : Place) → In p ps → binding p ≡ boundAt p
   unfolding rulePlaces

@@ -36,7 +36,7 @@ use Rattle.sight.proofs.Frame.{Bounds, Later, later-next, lookup-child,
 use Rattle.sight.proofs.Steps.{Bodies}
 use Rattle.sight.proofs.Moves.{walks-seq, framed}
 use Rattle.sight.proofs.Lists.{visitedAll, moduleNumbers, Decls, stays, Entered, entering, entersAll, Visits, idle, after, walks, ruled, nested, visitsAll, kind-orElse}
-use Rattle.sight.proofs.OneRule.{RuleWalk, place-node, occurrences, bindings, introducing}
+use Rattle.sight.proofs.OneRule.{exit-live, RuleWalk, place-node, occurrences, bindings, introducing}
 
 module _ (img : List ℕ) where
   -- visiting makes scopes and symbols, and comes back to its scope
@@ -63,8 +63,9 @@ module _ (img : List ℕ) where
       let g₁ = g .symbols in
       record { scope = refl; scopes = omega arith; symbols = omega arith }
 
-  -- T keeps the lookups of t, and the entries and exits of the nodes ns
+  -- T has the scopes of t, and keeps its lookups, and the entries and exits of the nodes ns
   pub record Keeps (ns : List ℕ) (t T : Table) : Type 0 where
+    pub scopes : t .scopes ≤ T .scopes
     pub lookups : (s x : ℕ) → s < t .scopes → lookup img T s x ≡ lookup img t s x
     pub entries : (m : ℕ) → m < nodes img → In m ns → entryAt img (T .words) m ≡ entryAt img (t .words) m
     pub exits : (m : ℕ) → m < nodes img → In m ns → exitAt img (T .words) m ≡ exitAt img (t .words) m
@@ -97,12 +98,13 @@ module _ (img : List ℕ) where
       go T k r (inl i) =
           f .walked T
           (record {
+            scopes = (let z = k .scopes in omega arith);
             lookups = λ s x l. k .lookups s x (omega arith) ∙ g .later .lookups s x l;
             entries = λ m l j. k .entries m l (in-left m ns ms j) ∙ g .entries m l (λ h. distinct-apart ns ms d m j h);
             exits = λ m l j. k .exits m l (in-left m ns ms j) ∙ g .later .exits m l (λ h. distinct-apart ns ms d m j h);
           })
           r i
-      go T k r (inr i) = g .walked T (record { lookups = k .lookups; entries = λ m l j. k .entries m l (in-right m ns ms j); exits = λ m l j. k .exits m l (in-right m ns ms j) }) r i
+      go T k r (inr i) = g .walked T (record { scopes = k .scopes; lookups = k .lookups; entries = λ m l j. k .entries m l (in-right m ns ms j); exits = λ m l j. k .exits m l (in-right m ns ms j) }) r i
 
   held-rule : (ts : Trees) (body : Bodies img ts) (m : ℕ → Option ℕ) (e : Walked) → Bounds img ((walkSeq img occurs ts e) .table)
       → ((n : ℕ) → In n (numbersSeq ts) → n < nodes img) → Distinct (numbersSeq ts) → Kept img (e .table) → e .scope < e .table .scopes
@@ -268,6 +270,7 @@ module _ (img : List ℕ) where
         sane = held .sane;
         walks = held .walked (counted img (e .table))
             (record {
+              scopes = omega arith;
               lookups = λ s x l. sym (headed-lookup img (e .table) s x);
               entries = λ m l i. sym (headed-entry img (e .table) m);
               exits = λ m l i. sym (headed-exit img (e .table) m);
@@ -296,6 +299,10 @@ module _ (img : List ℕ) where
     var-is-occurrence p i =
         subst (λ (c : ℕ → Bool). (isKind img 13 (bindingIn p) ≡ true) ↔ Occurrence (nameOf img) c placesIn p) constants
         (occurrences img (r .statements) (w .0) T (w .1) p i)
+
+    -- the exit is a scope of the table
+    pub exit-below : (p : Place) → In p placesIn → exitAt img (T .words) (p .node) < T .scopes
+    exit-below p i = let a = exit-live img (r .statements) (w .0) T (w .1) p i in let b = w .3 .scopes in omega arith
 
     pub equal-is-same : (p q : Place) → In p placesIn → In q placesIn → Occurrence (nameOf img) (outerConst img r) placesIn p
         → (bindingIn p ≡ bindingIn q) ↔ Same (nameOf img) (outerConst img r) placesIn p q

@@ -1,18 +1,18 @@
 use mathlib.Core.Path.{sym, ap, _∙_}
 use Rattle.table.specs.Table.{lookup, isKind}
+use Rattle.ast.specs.Named.{ctorDeclKind}
+use Rattle.typed.proofs.Enums.{app-head-is}
 use Rattle.bindings.proofs.RowLaws.{ctor-none, ctor-ident}
+use Rattle.bindings.proofs.Cases.{no-name}
 use borrow.Author.Needs.{needs}
 use Rattle.bindings.proofs.is_ctor_head.Statement.{statement}
 use Rattle.bindings.proofs.is_ctor_head.Tie as tie
 
-field-requires : tie.Need-field-requires
-field-requires c κs = search needs
+app-head-requires : tie.Need-app-head-requires
+app-head-requires c κs = search needs
 
-returns : tie.Need-returns
-returns c = sym (ctor-none _ _ (c .before .before .before .before .pre .is) (λ e. c .if1 .taken (c .before .field .ensures ∙ sym e)))
-
-field-requires-2 : tie.Need-field-requires-2
-field-requires-2 c κs = search needs
+enum-known-id : tie.Need-enum-known-id
+enum-known-id c = search needs
 
 at-exit-requires : tie.Need-at-exit-requires
 at-exit-requires c κs = search needs
@@ -20,11 +20,14 @@ at-exit-requires c κs = search needs
 is-kind-requires : tie.Need-is-kind-requires
 is-kind-requires c κs = search needs
 
-returns-2 : tie.Need-returns-2
+returns : tie.Need-returns
 unfolding lookup
-returns-2 c = c .is-kind .ensures ∙ ap (isKind _ 9) (c .before .at-exit .ensures) ∙ sym (ctor-ident _ _ (c .before .before .before .before .before .before .before .pre .is) (sym (c .before .before .before .if1 .left) ∙ c .before .before .before .before .field .ensures) (c .before .before .field2 .ensures))
+returns c = let o = app-head-is _ (c .before .before .before .before .before .before .before .before .pre .is) (c .before .before .before .before .before .app-head .ensures) (c .before .before .before .id .given .1) in c .is-kind .ensures ∙ ap (isKind _ ctorDeclKind) (c .before .at-exit .ensures) ∙ sym (ctor-ident _ _ (c .before .before .before .before .before .before .before .before .pre .is) (o .number) (o .child))
+
+returns-2 : tie.Need-returns-2
+returns-2 c = sym (ctor-none _ _ (c .before .before .before .before .pre .is) (no-name _ (c .before .before .before .before .pre .is) (c .before .app-head .ensures) (c .match .keys2)))
 
 pub is-ctor-head-spec : {M : Type 1} → statement M
 is-ctor-head-spec =
     tie.close
-    (tie.spec field-requires returns field-requires-2 at-exit-requires is-kind-requires returns-2)
+    (tie.spec app-head-requires enum-known-id at-exit-requires is-kind-requires returns returns-2)

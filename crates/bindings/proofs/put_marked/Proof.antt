@@ -10,10 +10,10 @@ use Rattle.bindings.proofs.put_marked.Statement.{statement}
 use Rattle.bindings.proofs.put_marked.Tie as tie
 
 abbrev Inv-loop : tie.InvT-loop
-Inv-loop image marks rows₀ count n m₀ c₀ rows m c = (m ≤ n) × Left (nodes image) (strictRows image) (strictLeft image m) count rows₀ c rows
+Inv-loop image marks rows₀ written n m₀ after₀ rows m after = (m ≤ n) × Left (nodes image) (strictRows image) (strictLeft image m) written rows₀ after rows
 
 abbrev μ-loop : tie.MeasureT-loop
-μ-loop image marks rows₀ count n m₀ c₀ rows m c = n - m
+μ-loop image marks rows₀ written n m₀ after₀ rows m after = n - m
 
 node-count-requires : tie.Need-node-count-requires Inv-loop μ-loop
 node-count-requires c κs = search needs

@@ -1,3 +1,7 @@
+use mathlib.Core.Path.{refl, ap, _∙_}
+use Prim.Native.Nat.{_+_}
+use native.Mathlib.Nat.{add-comm}
+use Rattle.names.specs.declared.NamePlace.{NamePlace}
 use native.Mathlib.Omega.{arith}
 use Rattle.names.proofs.NameParts.{name-part}
 use borrow.Author.Needs.{needs}
@@ -20,7 +24,7 @@ part-result-end : tie.Need-part-result-end
 part-result-end c = let p = name-part _ _ _ (c .before .name-place .ensures) in omega arith
 
 returns : tie.Need-returns
-returns c = name-part _ _ _ (c .before .before .name-place .ensures) .bytes-are
+returns c = (name-part _ _ _ (c .before .before .name-place .ensures) .bytes-are, record { memory = refl; start = add-comm _ _ ∙ ap (λ (p : NamePlace). c .before .before .before .before .args .image .ptr .1 + p .start) (c .before .before .name-place .ensures) })
 
 pub name-spec : {M : Type 1} → statement M
 name-spec =

@@ -1,13 +1,14 @@
+use Rattle.occurrences.proofs.CollectRules.{ruleRun}
 use Rattle.occurrences.proofs.CollectLone.{searched}
 use borrow.Author.Needs.{needs}
 use Rattle.occurrences.proofs.check_rule.Statement.{statement}
 use Rattle.occurrences.proofs.check_rule.Tie as tie
 
-node-count-requires : tie.Need-node-count-requires
-node-count-requires c κs = search needs
+rule-decl-requires : tie.Need-rule-decl-requires
+rule-decl-requires c κs = search needs
 
-collect-rule-requires : tie.Need-collect-rule-requires
-collect-rule-requires c κs = search needs
+collect-stmts-requires : tie.Need-collect-stmts-requires
+collect-stmts-requires c κs = (ruleRun _ _ (c .before .before .before .before .before .before .before .pre .0) (c .before .before .rule-decl .ensures)) .run
 
 count-bindings-requires : tie.Need-count-bindings-requires
 count-bindings-requires c κs = search needs
@@ -25,14 +26,14 @@ same-length-2 : tie.Need-same-length-2
 same-length-2 c = search needs
 
 returns : tie.Need-returns
-returns c = searched _ _ (c .before .before .before .before .before .before .before .before .before .before .before .before .before .before .before .before .before .before .before .before .before .before .pre .0) (c .before .before .before .before .before .before .before .before .before .before .before .before .before .before .before .before .before .before .before .before .before .before .pre .1) (c .before .before .before .before .before .before .before .before .before .before .before .before .before .before .before .before .before .node-count .ensures) (c .before .before .before .before .before .before .before .before .before .before .before .before .before .before .before .collect-rule .ensures) (c .before .before .before .before .before .before .before .before .before .before .count-bindings .ensures) (c .before .before .before .before .before .first-lone .ensures) (c .before .before .count-bindings2 .ensures)
+returns c = searched _ _ (c .before .before .before .before .before .before .before .before .before .before .before .before .before .before .before .before .before .before .before .before .before .before .before .pre .0) (c .before .before .before .before .before .before .before .before .before .before .before .before .before .before .before .before .before .before .before .before .before .before .before .pre .1) (c .before .before .before .before .before .before .before .before .before .before .before .before .before .before .before .before .before .before .rule-decl .ensures) (c .before .before .before .before .before .before .before .before .before .before .before .before .before .before .before .collect-stmts .ensures) (c .before .before .before .before .before .before .before .before .before .before .count-bindings .ensures) (c .before .before .before .before .before .first-lone .ensures) (c .before .before .count-bindings2 .ensures)
 
 pub check-rule-spec : {M : Type 1} → statement M
 check-rule-spec =
     tie.close
     (tie.spec
-    node-count-requires
-    collect-rule-requires
+    rule-decl-requires
+    collect-stmts-requires
     count-bindings-requires
     first-lone-requires
     count-bindings-requires-2

@@ -1,5 +1,6 @@
 use mathlib.Core.Path.{sym, ap, _∙_}
 use borrow.Author.Tests.{not-true, not-false}
+use Rattle.ast.specs.Named.{identTermKind}
 use Rattle.table.specs.Table.{isKind}
 use Rattle.table.specs.Values.{optionOf}
 use Rattle.rows.proofs.Parts.{appended-no}
@@ -25,7 +26,7 @@ node-count-requires : tie.Need-node-count-requires
 node-count-requires c κs = search needs
 
 put-row-requires : tie.Need-put-row-requires
-put-row-requires c κs = ident-fits _ _ _ _ (sym (c .before .before .before .before .before .before .before .at-exit .ensures) ∙ ap optionOf (c .before .before .before .found .given .1)) (ap (isKind _ 13) (sym (ap optionOf (c .before .before .before .found .given .1))) ∙ sym (c .before .before .before .before .before .before .is-var .ensures) ∙ not-false (c .before .before .before .before .before .before .is-var .result) (c .before .before .before .before .before .if1 .left)) (c .before .before .before .before .before .before .before .before .before .before .before .pre)
+put-row-requires c κs = ident-fits _ _ _ _ (sym (c .before .before .before .before .before .before .before .at-exit .ensures) ∙ ap optionOf (c .before .before .before .found .given .1)) (ap (isKind _ identTermKind) (sym (ap optionOf (c .before .before .before .found .given .1))) ∙ sym (c .before .before .before .before .before .before .is-var .ensures) ∙ not-false (c .before .before .before .before .before .before .is-var .result) (c .before .before .before .before .before .if1 .left)) (c .before .before .before .before .before .before .before .before .before .before .before .pre)
 
 enum-told : tie.Need-enum-told
 enum-told c = search needs
@@ -34,11 +35,11 @@ same-length : tie.Need-same-length
 same-length c = search needs
 
 returns-2 : tie.Need-returns-2
-returns-2 c = ident-put _ _ _ _ (sym (c .before .before .before .before .before .before .before .before .before .before .at-exit .ensures) ∙ ap optionOf (c .before .before .before .before .before .before .found .given .1)) (ap (isKind _ 13) (sym (ap optionOf (c .before .before .before .before .before .before .found .given .1))) ∙ sym (c .before .before .before .before .before .before .before .before .before .is-var .ensures) ∙ not-false (c .before .before .before .before .before .before .before .before .before .is-var .result) (c .before .before .before .before .before .before .before .before .if1 .left)) (c .before .before .before .before .node-count .ensures) (c .before .before .put-row .ensures)
+returns-2 c = ident-put _ _ _ _ (sym (c .before .before .before .before .before .before .before .before .before .before .at-exit .ensures) ∙ ap optionOf (c .before .before .before .before .before .before .found .given .1)) (ap (isKind _ identTermKind) (sym (ap optionOf (c .before .before .before .before .before .before .found .given .1))) ∙ sym (c .before .before .before .before .before .before .before .before .before .is-var .ensures) ∙ not-false (c .before .before .before .before .before .before .before .before .before .is-var .result) (c .before .before .before .before .before .before .before .before .if1 .left)) (c .before .before .before .before .node-count .ensures) (c .before .before .put-row .ensures)
 
 returns-3 : tie.Need-returns-3
 unfolding isKind
-returns-3 c = appended-no _ _ (ident-other _ _ _ _ _ (sym (c .before .before .before .before .at-exit .ensures)) (ap (isKind _ 13) (ap optionOf (c .enum-told .given .1))))
+returns-3 c = appended-no _ _ (ident-other _ _ _ _ _ (sym (c .before .before .before .before .at-exit .ensures)) (ap (isKind _ identTermKind) (ap optionOf (c .enum-told .given .1))))
 
 pub collect-ident-spec : {M : Type 1} → statement M
 collect-ident-spec =

@@ -1,4 +1,4 @@
-use mathlib.Core.Path.{ap, _∙_}
+use mathlib.Core.Path.{ap}
 use native.Mathlib.Omega.{arith}
 use Prim.Native.Nat.{ℕ, _-_}
 use Rattle.ast.specs.Image.{last}
@@ -15,22 +15,19 @@ node-count-requires c κs = search needs
 sub-t8 : tie.Need-sub-t8
 sub-t8 c = let s = (sized _ (c .before .before .before .before .pre .accepted)) .some in let e = c .node-count .ensures in omega arith
 
-field-requires : tie.Need-field-requires
-field-requires c κs = search needs
-
-wide-requires : tie.Need-wide-requires
-wide-requires c κs = search needs
+module-requires : tie.Need-module-requires
+module-requires c κs = search needs
 
 collect-decls-requires : tie.Need-collect-decls-requires
 unfolding last
-collect-decls-requires c κs = (moduleRun _ _ (c .before .before .before .before .before .before .before .pre) (ap (λ (x : ℕ). x - 1) (c .before .before .before .node-count .ensures)) (c .before .wide .ensures ∙ c .before .before .field .ensures)) .run
+collect-decls-requires c κs = (moduleRun _ _ (c .before .before .before .before .before .before .before .pre) (ap (λ (x : ℕ). x - 1) (c .before .before .before .node-count .ensures)) (c .before .before .«module» .ensures)) .run
 
 same-length : tie.Need-same-length
 same-length c = search needs
 
 returns : tie.Need-returns
 unfolding last
-returns c = appended-as ((moduleRun _ _ (c .before .before .before .before .before .before .before .before .before .before .pre) (ap (λ (x : ℕ). x - 1) (c .before .before .before .before .before .before .node-count .ensures)) (c .before .before .before .before .wide .ensures ∙ c .before .before .before .before .before .field .ensures)) .whole) (c .before .before .collect-decls .ensures)
+returns c = appended-as ((moduleRun _ _ (c .before .before .before .before .before .before .before .before .before .before .pre) (ap (λ (x : ℕ). x - 1) (c .before .before .before .before .before .before .node-count .ensures)) (c .before .before .before .before .before .«module» .ensures)) .whole) (c .before .before .collect-decls .ensures)
 
 pub collect-module-spec : {M : Type 1} → statement M
 collect-module-spec =
@@ -38,8 +35,7 @@ collect-module-spec =
     (tie.spec
     node-count-requires
     sub-t8
-    field-requires
-    wide-requires
+    module-requires
     collect-decls-requires
     same-length
     returns)

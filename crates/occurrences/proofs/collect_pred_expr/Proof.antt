@@ -1,39 +1,43 @@
-use mathlib.Core.Path.{sym, _∙_}
 use Rattle.rows.proofs.Parts.{appended-no}
-use Rattle.occurrences.proofs.CollectSteps.{appended-as, pred-member, pred-none}
+use Rattle.occurrences.proofs.CollectSteps.{appended-as, term-member}
+use Rattle.occurrences.proofs.CollectCases.{pred-case}
 use borrow.Author.Needs.{needs}
 use Rattle.occurrences.proofs.collect_pred_expr.Statement.{statement}
 use Rattle.occurrences.proofs.collect_pred_expr.Tie as tie
 
-field-requires : tie.Need-field-requires
-field-requires c κs = search needs
+pred-expr-requires : tie.Need-pred-expr-requires
+pred-expr-requires c κs = search needs
 
-field-requires-2 : tie.Need-field-requires-2
-field-requires-2 c κs = search needs
+enum-told : tie.Need-enum-told
+enum-told c = search needs
 
-field-requires-3 : tie.Need-field-requires-3
-field-requires-3 c κs = search needs
+enum-known-id : tie.Need-enum-known-id
+enum-known-id c = search needs
+
+term-member-requires : tie.Need-term-member-requires
+term-member-requires c κs = search needs
 
 collect-term-requires : tie.Need-collect-term-requires
-collect-term-requires c κs = (pred-member _ _ (c .before .before .before .before .before .before .before .before .pre) (sym (c .before .before .before .if1 .taken) ∙ c .before .before .before .before .field .ensures) (c .before .before .field2 .ensures) (c .before .field3 .ensures)) .ready
+collect-term-requires c κs = (term-member _ _ (pred-case _ _ (c .before .before .before .before .before .before .before .before .before .before .pre) (c .before .before .before .before .before .before .pred-expr .ensures) (c .before .before .before .before .id .given .1)) (c .before .before .term-member .ensures)) .ready
+
+returns : tie.Need-returns
+returns c = appended-no _ _ (pred-case _ _ (c .before .before .before .before .before .before .pre) (c .before .before .pred-expr .ensures) (c .enum-told .given .1))
 
 same-length : tie.Need-same-length
 same-length c = search needs
 
-returns : tie.Need-returns
-returns c = appended-as ((pred-member _ _ (c .before .before .before .before .before .before .before .before .before .before .before .pre) (sym (c .before .before .before .before .before .before .if1 .taken) ∙ c .before .before .before .before .before .before .before .field .ensures) (c .before .before .before .before .before .field2 .ensures) (c .before .before .before .before .field3 .ensures)) .whole) (c .before .before .collect-term .ensures)
-
 returns-2 : tie.Need-returns-2
-returns-2 c = appended-no _ _ (pred-none _ _ (c .before .before .before .before .before .pre) (λ e. c .if1 .left (c .before .field .ensures ∙ sym e)))
+returns-2 c = appended-as ((term-member _ _ (pred-case _ _ (c .before .before .before .before .before .before .before .before .before .before .before .before .before .pre) (c .before .before .before .before .before .before .before .before .before .pred-expr .ensures) (c .before .before .before .before .before .before .before .id .given .1)) (c .before .before .before .before .before .term-member .ensures)) .whole) (c .before .before .collect-term .ensures)
 
 pub collect-pred-expr-spec : {M : Type 1} → statement M
 collect-pred-expr-spec =
     tie.close
     (tie.spec
-    field-requires
-    field-requires-2
-    field-requires-3
+    pred-expr-requires
+    enum-told
+    enum-known-id
+    term-member-requires
     collect-term-requires
-    same-length
     returns
+    same-length
     returns-2)

@@ -1,0 +1,4 @@
+pub mod Words
+pub mod Untouched
+pub mod ErrorRows
+pub mod ByBytes

@@ -1,0 +1,1 @@
+// Theorems about what the calls leave: specs and proofs. There is no code.
