@@ -137,6 +137,9 @@ pub fn resolve_into(image: &[u8], table: &mut [u32]) -> Declared
 // The parent of the module's scope.
 const NO_SCOPE: u32 = 4294967295;
 
+// How many names have a stamp; those past them are searched for.
+const STAMPS: usize = 1024;
+
 // The whole module, in a table with no scope and no symbol.
 fn walk_module(image: &[u8], table: &mut [u32]) -> Declared
     requires { ⌜ Lent (now image) (now table) ⌝ }
@@ -152,7 +155,7 @@ fn walk_module(image: &[u8], table: &mut [u32]) -> Declared
     let module_scope = table::new_scope(image, table, none);
     insert_unordered(image, table, module.0, module_scope);
     let Module { decls } = typed::module(image, module);
-    let mut seen = [0u32; 1024];
+    let mut seen = [0u32; STAMPS];
     walk_decls(image, table, &mut seen, module_scope, decls)
 }
 
