@@ -56,9 +56,11 @@ fn write_records(mut args: impl Iterator<Item = String>) -> bool {
 /// The deepest images of each form, every call in the stack that the header promises to be enough: too little ends the process.
 #[cfg(feature = "library")]
 fn deepest() {
+    use differential::calls::Answer;
     use differential::inputs::{deep, DEEP};
     use differential::random::Random;
     use differential::reading::layout::{rows_words, table_words};
+    use differential::reading::tests::sizes;
     let mut r = Random::new(SEED, 0);
     for form in DEEP {
         let s = deep(form, 2048, &mut r);
@@ -67,8 +69,14 @@ fn deepest() {
             let (subject, _) = subject();
             let mut table = vec![0; table_words(2048)];
             let mut rows = vec![0; rows_words(2048)];
-            subject.resolve(&image, &mut table);
-            subject.lookup(&image, &table, 0, b"x");
+            if let Answer::Result(scopes, _) = subject.resolve(&image, &mut table) {
+                // from the last scope, of every name: the longest way up
+                for name in 0..sizes(&image).s as u32 {
+                    let (start, len) = subject.name(&image, name);
+                    let bytes = &image[start..start + len];
+                    subject.lookup(&image, &table, scopes.saturating_sub(1), bytes);
+                }
+            }
             subject.errors(&image, &mut table, &mut rows, 2);
             subject.occurrences(&image, &mut table, &mut rows);
             subject.once(&image, &mut table);
