@@ -40,9 +40,8 @@ use Rattle.sight.specs.Listing.{placesOf, Occurs, tableIn, Unrefused}
 use Rattle.sight.specs.Sight.{Place, In}
 use Rattle.sight.proofs.Answering.{passes}
 use Rattle.sight.proofs.Demand as demand
-use Rattle.sight.proofs.Resolving.{resolved}
+use Rattle.sight.proofs.Resolving.{resolved, left-table}
 use Rattle.sight.proofs.WholeModule.{exit-below}
-use Rattle.calls.proofs.ErrorRows.{left-table}
 
 -- the number of a name's own bytes ------------------------------------------------------------------------------------------
 same-self : (xs : List ℕ) → same xs xs ≡ true
