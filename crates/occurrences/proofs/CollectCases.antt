@@ -1,9 +1,10 @@
 -- What each case of an enum asks of its collector, and whose rows the node's are: by the answer of the typed read.
-use mathlib.Core.Path.{_≡_, refl, _∙_}
+use mathlib.Core.Path.{_≡_, refl, sym, ap, _∙_}
 use mathlib.Core.List.{List, [], _∷_}
 use Prim.Native.Nat.{ℕ}
 use denote.Enum.Declared.{tagOf}
 use types.Run.{OneOf, miss}
+use Rattle.ast.specs.Image.{field}
 use Rattle.ast.specs.Is.{kindBy, oneTerm, twoTerms}
 use Rattle.ast.specs.Kinds.{inner, plain, term, head, name, kindOf}
 use Rattle.ast.specs.Named.{ambientPredExprKind, ambientTypeExprKind, appHeadKind, appHeadMemberKind, appTermKind, branchStmtKind, definedIfAtomKind, definedThenAtomKind, equalAtomKind, ifAtomKind, ifStmtKind, matchStmtKind, morTypeExprKind, predAtomKind, predExprKind, stmtKind, termKind, termMemberKind, thenAtomKind, thenStmtKind, typeExprKind, varIfAtomKind}
@@ -24,12 +25,13 @@ use Rattle.typed.specs.declared.nodes.ThenAtom.{ThenAtom}
 use Rattle.typed.specs.declared.nodes.ThenAtom.the-variants as then-of
 use Rattle.typed.specs.declared.nodes.Stmt.{Stmt}
 use Rattle.typed.specs.declared.nodes.Stmt.the-variants as stmt-of
+use Rattle.typed.proofs.nodes.Term as Terms
 use Rattle.typed.proofs.nodes.TypeExpr as TypeExprs
 use Rattle.typed.proofs.Enums.{TermIs, AppHeadIs, TypeExprIs, PredExprIs, IfAtomIs, ThenAtomIs, StmtIs, term-is, app-head-is, type-expr-is, pred-expr-is, if-atom-is, then-atom-is, stmt-is}
 use Rattle.table.specs.Table.{Table}
 use Rattle.occurrences.specs.Promises.{rowsIn, Ready}
 use Rattle.occurrences.proofs.CollectRows.{bare, threads, leaf-rows, case-none}
-use Rattle.occurrences.proofs.CollectSteps.{Sub, Ident, wrapped, identOf}
+use Rattle.occurrences.proofs.CollectSteps.{Sub, Ident, wrapped, identOf, one-term}
 
 module _ (img : List ℕ) (t : Table) (n c : ℕ) where
   -- a node with no rows
@@ -108,6 +110,24 @@ module _ (img : List ℕ) (t : Table) where
       go (term-of.Cod i) h = wrapped img t (inner term) termKinds refl (λ ts. refl) p 5 (h .number) (h .child) refl refl
       go (term-of.Id i) h = wrapped img t (inner term) termKinds refl (λ ts. refl) p 6 (h .number) (h .child) refl refl
       go (term-of.Comp i) h = wrapped img t (inner term) termKinds refl (λ ts. refl) p 7 (h .number) (h .child) refl refl
+
+  -- Dom, Cod or Id: the term below it
+  pub term-one : {n c a : ℕ} {o : Term} → Ready img t (kindOf termKind) n c → o ≡ termAt img n → OneOf (4 ∷ 5 ∷ 6 ∷ []) (tagOf Terms.the-type o) → a ≡ field img (field img n 1) 0
+      → Sub img t (kindOf termKind) n a c
+  term-one {n} {c} {a} {o} p q k e = go o refl k
+    where
+      below : (d : ℕ) → d ≡ field img n 1 → Sub img t oneTerm n d c → Sub img t (kindOf termKind) n a c
+      below d h s = one-term img t s (e ∙ ap (λ (x : ℕ). field img x 0) (sym h))
+
+      go : (s : Term) → o ≡ s → OneOf (4 ∷ 5 ∷ 6 ∷ []) (tagOf Terms.the-type s) → Sub img t (kindOf termKind) n a c
+      go (term-of.Ident i) r k = absurd (miss (4 ∷ 5 ∷ 6 ∷ []) 0 tt k)
+      go term-of.Wildcard r k = absurd (miss (4 ∷ 5 ∷ 6 ∷ []) 1 tt k)
+      go (term-of.App i) r k = absurd (miss (4 ∷ 5 ∷ 6 ∷ []) 2 tt k)
+      go (term-of.Member i) r k = absurd (miss (4 ∷ 5 ∷ 6 ∷ []) 3 tt k)
+      go (term-of.Dom i) r k = below (i .0 .0) ((term-is img (p .is) q r) .child) (term-case p q r)
+      go (term-of.Cod i) r k = below (i .0 .0) ((term-is img (p .is) q r) .child) (term-case p q r)
+      go (term-of.Id i) r k = below (i .0 .0) ((term-is img (p .is) q r) .child) (term-case p q r)
+      go (term-of.Comp i) r k = absurd (miss (4 ∷ 5 ∷ 6 ∷ []) 7 tt k)
 
   pub head-case : {n c : ℕ} {o s : AppHead} → Ready img t (kindOf appHeadKind) n c → o ≡ appHeadAt img n → o ≡ s → HeadCase img t n c s
   unfolding kindOf bare threads ordered

@@ -377,16 +377,9 @@ fn collect_term(
             let TermMember { term, .. } = typed::term_member(image, id);
             collect_term(image, table, symbols, rows, written, term)
         }
-        Term::Dom(id) => {
-            let DomTerm { arg } = typed::dom_term(image, id);
-            collect_term(image, table, symbols, rows, written, arg)
-        }
-        Term::Cod(id) => {
-            let CodTerm { arg } = typed::cod_term(image, id);
-            collect_term(image, table, symbols, rows, written, arg)
-        }
-        Term::Id(id) => {
-            let IdTerm { arg } = typed::id_term(image, id);
+        // in one arm, because a nest of all three is then walked without a wrong guess
+        Term::Dom(_) | Term::Cod(_) | Term::Id(_) => {
+            let arg = typed::argument(image, term);
             collect_term(image, table, symbols, rows, written, arg)
         }
         Term::Comp(id) => {

@@ -252,6 +252,14 @@ pub fn term(image: &[u8], id: TermId) -> Term
     }
 }
 
+// The one term below a Term of case Dom, Cod or Id, whichever it is.
+pub fn argument(image: &[u8], id: TermId) -> TermId
+    ensures { λ r. ⌜ r .0 .0 ≡ «image-spec».field (now (image .entry)) («image-spec».field (now (image .entry)) (id .0 .0) 1) 0 ⌝ }
+{
+    let child = NodeId(field(image, id.0, 1));
+    TermId(NodeId(field(image, child, 0)))
+}
+
 // 13
 pub fn ident_term(image: &[u8], id: IdentTermId) -> IdentTerm
     ensures { λ r. ⌜ One (now (image .entry)) (id .0 .0) (r .name) ⌝ }

@@ -4,8 +4,8 @@ use borrow.Author.Needs.{needs}
 use Rattle.table.specs.Values.{sought}
 use Rattle.rows.proofs.Appends.{appended-next}
 use Rattle.rows.proofs.Parts.{appended-no}
-use Rattle.occurrences.proofs.CollectSteps.{appended-as, one-term, two-terms, app-term, term-member, head-member, RowsLeft, rows-start, term-item, rows-next, rows-end, termList}
-use Rattle.occurrences.proofs.CollectCases.{term-case, head-case}
+use Rattle.occurrences.proofs.CollectSteps.{appended-as, two-terms, app-term, term-member, head-member, RowsLeft, rows-start, term-item, rows-next, rows-end, termList}
+use Rattle.occurrences.proofs.CollectCases.{term-one, term-case, head-case}
 use Prim.Native.Nat.{ℕ, _<_}
 use borrow.Fn.Kinds.{In}
 use borrow.Fn.PlainCycle.{Measures, is, falls, and}
@@ -22,16 +22,14 @@ use Rattle.occurrences.proofs.collect_ident.Reads as collect-ident-read
 use Rattle.typed.proofs.app_head.Reads as app-head-reads
 use Rattle.typed.proofs.app_head_member.Reads as app-head-member-reads
 use Rattle.typed.proofs.app_term.Reads as app-term-reads
-use Rattle.typed.proofs.cod_term.Reads as cod-term-reads
 use Rattle.typed.proofs.comp_term.Reads as comp-term-reads
-use Rattle.typed.proofs.dom_term.Reads as dom-term-reads
-use Rattle.typed.proofs.id_term.Reads as id-term-reads
 use Rattle.typed.proofs.nth_term.Reads as nth-term-reads
 use Rattle.typed.proofs.term.Reads as term-reads
 use Rattle.typed.proofs.term_list.Reads as term-list-reads
 use Rattle.typed.proofs.term_member.Reads as term-member-reads
 use Rattle.occurrences.proofs.+collect_app_head+collect_term+collect_term_list.{statement}
 use Rattle.occurrences.proofs.+collect_app_head+collect_term+collect_term_list.Tie.{close}
+use Rattle.typed.proofs.argument.Reads as argument-reads
 
 abbrev μ-collect-app-head : Measures 3 collect-app-head-kinds.ps ℕ
 μ-collect-app-head κs a = a .1 .1 .1 .1 .1 .0 .0 .0
@@ -90,7 +88,7 @@ abbrev collect-app-head-claims : ℕ → collect-app-head-lts.Claims
 collect-app-head-claims t = (app-head-reads.Asked, app-head-reads.Learnt, collect-ident-reads.Asked, collect-ident-reads.Learnt, app-head-member-reads.Asked, app-head-member-reads.Learnt, collect-term-below t, collect-term.Post)
 
 abbrev collect-term-claims : ℕ → collect-term-lts.Claims
-collect-term-claims t = (term-reads.Asked, term-reads.Learnt, collect-ident-reads.Asked, collect-ident-reads.Learnt, app-term-reads.Asked, app-term-reads.Learnt, collect-app-head-below t, collect-app-head.Post, collect-term-list-below t, collect-term-list.Post, term-member-reads.Asked, term-member-reads.Learnt, collect-term-below t, collect-term.Post, dom-term-reads.Asked, dom-term-reads.Learnt, cod-term-reads.Asked, cod-term-reads.Learnt, id-term-reads.Asked, id-term-reads.Learnt, comp-term-reads.Asked, comp-term-reads.Learnt)
+collect-term-claims t = (term-reads.Asked, term-reads.Learnt, collect-ident-reads.Asked, collect-ident-reads.Learnt, app-term-reads.Asked, app-term-reads.Learnt, collect-app-head-below t, collect-app-head.Post, collect-term-list-below t, collect-term-list.Post, term-member-reads.Asked, term-member-reads.Learnt, collect-term-below t, collect-term.Post, argument-reads.Asked, argument-reads.Learnt, comp-term-reads.Asked, comp-term-reads.Learnt)
 
 abbrev collect-term-list-claims : ℕ → collect-term-list-lts.Claims
 collect-term-list-claims t = (term-list-reads.Asked, term-list-reads.Learnt, nth-term-reads.Asked, nth-term-reads.Learnt, collect-term-below t, collect-term.Post)
@@ -174,44 +172,24 @@ collect-term-term-member-requires t c κs = search needs
 collect-term-collect-term-requires : (t : ℕ) → collect-term-lts.Need-collect-term-requires (collect-term-claims t) (collect-term-at t) collect-term.Post
 collect-term-collect-term-requires t c κs = let o = term-member _ _ (term-case _ _ (c .before .before .before .before .before .before .before .before .before .before .pre .1) (c .before .before .before .before .before .before .term .ensures) (c .before .before .before .before .id3 .given .1)) (c .before .before .term-member .ensures) in (let l = o .low in omega arith, o .ready)
 
-collect-term-enum-known-id-4 : (t : ℕ) → collect-term-lts.Need-enum-known-id-4 (collect-term-claims t) (collect-term-at t) collect-term.Post
-collect-term-enum-known-id-4 t c = search needs
-
-collect-term-dom-term-requires : (t : ℕ) → collect-term-lts.Need-dom-term-requires (collect-term-claims t) (collect-term-at t) collect-term.Post
-collect-term-dom-term-requires t c κs = search needs
+-- src/lib.rt:382:17
+collect-term-argument-requires : (t : ℕ) → collect-term-lts.Need-argument-requires (collect-term-claims t) (collect-term-at t) collect-term.Post
+collect-term-argument-requires t c κs = search needs
 
 collect-term-collect-term-requires-2 : (t : ℕ) → collect-term-lts.Need-collect-term-requires-2 (collect-term-claims t) (collect-term-at t) collect-term.Post
-collect-term-collect-term-requires-2 t c κs = let o = one-term _ _ (term-case _ _ (c .before .before .before .before .before .before .before .before .before .before .pre .1) (c .before .before .before .before .before .before .term .ensures) (c .before .before .before .before .id4 .given .1)) (c .before .before .dom-term .ensures) in (let l = o .low in omega arith, o .ready)
+collect-term-collect-term-requires-2 t c κs = let o = term-one _ _ (c .before .before .before .before .before .before .before .pre .1) (c .before .before .before .term .ensures) (c .before .before .match .keys5) (c .before .argument .ensures) in (let l = o .low in omega arith, o .ready)
 
-collect-term-enum-known-id-5 : (t : ℕ) → collect-term-lts.Need-enum-known-id-5 (collect-term-claims t) (collect-term-at t) collect-term.Post
-collect-term-enum-known-id-5 t c = search needs
-
-collect-term-cod-term-requires : (t : ℕ) → collect-term-lts.Need-cod-term-requires (collect-term-claims t) (collect-term-at t) collect-term.Post
-collect-term-cod-term-requires t c κs = search needs
-
-collect-term-collect-term-requires-3 : (t : ℕ) → collect-term-lts.Need-collect-term-requires-3 (collect-term-claims t) (collect-term-at t) collect-term.Post
-collect-term-collect-term-requires-3 t c κs = let o = one-term _ _ (term-case _ _ (c .before .before .before .before .before .before .before .before .before .before .pre .1) (c .before .before .before .before .before .before .term .ensures) (c .before .before .before .before .id5 .given .1)) (c .before .before .cod-term .ensures) in (let l = o .low in omega arith, o .ready)
-
-collect-term-enum-known-id-6 : (t : ℕ) → collect-term-lts.Need-enum-known-id-6 (collect-term-claims t) (collect-term-at t) collect-term.Post
-collect-term-enum-known-id-6 t c = search needs
-
-collect-term-id-term-requires : (t : ℕ) → collect-term-lts.Need-id-term-requires (collect-term-claims t) (collect-term-at t) collect-term.Post
-collect-term-id-term-requires t c κs = search needs
-
-collect-term-collect-term-requires-4 : (t : ℕ) → collect-term-lts.Need-collect-term-requires-4 (collect-term-claims t) (collect-term-at t) collect-term.Post
-collect-term-collect-term-requires-4 t c κs = let o = one-term _ _ (term-case _ _ (c .before .before .before .before .before .before .before .before .before .before .pre .1) (c .before .before .before .before .before .before .term .ensures) (c .before .before .before .before .id6 .given .1)) (c .before .before .id-term .ensures) in (let l = o .low in omega arith, o .ready)
-
-collect-term-enum-known-id-7 : (t : ℕ) → collect-term-lts.Need-enum-known-id-7 (collect-term-claims t) (collect-term-at t) collect-term.Post
-collect-term-enum-known-id-7 t c = search needs
+collect-term-enum-known-id-4 : (t : ℕ) → collect-term-lts.Need-enum-known-id-4 (collect-term-claims t) (collect-term-at t) collect-term.Post
+collect-term-enum-known-id-4 t c = search needs
 
 collect-term-comp-term-requires : (t : ℕ) → collect-term-lts.Need-comp-term-requires (collect-term-claims t) (collect-term-at t) collect-term.Post
 collect-term-comp-term-requires t c κs = search needs
 
-collect-term-collect-term-requires-5 : (t : ℕ) → collect-term-lts.Need-collect-term-requires-5 (collect-term-claims t) (collect-term-at t) collect-term.Post
-collect-term-collect-term-requires-5 t c κs = let o = two-terms _ _ (term-case _ _ (c .before .before .before .before .before .before .before .before .before .before .before .pre .1) (c .before .before .before .before .before .before .before .term .ensures) (c .before .before .before .before .before .id7 .given .1)) (c .before .before .before .comp-term .ensures) in (let l = o .low in omega arith, o .first)
+collect-term-collect-term-requires-3 : (t : ℕ) → collect-term-lts.Need-collect-term-requires-3 (collect-term-claims t) (collect-term-at t) collect-term.Post
+collect-term-collect-term-requires-3 t c κs = let o = two-terms _ _ (term-case _ _ (c .before .before .before .before .before .before .before .before .before .before .before .pre .1) (c .before .before .before .before .before .before .before .term .ensures) (c .before .before .before .before .before .id4 .given .1)) (c .before .before .before .comp-term .ensures) in (let l = o .low in omega arith, o .first)
 
-collect-term-collect-term-requires-6 : (t : ℕ) → collect-term-lts.Need-collect-term-requires-6 (collect-term-claims t) (collect-term-at t) collect-term.Post
-collect-term-collect-term-requires-6 t c κs = let o = two-terms _ _ (term-case _ _ (c .before .before .before .before .before .before .before .before .before .before .before .before .before .before .before .pre .1) (c .before .before .before .before .before .before .before .before .before .before .before .term .ensures) (c .before .before .before .before .before .before .before .before .before .id7 .given .1)) (c .before .before .before .before .before .before .before .comp-term .ensures) in (let l = o .low2 in omega arith, o .second (c .before .before .before .collect-term5 .ensures .count))
+collect-term-collect-term-requires-4 : (t : ℕ) → collect-term-lts.Need-collect-term-requires-4 (collect-term-claims t) (collect-term-at t) collect-term.Post
+collect-term-collect-term-requires-4 t c κs = let o = two-terms _ _ (term-case _ _ (c .before .before .before .before .before .before .before .before .before .before .before .before .before .before .before .pre .1) (c .before .before .before .before .before .before .before .before .before .before .before .term .ensures) (c .before .before .before .before .before .before .before .before .before .id4 .given .1)) (c .before .before .before .before .before .before .before .comp-term .ensures) in (let l = o .low2 in omega arith, o .second (c .before .before .before .collect-term3 .ensures .count))
 
 collect-term-same-length : (t : ℕ) → collect-term-lts.Need-same-length (collect-term-claims t) (collect-term-at t) collect-term.Post
 collect-term-same-length t c = search needs
@@ -238,25 +216,13 @@ collect-term-same-length-4 : (t : ℕ) → collect-term-lts.Need-same-length-4 (
 collect-term-same-length-4 t c = search needs
 
 collect-term-returns-5 : (t : ℕ) → collect-term-lts.Need-returns-5 (collect-term-claims t) (collect-term-at t) collect-term.Post
-collect-term-returns-5 t c = appended-as ((one-term _ _ (term-case _ _ (c .before .before .before .before .before .before .before .before .before .before .before .before .before .pre .1) (c .before .before .before .before .before .before .before .before .before .term .ensures) (c .before .before .before .before .before .before .before .id4 .given .1)) (c .before .before .before .before .before .dom-term .ensures)) .whole) (c .before .before .collect-term2 .ensures)
+collect-term-returns-5 t c = appended-as ((term-one _ _ (c .before .before .before .before .before .before .before .before .before .before .pre .1) (c .before .before .before .before .before .before .term .ensures) (c .before .before .before .before .before .match .keys5) (c .before .before .before .before .argument .ensures)) .whole) (c .before .before .collect-term2 .ensures)
 
 collect-term-same-length-5 : (t : ℕ) → collect-term-lts.Need-same-length-5 (collect-term-claims t) (collect-term-at t) collect-term.Post
 collect-term-same-length-5 t c = search needs
 
 collect-term-returns-6 : (t : ℕ) → collect-term-lts.Need-returns-6 (collect-term-claims t) (collect-term-at t) collect-term.Post
-collect-term-returns-6 t c = appended-as ((one-term _ _ (term-case _ _ (c .before .before .before .before .before .before .before .before .before .before .before .before .before .pre .1) (c .before .before .before .before .before .before .before .before .before .term .ensures) (c .before .before .before .before .before .before .before .id5 .given .1)) (c .before .before .before .before .before .cod-term .ensures)) .whole) (c .before .before .collect-term3 .ensures)
-
-collect-term-same-length-6 : (t : ℕ) → collect-term-lts.Need-same-length-6 (collect-term-claims t) (collect-term-at t) collect-term.Post
-collect-term-same-length-6 t c = search needs
-
-collect-term-returns-7 : (t : ℕ) → collect-term-lts.Need-returns-7 (collect-term-claims t) (collect-term-at t) collect-term.Post
-collect-term-returns-7 t c = appended-as ((one-term _ _ (term-case _ _ (c .before .before .before .before .before .before .before .before .before .before .before .before .before .pre .1) (c .before .before .before .before .before .before .before .before .before .term .ensures) (c .before .before .before .before .before .before .before .id6 .given .1)) (c .before .before .before .before .before .id-term .ensures)) .whole) (c .before .before .collect-term4 .ensures)
-
-collect-term-same-length-7 : (t : ℕ) → collect-term-lts.Need-same-length-7 (collect-term-claims t) (collect-term-at t) collect-term.Post
-collect-term-same-length-7 t c = search needs
-
-collect-term-returns-8 : (t : ℕ) → collect-term-lts.Need-returns-8 (collect-term-claims t) (collect-term-at t) collect-term.Post
-collect-term-returns-8 t c = appended-as ((two-terms _ _ (term-case _ _ (c .before .before .before .before .before .before .before .before .before .before .before .before .before .before .before .before .before .before .pre .1) (c .before .before .before .before .before .before .before .before .before .before .before .before .before .before .term .ensures) (c .before .before .before .before .before .before .before .before .before .before .before .before .id7 .given .1)) (c .before .before .before .before .before .before .before .before .before .before .comp-term .ensures)) .whole) (appended-next (c .before .before .before .before .before .before .collect-term5 .ensures) (c .before .before .collect-term6 .ensures))
+collect-term-returns-6 t c = appended-as ((two-terms _ _ (term-case _ _ (c .before .before .before .before .before .before .before .before .before .before .before .before .before .before .before .before .before .before .pre .1) (c .before .before .before .before .before .before .before .before .before .before .before .before .before .before .term .ensures) (c .before .before .before .before .before .before .before .before .before .before .before .before .id4 .given .1)) (c .before .before .before .before .before .before .before .before .before .before .comp-term .ensures)) .whole) (appended-next (c .before .before .before .before .before .before .collect-term3 .ensures) (c .before .before .collect-term4 .ensures))
 
 abbrev collect-term-list-Inv-loop : collect-term-list-lts.InvT-loop
 collect-term-list-Inv-loop image table symbols rows₀ written terms i₀ after₀ rows i after = RowsLeft image (sought table symbols) (terms .0) i written rows₀ after rows
@@ -361,19 +327,12 @@ pub +collect-app-head+collect-term+collect-term-list-spec : {M : Type 1} → sta
     (collect-term-enum-known-id-3 t)
     (collect-term-term-member-requires t)
     (collect-term-collect-term-requires t)
-    (collect-term-enum-known-id-4 t)
-    (collect-term-dom-term-requires t)
+    (collect-term-argument-requires t)
     (collect-term-collect-term-requires-2 t)
-    (collect-term-enum-known-id-5 t)
-    (collect-term-cod-term-requires t)
-    (collect-term-collect-term-requires-3 t)
-    (collect-term-enum-known-id-6 t)
-    (collect-term-id-term-requires t)
-    (collect-term-collect-term-requires-4 t)
-    (collect-term-enum-known-id-7 t)
+    (collect-term-enum-known-id-4 t)
     (collect-term-comp-term-requires t)
-    (collect-term-collect-term-requires-5 t)
-    (collect-term-collect-term-requires-6 t)
+    (collect-term-collect-term-requires-3 t)
+    (collect-term-collect-term-requires-4 t)
     (collect-term-same-length t)
     (collect-term-returns t)
     (collect-term-returns-2 t)
@@ -384,11 +343,7 @@ pub +collect-app-head+collect-term+collect-term-list-spec : {M : Type 1} → sta
     (collect-term-same-length-4 t)
     (collect-term-returns-5 t)
     (collect-term-same-length-5 t)
-    (collect-term-returns-6 t)
-    (collect-term-same-length-6 t)
-    (collect-term-returns-7 t)
-    (collect-term-same-length-7 t)
-    (collect-term-returns-8 t))
+    (collect-term-returns-6 t))
     λ t. collect-term-list-lts.spec (collect-term-list-claims t)
     (collect-term-list-at t)
     collect-term-list.Post
