@@ -1,4 +1,4 @@
--- What a call of document 01 hands back. Each call's own enum is mapped to it by a definition `answerOf`.
+-- What a call of document 01 hands back. Each call's own enum is mapped to it by a definition in its crate's Answers.
 use Prim.Native.Nat.{ℕ, _<_}
 
 pub data Answer : Type 0 where
