@@ -9,31 +9,31 @@ use native.Mathlib.Decide.{ℕ-discrete}
 use native.Mathlib.Nat.{zero-add}
 use native.Mathlib.Omega.{arith}
 use lib.Dec.{eqb, leb, ltb}
-use lib.ListN.{length, getD}
+use lib.ListN.{length}
 use borrow.Author.Tests.{eq-eqb, eqb-true, lt-ltb, le-leb, ltb-true}
 use Rattle.ast.specs.Answer.{Answer, refused, result}
 use Rattle.ast.specs.Image.{nodes, names, kindAt, nameOf, nameBytes}
 use Rattle.ast.specs.Kinds.{kindOf, name}
-use Rattle.ast.specs.Named.{identTermKind}
 use Rattle.ast.specs.Rows.{fieldsAt}
 use Rattle.ast.specs.Rules.{Rule, moduleRules}
 use Rattle.ast.specs.Tests.{same, need, verdict}
 use Rattle.ast.proofs.Accepted.{skip}
 use Rattle.ast.proofs.Acceptance.{names-differ, name-below}
 use Rattle.names.specs.Number.{numberFrom, numberOf}
-use Rattle.table.specs.Layout.{scopePlace, nodePlace, parentPlace, tableLength}
+use Rattle.table.specs.Layout.{nodePlace, tableLength}
 use Rattle.table.specs.Rising.{nodeAt}
 use Rattle.table.specs.State.{Walked}
-use Rattle.table.specs.Table.{Table, symbolOf, rowIs, findFrom, climb, lookup, exitAt}
+use Rattle.table.specs.Table.{Table, symbolOf, lookup, exitAt}
+use Rattle.table.proofs.Below.{FoundRow, climb-row}
 use Rattle.rows.specs.Rows.{Row}
-use Rattle.sound.specs.Sound.{scopesIn, isSymbol, testSound}
+use Rattle.sound.specs.Sound.{scopesIn, isSymbol}
 use Rattle.scopes.specs.Calls.{testRows, RowsOutcome, rowsCall}
 use Rattle.scopes.specs.Lookup.{testLookup, symbolAnswer, foundBy, lookupCall}
 use Rattle.scopes.specs.Resolve.{testTable, walked, headed, counted}
 use Rattle.scopes.specs.Twice.{declaredTwice}
 use Rattle.scopes.specs.Walk.{done}
 use Rattle.scopes.proofs.Calls.{rows-table, rowed-done}
-use Rattle.scopes.proofs.Resolving.{table-accepted, table-long, walked-ended, zeroed-long, zeroed-length, headed-sound, headed-word, headed-length, headed-scopes}
+use Rattle.scopes.proofs.Resolving.{table-accepted, walked-ended, zeroed-long, headed-sound, headed-word, headed-length, headed-scopes}
 use Rattle.scopes.proofs.Single.{single-done}
 use Rattle.occurrences.specs.Occurrences.{occurrenceRows, occurrences}
 use Rattle.sight.specs.Listing.{placesOf, Occurs, tableIn, Unrefused}
@@ -84,52 +84,6 @@ module _ (img : List ℕ) (accepted : verdict img ≡ 0) where
   pub number-own : (x : ℕ) → x < names img → numberOf img (nameBytes img x) ≡ some x
   unfolding numberOf
   number-own x l = from-own x l (names img) 0 (omega arith) (let z = zero-add (names img) in omega arith)
-
--- what lookup gives is the node of a row, and has the name ------------------------------------------------------------------
-module _ (img ws : List ℕ) where
-  pub record FoundRow (y x m : ℕ) : Type 0 where
-    pub row : ℕ
-    pub within : row < y
-    pub node : nodeAt (nodes img) ws row ≡ m
-    pub named : nameOf img m ≡ x
-
-  row-named : (j s x : ℕ) → rowIs img ws j s x ≡ true → nameOf img (nodeAt (nodes img) ws j) ≡ x
-  unfolding rowIs
-  row-named j s x e = go (eqb (getD ws (scopePlace (nodes img) j) 0) s) e
-    where
-      go : (b : Bool) → elim b [ true ↦ eqb (nameOf img (getD ws (nodePlace (nodes img) j) 0)) x | false ↦ false ] ≡ true → nameOf img (nodeAt (nodes img) ws j) ≡ x
-      go true q = eqb-true _ _ q
-      go false q = absurd (let w : _≡_ {A = ℕ} 0 1 = cc in omega arith)
-
-  find-row : (y c j s x m : ℕ) → j + c ≤ y → findFrom img c ws j s x ≡ some m → FoundRow y x m
-  unfolding findFrom
-  find-row y zero j s x m h e = absurd (let z : _≡_ {A = ℕ} 0 1 = cc in omega arith)
-  find-row y (suc c) j s x m h e = go (rowIs img ws j s x) refl e (find-row y c (j + 1) s x m (omega arith))
-    where
-      go : (b : Bool) → rowIs img ws j s x ≡ b → _≡_ {A = Option ℕ} (elim b [ true ↦ some (nodeAt (nodes img) ws j) | false ↦ findFrom img c ws (j + 1) s x ]) (some m)
-          → (findFrom img c ws (j + 1) s x ≡ some m → FoundRow y x m) → FoundRow y x m
-      go true p q f =
-          let z : nodeAt (nodes img) ws j ≡ m = cc in
-          record { row = j; within = omega arith; node = z; named = ap (nameOf img) (sym z) ∙ row-named j s x p }
-      go false p q f = f q
-
-  climb-row : (f y s x m : ℕ) → climb img f ws y s x ≡ some m → FoundRow y x m
-  unfolding climb
-  climb-row zero y s x m e = absurd (let z : _≡_ {A = ℕ} 0 1 = cc in omega arith)
-  climb-row (suc f) y s x m e = go (findFrom img y ws 0 s x) refl e (climb-row f y (getD ws (parentPlace (nodes img) s) 0) x m)
-    where
-      p : ℕ
-      p = getD ws (parentPlace (nodes img) s) 0
-
-      up : (b : Bool) → _≡_ {A = Option ℕ} (elim b [ true ↦ climb img f ws y p x | false ↦ nothing ]) (some m) → (climb img f ws y p x ≡ some m → FoundRow y x m) → FoundRow y x m
-      up true q h = h q
-      up false q h = absurd (let z : _≡_ {A = ℕ} 0 1 = cc in omega arith)
-
-      go : (o : Option ℕ) → findFrom img y ws 0 s x ≡ o
-          → _≡_ {A = Option ℕ} (elim o [ some n ↦ some n | nothing ↦ elim (ltb p s) [ true ↦ climb img f ws y p x | false ↦ nothing ] ]) (some m)
-          → (climb img f ws y p x ≡ some m → FoundRow y x m) → FoundRow y x m
-      go (some n) q r h = find-row y y 0 s x m (let z = zero-add y in omega arith) (q ∙ r)
-      go nothing q r h = up (ltb p s) r h
 
 -- a symbol is a node
 symbol-node : (img : List ℕ) (n : ℕ) → isSymbol img n ≡ true → n < nodes img

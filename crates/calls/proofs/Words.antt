@@ -6,7 +6,7 @@ use native.Mathlib.Omega.{arith}
 use lib.ListN.{length, getD, set, drop, replicate, length-set, length-replicate, getD-replicate, List·getD-append}
 use lib.Seq.{getD-set-same, getD-set-other, drop-set-lt}
 use Rattle.rows.specs.Rows.{Row, rowsLength, written, cleared, putRows}
-use Rattle.rows.proofs.Appends.{clear-length, clear-long, clear-past, written-is}
+use Rattle.rows.proofs.Appends.{clear-length, clear-past, put-length, written-is}
 
 -- a cleared word is 0
 pub cleared-zero : (n : ℕ) (ws : List ℕ) (i : ℕ) → i < n → getD (cleared n ws) i 0 ≡ 0
@@ -25,11 +25,6 @@ put-past N c (w ∷ l) ws i h k =
       g .0 ∙ getD-set-other vs (1 + N + c) (1 + i) (w .right) 0 (λ q. omega arith) ∙ getD-set-other ws (1 + c) (1 + i) (w .left) 0 (λ q. omega arith),
       g .1 ∙ getD-set-other vs (1 + N + c) (1 + N + i) (w .right) 0 (λ q. omega arith) ∙ getD-set-other ws (1 + c) (1 + N + i) (w .left) 0 (λ q. omega arith),
     )
-
-put-long : (N c : ℕ) (l : List Row) (ws : List ℕ) → length (putRows N c l ws) ≡ length ws
-unfolding putRows
-put-long N c [] ws = refl
-put-long N c (w ∷ l) ws = put-long N (c + 1) l _ ∙ length-set (set ws (1 + c) (w .left)) (1 + N + c) (w .right) ∙ length-set ws (1 + c) (w .left)
 
 put-drop : (N c : ℕ) (l : List Row) (ws : List ℕ) → c + length l ≤ N → drop (rowsLength N) (putRows N c l ws) ≡ drop (rowsLength N) ws
 unfolding putRows
@@ -62,4 +57,4 @@ module _ (N : ℕ) (l : List Row) (old : List ℕ) (few : length l ≤ N) where
 
   pub written-long : rowsLength N ≤ length old → length (written N l old) ≡ length old
   written-long h =
-      ap length (written-is N l old few) ∙ length-set put 0 (length l) ∙ put-long N 0 l (cleared (rowsLength N) old) ∙ clear-length (rowsLength N) old h
+      ap length (written-is N l old few) ∙ length-set put 0 (length l) ∙ put-length N 0 l (cleared (rowsLength N) old) ∙ clear-length (rowsLength N) old h

@@ -59,7 +59,7 @@ unfolding cleared
 clear-past n ws = drop-at (replicate n 0) (drop n ws) n (length-replicate n 0)
 
 -- the whole -----------------------------------------------------------------------------------------------------------
-put-length : (N c : ℕ) (l : List Row) (ws : List ℕ) → length (putRows N c l ws) ≡ length ws
+pub put-length : (N c : ℕ) (l : List Row) (ws : List ℕ) → length (putRows N c l ws) ≡ length ws
 unfolding putRows
 put-length N c [] ws = refl
 put-length N c (w ∷ l) ws = put-length N (c + 1) l _ ∙ length-set (set ws (1 + c) (w .left)) (1 + N + c) (w .right) ∙ length-set ws (1 + c) (w .left)
