@@ -3,7 +3,7 @@ use mathlib.Core.Path.{_≡_}
 use mathlib.Core.Bool.{true}
 use mathlib.Core.List.{List, _∷_, _++_, List·Memᴰ}
 use Prim.Native.Nat.{ℕ, suc, _+_, _<_}
-use Rattle.ast.specs.Named.{codTermKind, ctorDeclKind, definedThenAtomKind, domTermKind, predExprKind}
+use Rattle.ast.specs.Named.{argDeclListKind, codTermKind, ctorDeclKind, definedThenAtomKind, domTermKind, matchCaseKind, predExprKind, termKind, thenAtomKind}
 use Rattle.ast.specs.Image.{nodes, kindAt, field}
 use Rattle.ast.specs.Rows.{numbers, kids}
 use Rattle.table.specs.Table.{Table, isKind, isVar, atEntry, atExit}
@@ -17,7 +17,7 @@ module _ (img : List ℕ) where
 
   -- an ident term: a Term of case Ident, of the IdentTerm i
   pub record IdentTerm (n i : ℕ) : Type 0 where
-    pub node : Node 12 n
+    pub node : Node termKind n
     pub case : field img n 0 ≡ 0
     pub ident : field img n 1 ≡ i
 
@@ -34,7 +34,7 @@ module _ (img : List ℕ) where
 
   -- a ThenAtom, and what stands below it on such a way
   pub data InThen : ℕ → Type 0 where
-    atom : {n : ℕ} → Node 29 n → InThen n
+    atom : {n : ℕ} → Node thenAtomKind n → InThen n
     down : {p c : ℕ} → InThen p → Stands p c → Determines p c → InThen c
 
   -- arguments without a name
@@ -48,7 +48,7 @@ module _ (img : List ℕ) where
     pub before : List ℕ
     pub between : List ℕ
     pub after : List ℕ
-    pub isList : Node 11 list
+    pub isList : Node argDeclListKind list
     pub args : argsOf img list ≡ before ++ (nearest ∷ (between ++ (n ∷ after)))
     pub unnamed : Unnamed between
     pub named : field img n 0 ≡ 0 → ⊥
@@ -68,7 +68,7 @@ module _ (img : List ℕ) where
       pub atom : ℕ
       pub defined : ℕ
       pub term : IdentTerm n i
-      pub isAtom : Node 29 atom
+      pub isAtom : Node thenAtomKind atom
       pub case : field img atom 0 ≡ 1
       pub child : field img atom 1 ≡ defined
       pub variable : field img defined 0 ≡ suc n
@@ -86,7 +86,7 @@ module _ (img : List ℕ) where
       pub list : ℕ
       pub place : ℕ
       pub term : IdentTerm n i
-      pub isCase : Node 35 case
+      pub isCase : Node matchCaseKind case
       pub patternOf : field img case 0 ≡ pattern
       pub applies : field img pattern 0 ≡ 2
       pub appOf : field img pattern 1 ≡ app

@@ -14,6 +14,7 @@ use Prim.Native.Nat.{ℕ, _≤_}
 use lib.ListN.{length}
 use Rattle.ast.specs.Answer.{result}
 use Rattle.ast.specs.Image.{nodes, kindAt, nameOf}
+use Rattle.ast.specs.Named.{appHeadKind, identTermKind, termKind}
 use Rattle.rows.specs.Rows.{Row, lefts, held}
 use Rattle.scopes.specs.Resolve.{walked}
 use Rattle.scopes.specs.Calls.{testRows, RowsOutcome, rowsCall}
@@ -76,7 +77,7 @@ module _ (img tab rows : List ℕ) where
     row-is w = row-of img tab rows tested (ended .0) (ended .1) w
 
     -- The nodes are Terms and AppHeads, the bindings IdentTerms.
-    pub row-kind : (w : Row) → In w list → ((kindAt img (w .left) ≡ 12) ⊎ (kindAt img (w .left) ≡ 15)) × (kindAt img (w .right) ≡ 13)
+    pub row-kind : (w : Row) → In w list → ((kindAt img (w .left) ≡ termKind) ⊎ (kindAt img (w .left) ≡ appHeadKind)) × (kindAt img (w .right) ≡ identTermKind)
     row-kind w i = row-kinds img tab rows tested (ended .0) (ended .1) w i
 
     -- (b) For every two variable occurrences of one rule, with their rows in the list, the listed bindings are equal exactly when

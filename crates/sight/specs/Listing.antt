@@ -6,6 +6,7 @@ use mathlib.Core.List.{List, [], _∷_, _++_}
 use mathlib.Core.Option.{Option, some}
 use Prim.Native.Nat.{ℕ, _≤_, _<_}
 use Rattle.ast.specs.Answer.{Answer, refused, twice, result, other}
+use Rattle.ast.specs.Named.{termKind}
 use Rattle.ast.specs.Image.{kindAt, nameOf}
 use Rattle.rows.specs.Rows.{Row, row}
 use Rattle.occurrences.specs.Occurrences.{timesBound}
@@ -95,7 +96,7 @@ module _ (img : List ℕ) (rows : Rule → List Row) where
     pub occurs : Occurs img own place
     pub node : w .left ≡ place .node
     pub ident : w .right ≡ place .ident
-    pub term : kindAt img (w .left) ≡ 12
+    pub term : kindAt img (w .left) ≡ termKind
 
 -- no number stands twice
 abbrev pub Distinct : List ℕ → Type 0
