@@ -7,7 +7,7 @@ use Rattle.ast.specs.Image.{nodes}
 use Rattle.ast.specs.Tree.{Trees, none, _◂_}
 use Rattle.table.specs.State.{Walked}
 use Rattle.table.specs.Table.{Table, lookup, entryAt, exitAt}
-use Rattle.ordered.specs.Kept.{Kept}
+use Rattle.table.specs.Kept.{Kept}
 use Rattle.ordered.specs.Walk.{Role, occurs, walk, walkFirst}
 use Rattle.ordered.proofs.Moves.{numbers, numbersSeq, stay, next, rises}
 use Rattle.sight.specs.Listing.{Distinct}

@@ -14,12 +14,12 @@ use Rattle.ast.specs.Tree.{Tree, node, block, Trees, none, _◂_}
 use Rattle.table.specs.Layout.{allOnes}
 use Rattle.table.specs.State.{Walked, introduce, back, marked}
 use Rattle.table.specs.Table.{Table, mark, lookup, isKind, isValue, entryAt, exitAt}
-use Rattle.ordered.specs.Kept.{Kept}
+use Rattle.table.specs.Kept.{Kept}
 use Rattle.ordered.specs.Walk.{Role, walkIdent, walk, walkSeq, walkFirst}
 use Rattle.ordered.specs.Walk as walking
-use Rattle.ordered.proofs.Kept.{mark-kept}
+use Rattle.table.proofs.Kept.{mark-kept}
 use Rattle.ordered.proofs.Moves.{numbers, numbersSeq, marks, drops}
-use Rattle.sight.proofs.Frame.{mark-lookup, mark-entry-same, mark-exit-same, new-lookup, new-kept}
+use Rattle.table.proofs.Frame.{mark-lookup, mark-entry-same, mark-exit-same, new-lookup, new-kept}
 use Rattle.sight.proofs.Members.{in-right}
 use Rattle.sight.proofs.Moves.{Walks, walks-over, walks-along, framed}
 use Rattle.sight.proofs.Steps.{IdentOnly, VarTerm, VarTerms, Idents, Body, Bodies, Members, Defines}

@@ -15,8 +15,8 @@ use Rattle.table.specs.Table.{lookup, isKind, isValue, mark, newScope, newSymbo
 use Rattle.ast.proofs.Small.{Small, Smalls}
 use Rattle.ordered.specs.Walk.{Role, occurs, declares, names, defines, walkIdent, headRole, walkArg, walk, walkSeq, walkFirst}
 use Rattle.ordered.specs.Promises.{Few}
-use Rattle.ordered.specs.Kept.{Kept}
-use Rattle.ordered.proofs.Kept.{past, mark-past, scope-past, symbol-past, mark-kept, scope-kept, symbol-kept, mark-length, scope-length, symbol-length, mark-rows, scope-rows, symbol-rows}
+use Rattle.table.specs.Kept.{Kept}
+use Rattle.table.proofs.Kept.{past, mark-past, scope-past, symbol-past, mark-kept, scope-kept, symbol-kept, mark-length, scope-length, symbol-length, mark-rows, scope-rows, symbol-rows}
 
 -- from e to f, whose counts are within the arrays: the rows of e stay, so do the words past the table, and what is kept of a
 -- table is kept

@@ -1,4 +1,3 @@
-pub mod Kept
 pub mod Grows
 pub mod Size
 pub mod Steps

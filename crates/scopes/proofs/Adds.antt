@@ -18,8 +18,8 @@ use Rattle.table.specs.Table.{find, mark, newScope, newSymbol}
 use Rattle.ordered.specs.Walk.{occurs, walkSeq}
 use Rattle.ordered.specs.Promises.{Few}
 use Rattle.ordered.proofs.Grows.{seq-grows}
-use Rattle.ordered.specs.Kept.{Kept}
-use Rattle.ordered.proofs.Kept.{past, mark-kept, scope-kept, symbol-kept, mark-past, scope-past, symbol-past, mark-length, scope-length, symbol-length, mark-rows, scope-rows}
+use Rattle.table.specs.Kept.{Kept}
+use Rattle.table.proofs.Kept.{past, mark-kept, scope-kept, symbol-kept, mark-past, scope-past, symbol-past, mark-length, scope-length, symbol-length, mark-rows, scope-rows}
 use Rattle.ordered.proofs.Size.{seq-within}
 use Rattle.scopes.specs.Walk.{Listed, done, twice, recorded, recordedAll, enterName, andThen, enterNames, markAll, enterAll, visit, visitAll}
 use Rattle.scopes.specs.Promises.{enter, ent, ents, vis, viss, Fits}

@@ -17,7 +17,7 @@ use Rattle.table.specs.Rising.{scopeOf}
 use Rattle.table.specs.State.{Walked, ownSymbol, marked, back}
 use Rattle.table.specs.Table.{find, mark, newSymbol}
 use Rattle.table.proofs.Frames.{find-none, find-mark, find-symbol}
-use Rattle.ordered.proofs.Kept.{mark-length, symbol-length}
+use Rattle.table.proofs.Kept.{mark-length, symbol-length}
 use Rattle.scopes.specs.Walk.{Listed, done, twice, recordedAll, enterName, andThen, enterNames, markAll, enterAll, visit, visitAll}
 use Rattle.scopes.specs.Promises.{ents, vis, viss, Fits}
 use Rattle.scopes.specs.Clash.{Clash, clashFrom, clashIn}

@@ -34,7 +34,7 @@ use Rattle.table.specs.Table.{find, findFrom, mark}
 use Rattle.table.specs.Values.{walkedOf}
 use Rattle.table.specs.declared.Walked.{Walked as InCode}
 use Rattle.ast.specs.declared.NodeId.{NodeId}
-use Rattle.ordered.proofs.Kept.{past, mark-past, mark-length, symbol-past}
+use Rattle.table.proofs.Kept.{past, mark-past, mark-length, symbol-past}
 use Rattle.scopes.specs.Walk.{Listed, done, twice, recorded, enterName, andThen, enterNames, markAll, enterAll, visit}
 use Rattle.scopes.specs.Promises.{listedOf, enter, ent, ents, vis, restEnter, Seen, Entering, Enters, EnterRun, Signature, Stamped}
 use Rattle.scopes.specs.declared.Declared.{Declared}

@@ -22,7 +22,7 @@ use Rattle.table.specs.Table.{Table, find, mark, newScope, newSymbol}
 use Rattle.table.proofs.Frames.{SameRows, mark-word, scope-word, symbol-word, symbol-same, symbol-scope, symbol-node}
 use Rattle.ordered.specs.Walk.{occurs, walkSeq}
 use Rattle.ordered.specs.Promises.{Few}
-use Rattle.ordered.proofs.Kept.{mark-length, scope-length, symbol-length}
+use Rattle.table.proofs.Kept.{mark-length, scope-length, symbol-length}
 use Rattle.ordered.proofs.Moves.{Moves as Walks, stay as rests, next as goes, marks as records, adds as brings, drops as leaves, seq-moves as walks-seq}
 use Rattle.scopes.specs.Resolve.{Unused, parent, scope, symbol}
 use Rattle.scopes.specs.Walk.{Listed, done, twice, recordedAll, enterName, andThen, enterNames, markAll, enterAll, visit, visitAll}

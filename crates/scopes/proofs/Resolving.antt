@@ -27,8 +27,8 @@ use Rattle.table.specs.State.{Walked, marked}
 use Rattle.table.specs.Table.{Table, mark, newScope}
 use Rattle.sound.proofs.Sounds.{parent-low, row-yes, sound-rest}
 use Rattle.ordered.specs.Promises.{Few}
-use Rattle.ordered.specs.Kept.{Kept}
-use Rattle.ordered.proofs.Kept.{past, mark-kept, scope-kept, mark-past, scope-past, mark-length, scope-length}
+use Rattle.table.specs.Kept.{Kept}
+use Rattle.table.proofs.Kept.{past, mark-kept, scope-kept, mark-past, scope-past, mark-length, scope-length}
 use Rattle.rows.proofs.Appends.{clear-length, clear-long, clear-past}
 use Rattle.scopes.specs.Walk.{done, enterAll, visitAll, resolveTree}
 use Rattle.scopes.specs.Resolve.{testTable, zeroed, walked, headed, Way, refuses, stops, fills, way, answerBy, tableBy, tableCall, resolve, Unused}

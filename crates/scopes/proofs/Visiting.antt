@@ -25,7 +25,7 @@ use Rattle.ast.specs.declared.NodeId.{NodeId}
 use Rattle.ordered.specs.Walk.{occurs, walk, walkSeq}
 use Rattle.ordered.specs.Promises.{over, inside, rest, Few, Room, Ready, ReadyRun}
 use Rattle.ordered.proofs.Grows.{Grows, seq-grows}
-use Rattle.ordered.proofs.Kept.{past}
+use Rattle.table.proofs.Kept.{past}
 use Rattle.ordered.proofs.Lists.{rest-start}
 use Rattle.ordered.proofs.Size.{seq-within}
 use Rattle.ordered.proofs.Steps.{room-below, tree-grows}

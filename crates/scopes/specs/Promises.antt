@@ -20,7 +20,7 @@ use Rattle.table.specs.State.{Walked}
 use Rattle.table.specs.Values.{walkedOf}
 use Rattle.ordered.specs.Walk.{occurs}
 use Rattle.ordered.specs.Promises.{inside, Room}
-use Rattle.ordered.specs.Kept.{Kept}
+use Rattle.table.specs.Kept.{Kept}
 use Rattle.scopes.specs.Walk.{Listed, done, twice, recorded, andThen, enterNames, markAll, enterAll, visitAll}
 use Rattle.scopes.specs.declared.Declared.{Declared}
 use Rattle.scopes.specs.declared.Declared.the-variants.{Done, Twice}

@@ -15,12 +15,13 @@ use Rattle.ast.specs.Image.{nodes, nameOf, kindAt}
 use Rattle.ordered.specs.Walk.{Role, defines, walkIdent}
 use Rattle.table.specs.State.{Walked, introduce}
 use Rattle.table.specs.Table.{Table, lookup, isKind, mark, exitAt}
-use Rattle.ordered.specs.Kept.{Kept as KeptTable}
-use Rattle.ordered.proofs.Kept.{mark-kept}
+use Rattle.table.specs.Kept.{Kept as KeptTable}
+use Rattle.table.proofs.Kept.{mark-kept}
 use Rattle.sight.specs.Listing.{Distinct}
 use Rattle.sight.specs.Sight.{Sort, defined, Place, add, opened, In, Within}
 use Rattle.sight.proofs.Flat.{limitOf, Sorted, Chain}
-use Rattle.sight.proofs.Frame.{Bounds, Later, later-next, mark-lookup, mark-exit, mark-exit-same, new-lookup, new-lookup-old, new-exit, new-kept}
+use Rattle.sight.proofs.Frame.{Bounds, Later, later-next}
+use Rattle.table.proofs.Frame.{mark-lookup, mark-exit, mark-exit-same, new-lookup, new-lookup-old, new-exit, new-kept}
 use Rattle.sight.proofs.Keep.{bound, adds, hits, bound-hit, bound-miss, bound-cong, Choice, choice, choice-defined, New, Kept, kept, keptPlace}
 use Rattle.sight.proofs.Members.{in-left, in-right, distinct-left, distinct-right, distinct-apart}
 use Rattle.sight.proofs.Steps.{State, Simple, occur, declare, apply, role, sort, marking, placing, opening, closing, Steps, stay, next, marks, places, fixes, drops}

@@ -19,13 +19,13 @@ use Rattle.table.specs.Table.{Table, find, isKind, entryAt, exitAt}
 use Rattle.table.proofs.Frames.{find-mark}
 use Rattle.ordered.specs.Walk.{occurs, walkSeq}
 use Rattle.scopes.specs.Walk.{done, recordedAll, enterName, andThen, enterNames, markAll, enterAll, visit, visitAll}
-use Rattle.ordered.specs.Kept.{Kept}
-use Rattle.ordered.proofs.Kept.{mark-kept, symbol-kept}
+use Rattle.table.specs.Kept.{Kept}
+use Rattle.table.proofs.Kept.{mark-kept, symbol-kept}
 use Rattle.ordered.proofs.Moves.{numbersSeq}
 use Rattle.scopes.proofs.Adds.{named, done-same, twice-done, and-inv}
 use Rattle.sight.specs.Sight.{In}
 use Rattle.ast.specs.Rules.{Rule, saysAll, rules, rulesAll}
-use Rattle.sight.proofs.Frame.{name-find-other, name-find, name-parent, name-exit, name-entry, mark-parent, mark-exit, mark-entry}
+use Rattle.table.proofs.Frame.{name-find-other, name-find, name-parent, name-exit, name-entry, mark-parent, mark-exit, mark-entry}
 use Rattle.sight.proofs.Steps.{Bodies}
 
 -- the nodes that visiting marks

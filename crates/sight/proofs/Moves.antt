@@ -9,13 +9,14 @@ use Rattle.ast.specs.Tree.{Tree, node, block, Trees, none, _◂_}
 use Rattle.ast.proofs.Vars.{Everywhere, EverywhereAll}
 use Rattle.table.specs.State.{Walked, introduce}
 use Rattle.table.specs.Table.{mark, entryAt}
-use Rattle.ordered.specs.Kept.{Kept}
+use Rattle.table.specs.Kept.{Kept}
 use Rattle.ordered.specs.Walk.{Role, occurs, walk, walkSeq}
-use Rattle.ordered.proofs.Kept.{mark-kept}
+use Rattle.table.proofs.Kept.{mark-kept}
 use Rattle.ordered.proofs.Moves.{numbers, numbersSeq, Moves, stay, next, marks, adds, drops, rises, walk-moves, seq-moves}
 use Rattle.sight.specs.Sight.{In}
 use Rattle.sight.proofs.Members.{in-left, in-right}
-use Rattle.sight.proofs.Frame.{Bounds, Later, later-next, mark-lookup, mark-exit, mark-entry, new-lookup-old, new-exit, new-entry, new-kept}
+use Rattle.sight.proofs.Frame.{Bounds, Later, later-next}
+use Rattle.table.proofs.Frame.{mark-lookup, mark-exit, mark-entry, new-lookup-old, new-exit, new-entry, new-kept}
 
 abbrev pub Any : {A : Type 0} → A → Type 0
 Any a = Unit {0}

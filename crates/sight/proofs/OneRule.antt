@@ -11,7 +11,7 @@ use Rattle.ast.specs.Tree.{Trees}
 use Rattle.ordered.specs.Walk.{occurs, walkSeq}
 use Rattle.table.specs.State.{Walked}
 use Rattle.table.specs.Table.{Table, lookup, isKind, exitAt}
-use Rattle.ordered.specs.Kept.{Kept}
+use Rattle.table.specs.Kept.{Kept}
 use Rattle.ordered.proofs.Moves.{numbersSeq}
 use Rattle.sight.specs.Listing.{Distinct}
 use Rattle.sight.specs.Sight.{Place, ordinary, placeSeq, rulePlaces, In, Naming, Occurrence, Same}

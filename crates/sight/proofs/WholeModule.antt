@@ -20,9 +20,9 @@ use Rattle.table.specs.Table.{Table, mark, newScope, find, lookup, isKind, entr
 use Rattle.table.proofs.Frames.{find-mark, find-scope}
 use Rattle.ordered.specs.Walk.{occurs, walkSeq}
 use Rattle.scopes.specs.Walk.{done, recordedAll, enterAll, visitAll, resolveTree}
-use Rattle.ordered.specs.Kept.{Kept}
+use Rattle.table.specs.Kept.{Kept}
 use Rattle.table.proofs.Agreed.{Agree, lookup-agree}
-use Rattle.ordered.proofs.Kept.{mark-kept, scope-kept}
+use Rattle.table.proofs.Kept.{mark-kept, scope-kept}
 use Rattle.ordered.proofs.Moves.{numbersSeq, rises}
 use Rattle.scopes.proofs.Adds.{and-inv}
 use Rattle.scopes.specs.Resolve.{counted}
@@ -32,7 +32,8 @@ use Rattle.sight.specs.Listing.{Distinct}
 use Rattle.sight.specs.Sight.{Place, In, rulePlaces, Naming, Occurrence, Same, outerConst}
 use Rattle.ast.specs.Rules.{Rule, saysAll, rulesAll}
 use Rattle.sight.proofs.Members.{in-left, in-right, in-split, distinct-left, distinct-right, distinct-apart}
-use Rattle.sight.proofs.Frame.{Bounds, Later, later-next, lookup-child, lookup-root, mark-parent, mark-exit, mark-entry, child-parent, child-parent-other, child-empty, child-exit, child-entry}
+use Rattle.sight.proofs.Frame.{Bounds, Later, later-next}
+use Rattle.table.proofs.Frame.{lookup-child, lookup-root, mark-parent, mark-exit, mark-entry, child-parent, child-parent-other, child-empty, child-exit, child-entry}
 use Rattle.sight.proofs.Steps.{Bodies}
 use Rattle.sight.proofs.Moves.{walks-seq, framed}
 use Rattle.sight.proofs.Lists.{visitedAll, moduleNumbers, Decls, stays, Entered, entering, entersAll, Visits, idle, after, walks, ruled, nested, visitsAll, kind-orElse}

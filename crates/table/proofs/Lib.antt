@@ -6,3 +6,5 @@ pub mod Overs
 pub mod Frames
 pub mod Agreed
 pub mod Below
+pub mod Kept
+pub mod Frame

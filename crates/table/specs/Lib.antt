@@ -3,3 +3,4 @@ pub mod Table
 pub mod State
 pub mod Rising
 pub mod Values
+pub mod Kept

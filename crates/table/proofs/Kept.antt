@@ -8,11 +8,11 @@ use native.Mathlib.Nat.{eq-or-lt-of-le}
 use lib.ListN.{length, set, drop, length-set}
 use lib.Seq.{drop-set-lt}
 use Rattle.ast.specs.Image.{nodes}
 use Rattle.table.specs.Layout.{entryPlace, exitPlace, parentPlace, scopePlace, nodePlace, tableLength}
 use Rattle.table.specs.Rising.{scopeOf}
 use Rattle.table.specs.Table.{Table, mark, newScope, newSymbol}
 use Rattle.table.proofs.Frames.{mark-word, scope-word, symbol-word, symbol-scope}
-use Rattle.ordered.specs.Kept.{Kept}
+use Rattle.table.specs.Kept.{Kept}
 
 module _ (img : List ℕ) where
   -- the scopes of the rows stay
