@@ -82,8 +82,8 @@ module _ (img : List ℕ) where
   -- what names stand for at the module's scope, and what was noted, in a table that is done
   pub record Noted (t : Table) (env : List ℕ) : Type 0 where
     pub outer : At t 0 env
-    pub entries : (n x : ℕ) → n < nodes img → asked img n ≡ some x → Notes t (entryAt img (t .words) n) (notedEntry env n) x
-    pub exits : (n x : ℕ) → n < nodes img → asked img n ≡ some x → Notes t (exitAt img (t .words) n) (notedExit env n) x
+    pub entries : (n x : ℕ) → n < nodes img → asked img n ≡ some x → 0 < entryAt img (t .words) n → Tells t (notedEntry env n) (lookup img t (entryAt img (t .words) n) x)
+    pub exits : (n x : ℕ) → n < nodes img → asked img n ≡ some x → 0 < exitAt img (t .words) n → Tells t (notedExit env n) (lookup img t (exitAt img (t .words) n) x)
 
   -- what a name needs to be bound: x is the node's name, and a name of the image
   pub record Named (n x : ℕ) : Type 0 where
