@@ -217,6 +217,17 @@ fn deep_branches(levels: usize, nodes: usize) -> Vec<u8> {
     f.done(nodes)
 }
 
+/// One rule of one atom, `if` or `then`, with so many variables, all different.
+fn one_atom(then: bool, variables: usize) -> Vec<u8> {
+    let mut f = File::default();
+    let names: Vec<String> = (0..variables).map(|i| format!("v{i}")).collect();
+    let args: Vec<&str> = names.iter().map(String::as_str).collect();
+    let atom = f.pred("shares", &args);
+    let stmt = if then { f.then_stmt(2, atom) } else { f.if_stmt(2, atom) };
+    f.rule(&[stmt]);
+    f.done(0)
+}
+
 fn declarations(count: usize) -> Vec<u8> {
     let mut f = File::default();
     for i in 0..count {
@@ -269,6 +280,7 @@ struct Line {
     nodes: usize,
     rust: [f64; 4],
     here: [f64; 4],
+    tests: f64,
 }
 
 fn time(name: &str, image: &[u8], subject: &dyn Calls) -> Line {
@@ -278,6 +290,7 @@ fn time(name: &str, image: &[u8], subject: &dyn Calls) -> Line {
     let mut rows = vec![0u32; rows_words(n)];
     let mut rust = vec![Vec::new(); 4];
     let mut here = vec![Vec::new(); 4];
+    let mut tests = Vec::new();
     let mut sum = 0usize;
     let mut count = |answer: Answer| match answer {
         Answer::Result(a, b) | Answer::Other(a, b) => sum += (a + b) as usize,
@@ -292,10 +305,15 @@ fn time(name: &str, image: &[u8], subject: &dyn Calls) -> Line {
         here[2].push(clock(|| count(subject.once(image, &mut table))));
         rust[3].push(clock(|| sink(built.all())));
         here[3].push(clock(|| count(subject.occurrences(image, &mut table, &mut rows))));
+        // lent no table, Resolve tests the image and refuses
+        tests.push(clock(|| match subject.resolve(image, &mut []) {
+            Answer::Refused(13) => {}
+            other => panic!("{name}: {other:?}"),
+        }));
     }
     std::hint::black_box(sum);
     let medians = |times: &mut Vec<Vec<f64>>| [0, 1, 2, 3].map(|i| median(&mut times[i]));
-    Line { name: name.to_string(), nodes: n, rust: medians(&mut rust), here: medians(&mut here) }
+    Line { name: name.to_string(), nodes: n, rust: medians(&mut rust), here: medians(&mut here), tests: median(&mut tests) }
 }
 
 #[cfg(feature = "library")]
@@ -323,6 +341,8 @@ fn run() {
         ("deep, 195 branches with a variable each".into(), deep_branches(195, 0)),
         ("deep, 1,000 terms".into(), deep_terms(2047)),
         ("1,000 declarations".into(), declarations(1000)),
+        ("one if-atom, 1,000 variables".into(), one_atom(false, 1000)),
+        ("one then-atom, 1,000 variables".into(), one_atom(true, 1000)),
     ];
     for n in [128, 256, 512, 1024, 2048] {
         inputs.push((format!("growth, typical of {n} nodes"), typical(1000, n)));
@@ -333,23 +353,26 @@ fn run() {
     let subject = subject();
     println!("median of {ROUNDS}, microseconds; R the Rust with its Ast built, L this library from the image's bytes");
     println!("R all: resolve_scopes, check_bindings, check_occurrences. L both: eqlog_errors (mode 1) and eqlog_once.");
+    println!("L tests: the image alone, as each call tests it first. ns: nanoseconds of L both for a node.");
     println!();
-    println!("| input | N | R resolve | L resolve | L occurrences | R all | L errors | L once | L both | R all / L both |");
-    println!("|---|---|---|---|---|---|---|---|---|---|");
+    println!("| input | N | R resolve | L tests | L resolve | L occurrences | R all | L errors | L once | L both | ns | R all / L both |");
+    println!("|---|---|---|---|---|---|---|---|---|---|---|---|");
     for (name, image) in &inputs {
         let line = time(name, image, &subject);
         let both = line.here[1] + line.here[2];
         println!(
-            "| {} | {} | {:.0} | {:.0} | {:.0} | {:.0} | {:.0} | {:.0} | {:.0} | {:.1} |",
+            "| {} | {} | {:.0} | {:.0} | {:.0} | {:.0} | {:.0} | {:.0} | {:.0} | {:.0} | {:.0} | {:.1} |",
             line.name,
             line.nodes,
             line.rust[0],
+            line.tests,
             line.here[0],
             line.here[3],
             line.rust[3],
             line.here[1],
             line.here[2],
             both,
+            both * 1000.0 / line.nodes as f64,
             line.rust[3] / both
         );
     }

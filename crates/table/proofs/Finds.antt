@@ -1,12 +1,14 @@
 -- Laws of lookup.
-use mathlib.Core.Path.{_≡_, refl}
+use mathlib.Core.Path.{_≡_, refl, sym, ap, _∙_}
 use mathlib.Core.List.{List}
 use mathlib.Core.Bool.{Bool, true, false}
 use mathlib.Core.Option.{Option, none, some}
 use Prim.Native.Nat.{ℕ, zero, suc, _+_, _-_, _<_, _≤_}
+use native.Mathlib.Nat.{add-zero, add-suc}
 use native.Mathlib.Omega.{arith}
 use lib.Dec.{ltb, eqb}
 use borrow.Author.Tests.{ltb-true, lt-ltb, le-ltb, eq-eqb, ne-eqb}
+use Rattle.ast.specs.Declarations.{orElse}
 use Rattle.ast.specs.Image.{nodes, kindAt, nameOf}
 use Rattle.ast.proofs.Shapes.{one-more}
 use Rattle.table.specs.Rising.{scopeOf, nodeAt, parentAt}
@@ -36,6 +38,22 @@ module _ (img : List ℕ) where
   value-none = refl
 
 module _ (img ws : List ℕ) where
+  -- row j, if it is of the scope and the name
+  unfoldable pub hit : Bool → ℕ → Option ℕ
+  hit b j = elim b [ true ↦ some (nodeAt (nodes img) ws j) | false ↦ none ]
+
+  find-first : (b : Bool) (j : ℕ) (o u : Option ℕ) → orElse (elim b [ true ↦ some (nodeAt (nodes img) ws j) | false ↦ o ]) u ≡ elim b [ true ↦ some (nodeAt (nodes img) ws j) | false ↦ orElse o u ]
+  find-first true j o u = refl
+  find-first false j o u = refl
+
+  -- the last of the rows counts where no other does
+  pub find-snoc : (c j s x : ℕ) → findFrom img (suc c) ws j s x ≡ orElse (findFrom img c ws j s x) (hit (rowIs img ws (j + c) s x) (j + c))
+  unfolding findFrom hit
+  find-snoc zero j s x = ap (λ (i : ℕ). hit (rowIs img ws i s x) i) (sym (add-zero j))
+  find-snoc (suc c) j s x =
+      ap (λ (o : Option ℕ). elim (rowIs img ws j s x) as (λ _. Option ℕ) [ true ↦ some (nodeAt (nodes img) ws j) | false ↦ o ]) (find-snoc c (j + 1) s x ∙ ap (λ (i : ℕ). orElse (findFrom img c ws (j + 1) s x) (hit (rowIs img ws i s x) i)) (let q : j + 1 + c ≡ j + suc c = omega arith in q))
+      ∙ sym (find-first (rowIs img ws j s x) j (findFrom img c ws (j + 1) s x) (hit (rowIs img ws (j + suc c) s x) (j + suc c)))
+
   pub row-out : (j s x : ℕ) → (scopeOf (nodes img) ws j ≡ s → ⊥) → rowIs img ws j s x ≡ false
   unfolding rowIs
   row-out j s x h = rw (ne-eqb _ _ h, rowIs)
@@ -57,7 +75,7 @@ module _ (img ws : List ℕ) where
   find-end c j s x h = let e : c - j ≡ 0 = omega arith in rw e
 
   -- enough fuel is enough
-  climb-fuel : (f g y s x : ℕ) → s < f → s < g → climb img f ws y s x ≡ climb img g ws y s x
+  pub climb-fuel : (f g y s x : ℕ) → s < f → s < g → climb img f ws y s x ≡ climb img g ws y s x
   unfolding climb orClimb
   climb-fuel zero g y s x h k = absurd (omega arith)
   climb-fuel (suc f) zero y s x h k = absurd (omega arith)

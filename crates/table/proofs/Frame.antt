@@ -18,12 +18,11 @@ use Rattle.table.specs.Layout.{entryPlace, exitPlace, parentPlace}
 use Rattle.table.specs.Rising.{parentAt}
 use Rattle.table.specs.State.{Walked, introduce}
 use Rattle.table.specs.Table.{Table, mark, newScope, newSymbol, rowIs, findFrom, find, climb, lookup, entryAt, exitAt}
-use Rattle.table.proofs.Finds.{row-out}
+use Rattle.table.proofs.Finds.{row-out, hit, find-snoc, climb-fuel}
 use Rattle.table.proofs.Frames.{mark-word, scope-word, symbol-word, find-same, find-none, find-mark, find-scope, symbol-same, symbol-scope, find-symbol}
-use Rattle.table.proofs.Rising.{hit, find-snoc}
 use Rattle.table.specs.Kept.{Kept}
 use Rattle.table.proofs.Kept.{scope-kept, symbol-kept}
-use Rattle.table.proofs.Agreed.{through, above, above-cong, Agree, lookup-agree}
+use Rattle.table.proofs.Agreed.{through, above, Agree, lookup-agree}
 
 above-lower : (o : Option ℕ) (p s : ℕ) (u : Option ℕ) → p < s → above o p s u ≡ orElse o u
 above-lower (some n) p s u l = refl
@@ -37,21 +36,13 @@ module _ (img : List ℕ) where
   abbrev N : ℕ
   N = nodes img
 
-  climb-fuel : (f g : ℕ) (ws : List ℕ) (y s x : ℕ) → s < f → s < g → climb img f ws y s x ≡ climb img g ws y s x
-  unfolding climb
-  climb-fuel zero g ws y s x l m = absurd (omega arith)
-  climb-fuel (suc f) zero ws y s x l m = absurd (omega arith)
-  climb-fuel (suc f) (suc g) ws y s x l m =
-      above-cong (findFrom img y ws 0 s x) (parentAt N ws s) s (climb img f ws y (parentAt N ws s) x) (climb img g ws y (parentAt N ws s) x)
-      (λ h. climb-fuel f g ws y (parentAt N ws s) x (omega arith) (omega arith))
-
   -- lookup at a scope: its own symbols, then its parent's meaning
   pub lookup-child : (t : Table) (k s x : ℕ) → parentAt N (t .words) k ≡ s → s < k → lookup img t k x ≡ orElse (find img t k x) (lookup img t s x)
   unfolding lookup climb find
   lookup-child t k s x e l =
       ap (λ p. above (find img t k x) p k (climb img k (t .words) (t .symbols) p x)) e
       ∙ above-lower (find img t k x) s k (climb img k (t .words) (t .symbols) s x) l
-      ∙ ap (orElse (find img t k x)) (climb-fuel k (suc s) (t .words) (t .symbols) s x l (omega arith))
+      ∙ ap (orElse (find img t k x)) (climb-fuel img (t .words) k (suc s) (t .symbols) s x l (omega arith))
 
   -- lookup at a scope without a parent
   pub lookup-root : (t : Table) (k x : ℕ) → k ≤ parentAt N (t .words) k → lookup img t k x ≡ find img t k x

@@ -17,8 +17,7 @@ use Rattle.ast.specs.Image.{nodes, nameOf}
 use Rattle.table.specs.Layout.{entryPlace, exitPlace, parentPlace, scopePlace, nodePlace, tableLength}
 use Rattle.table.specs.Rising.{scopeOf, nodeAt}
 use Rattle.table.specs.Table.{Table, rowIs, findFrom, find, mark, newScope, newSymbol}
-use Rattle.table.proofs.Finds.{row-out}
-use Rattle.table.proofs.Rising.{hit, find-snoc}
+use Rattle.table.proofs.Finds.{row-out, hit, find-snoc}
 
 -- the words ws and vs have the same first y rows, in the table of an image of n nodes
 pub record SameRows (n y : ℕ) (ws vs : List ℕ) : Type 0 where

@@ -1,9 +1,7 @@
--- Symbol rows that stand by rising scope: what the faster find in one scope rests on.
-use mathlib.Core.Path.{_≡_}
+-- The rows of symbols and the parents of scopes, and rows that stand by rising scope.
 use mathlib.Core.List.{List}
-use Prim.Native.Nat.{ℕ, _-_, _<_, _≤_, _^_}
+use Prim.Native.Nat.{ℕ, _<_, _≤_}
 use lib.ListN.{length, getD}
-use Rattle.ast.specs.Image.{nodes}
 use Rattle.table.specs.Layout.{parentPlace, scopePlace, nodePlace, tableLength}
 
 -- the scope of row j, in the table of an image of n nodes
@@ -23,27 +21,3 @@ pub record Sorted (n y : ℕ) (ws : List ℕ) : Type 0 where
   pub within : y ≤ n
   pub long : tableLength n ≤ length ws
   pub rises : (i j : ℕ) → i ≤ j → j < y → scopeOf n ws i ≤ scopeOf n ws j
-
--- among the first y rows, those before r end with a scope up to s, and those from r on start with one above
-pub record Cut (n y : ℕ) (ws : List ℕ) (s r : ℕ) : Type 0 where
-  pub within : r ≤ y
-  pub low : 0 < r → scopeOf n ws (r - 1) ≤ s
-  pub high : r < y → s < scopeOf n ws r
-
--- among the first y rows, those before r are of scopes below s, and those from r on are not
-pub record Before (n y : ℕ) (ws : List ℕ) (s r : ℕ) : Type 0 where
-  pub within : r ≤ y
-  pub low : 0 < r → scopeOf n ws (r - 1) < s
-  pub high : r < y → s ≤ scopeOf n ws r
-
--- the first y rows of the image's table stand by rising scope
-pub record Rising (img ws : List ℕ) (n y : ℕ) : Type 0 where
-  pub nodes-are : n ≡ nodes img
-  pub small : n < 2 ^ 32
-  pub sorted : Sorted n y ws
-
--- the rows of the scope s are those from f to y
-pub record Block (img ws : List ℕ) (n f y s : ℕ) : Type 0 where
-  pub rising : Rising img ws n y
-  pub cut : Cut n y ws s y
-  pub before : Before n y ws s f
