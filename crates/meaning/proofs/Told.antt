@@ -324,3 +324,7 @@ module _ (img : List ℕ) (T : Table) where
   -- a rule's statements, from where the environment says what lookup gives
   pub rule-told : (ts : Trees) → Bodies img ts → {env : Env} (e : Walked) → At env e → Kept-by (numbersSeq ts) ((walkSeq img walking.occurs ts e) .table) → ToldSeq occurs ts env
   rule-told ts h e a k = (toldSeq ts h e as-occurs a k) .0
+
+  pub rule-met : (ts : Trees) → Bodies img ts → {env : Env} (e : Walked) → At env e → Kept-by (numbersSeq ts) ((walkSeq img walking.occurs ts e) .table)
+      → At (meetsSeq occurs ts env) (walkSeq img walking.occurs ts e)
+  rule-met ts h e a k = (toldSeq ts h e as-occurs a k) .1

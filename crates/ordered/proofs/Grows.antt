@@ -9,7 +9,7 @@ use Rattle.ast.specs.Image.{nodes, nameOf}
 use Rattle.ast.specs.Kinds.{outer, inner, plain, term, ident, head, headMember, member, case, ifVar, definedThen, arg}
 use Rattle.ast.specs.Tree.{Tree, node, block, Trees, none, _◂_}
 use Rattle.table.specs.Layout.{allOnes}
-use Rattle.table.specs.Rising.{scopeOf, Sorted}
+use Rattle.table.specs.Rising.{scopeOf}
 use Rattle.table.specs.State.{Walked, introduce, childScope, ownSymbol, marked, unmarked, back}
 use Rattle.table.specs.Table.{lookup, isKind, isValue, mark, newScope, newSymbol}
 use Rattle.ast.proofs.Small.{Small, Smalls}
@@ -30,11 +30,6 @@ pub record Grows (img : List ℕ) (e f : Walked) : Type 0 where
 
 pub few-below : {img : List ℕ} {e f : Walked} → Grows img e f → Few img (f .table) → Few img (e .table)
 few-below h q = let a = h .scopes in let b = h .symbols in record { scopes = omega arith; symbols = omega arith }
-
--- rows of rising scope were so before
-pub sorted-below : {img : List ℕ} {e f : Walked} → Grows img e f → Few img (f .table) → Sorted (nodes img) (f .table .symbols) (f .table .words) → Sorted (nodes img) (e .table .symbols) (e .table .words)
-sorted-below h q s =
-    record { within = (let y = h .symbols in let z = s .within in omega arith); long = (let y = h .long in let z = s .long in omega arith); rises = λ i j a b. let y = h .symbols in let u = h .rows q i (omega arith) in let v = h .rows q j b in let z = s .rises i j a (omega arith) in omega arith }
 
 pub stays : {img : List ℕ} (e : Walked) → Grows img e e
 stays e = record { scopes = omega arith; symbols = omega arith; long = refl; rows = λ q j l. refl; passed = λ q. refl; kept = λ q s. s }

@@ -6,3 +6,5 @@ pub mod Atoms
 pub mod Stmts
 pub mod Args
 pub mod Moves
+pub mod Paths
+pub mod Idents

@@ -1,26 +1,23 @@
 -- What a walk over the tree of a node is, by the node's kind: for each form of row, the walks over its children.
 use mathlib.Core.Path.{_≡_, refl, sym, ap, subst, _∙_}
-use mathlib.Core.Bool.{Bool, true, false}
-use mathlib.Core.Option.{Option}
+use mathlib.Core.Bool.{false}
 use mathlib.Core.List.{List, [], _∷_}
 use Prim.Native.Nat.{ℕ, suc, _<_}
 use native.Mathlib.Omega.{arith}
 use lib.Dec.{eqb}
 use lib.ListN.{getD}
-use Rattle.ast.specs.Image.{nodes, field, nameOf}
+use Rattle.ast.specs.Image.{field}
 use Rattle.ast.specs.Items.{below}
 use Rattle.ast.specs.Kinds.{Class, inner, plain, term, head, Field, child, cases, noChild, Kind, kindOf}
 use Rattle.ast.specs.Tree.{Tree, Trees, none, _◂_, ordered, treeAt}
 use Rattle.ast.specs.Is.{Is, kindBy}
-use Rattle.table.specs.Rising.{Sorted}
-use Rattle.table.specs.State.{Walked, introduce, marked}
-use Rattle.table.specs.Table.{climb, lookup, isValue}
+use Rattle.table.specs.State.{Walked, marked}
 use Rattle.ast.proofs.Row.{Child, FormedFields, next, nodeOf}
 use Rattle.ast.proofs.Shapes.{termKinds, headKinds, row, tree-of, child-is, case-kids, case-one, case-child}
 use Rattle.ast.proofs.Small.{tree-small}
 use Rattle.ordered.specs.Walk.{Role, occurs, names, walkIdent, headRole, walk, walkSeq}
 use Rattle.ordered.specs.Promises.{over, inside, Room, Ready}
-use Rattle.ordered.proofs.Grows.{Grows, few-below, sorted-below, stays, marked-grows, ident-grows, walk-grows}
+use Rattle.ordered.proofs.Grows.{Grows, few-below, stays, marked-grows, walk-grows}
 
 pub room-below : {img : List ℕ} {e f : Walked} → Grows img e f → Room img f → Room img e
 room-below g r =
@@ -28,7 +25,6 @@ room-below g r =
       scopes = (let a = g .scopes in let b = r .scopes in omega arith);
       symbols = (let a = g .symbols in let b = r .symbols in omega arith);
       few = few-below g (r .few);
-      rising = sorted-below g (r .few) (r .rising);
     }
 
 module _ (img : List ℕ) where
@@ -51,28 +47,6 @@ module _ (img : List ℕ) where
   pub name-step : {n : ℕ} (e : Walked) → Is img (kindOf 13) n → walk img names (treeAt img n) e ≡ marked img n (e .scope) e
   unfolding walkIdent
   name-step e is = ident-step names e is
-
-  -- what a lookup from the scope b gives, by the code's values
-  pub found-from : (n b : ℕ) (e : Walked) (x : ℕ) (o : Option ℕ) → x ≡ nameOf img n → o ≡ climb img (suc b) (e .table .words) (e .table .symbols) b x
-      → lookup img (e .table) b (nameOf img n) ≡ o
-  unfolding lookup
-  found-from n b e x o q p = sym (p ∙ ap (climb img (suc b) (e .table .words) (e .table .symbols) b) q)
-
-  pub ident-known : (n : ℕ) (e : Walked) (x : ℕ) (o : Option ℕ) → x ≡ nameOf img n → o ≡ climb img (suc (e .scope)) (e .table .words) (e .table .symbols) (e .scope) x
-      → isValue img o ≡ true → walkIdent img occurs n e ≡ e
-  unfolding walkIdent
-  ident-known n e x o q p h = ap (λ (b : Bool). elim b as (λ _. Walked) [ true ↦ e | false ↦ introduce img n e ]) (ap (isValue img) (found-from n (e .scope) e x o q p) ∙ h)
-
-  pub ident-new : (n : ℕ) (e : Walked) (x : ℕ) (o : Option ℕ) → x ≡ nameOf img n → o ≡ climb img (suc (e .scope)) (e .table .words) (e .table .symbols) (e .scope) x
-      → isValue img o ≡ false → walkIdent img occurs n e ≡ introduce img n e
-  unfolding walkIdent
-  ident-new n e x o q p h = ap (λ (b : Bool). elim b as (λ _. Walked) [ true ↦ e | false ↦ introduce img n e ]) (ap (isValue img) (found-from n (e .scope) e x o q p) ∙ h)
-
-  pub ident-room : {n : ℕ} {e : Walked} → Ready img (kindOf 13) n e → Room img (walkIdent img occurs n e)
-  ident-room {n} {e} p = part-room p (ident-step occurs e (p .is)) (stays _)
-
-  pub ident-rising : (r : Role) (n : ℕ) (e : Walked) → Room img (walkIdent img r n e) → Sorted (nodes img) (e .table .symbols) (e .table .words)
-  ident-rising r n e q = (room-below (ident-grows img r n e) q) .rising
 
   -- one child, two children, of a plain node ---------------------------------------------------------------------
   pub record One (k n c : ℕ) (e : Walked) : Type 0 where
@@ -122,6 +96,7 @@ module _ (img : List ℕ) where
   pub record Member (n c d : ℕ) (e : Walked) : Type 0 where
     pub low : c < n
     pub first : Ready img (kindOf 12) c e
+    pub second : Is img (kindOf 13) d
     pub whole : over img n e ≡ marked img n (e .scope) (marked img d ((over img c e) .scope) (over img c e))
 
   member-whole : {n : ℕ} (e : Walked) → Is img (kindOf 17) n
@@ -139,6 +114,7 @@ module _ (img : List ℕ) where
       (record {
         low = h .below;
         first = record { is = child-is img (p .is) h; room = part-room p w (marked-grows img ((child-is img (p .is) h2) .below) _ (stays _)) };
+        second = child-is img (p .is) h2;
         whole = w;
       }))
 

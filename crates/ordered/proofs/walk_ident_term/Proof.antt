@@ -1,22 +1,46 @@
-use mathlib.Core.Path.{sym, ap, _∙_}
-use Rattle.table.specs.State.{marked}
-use Rattle.ordered.specs.Walk.{occurs}
-use Rattle.ordered.proofs.Steps.{ident-step, ident-room}
+use mathlib.Core.Path.{refl}
+use Rattle.ordered.proofs.Idents.{as-variable, identHere, ident-asking, ident-ends}
 use borrow.Author.Needs.{needs}
 use Rattle.ordered.proofs.walk_ident_term.Statement.{statement}
 use Rattle.ordered.proofs.walk_ident_term.Tie as tie
 
-bind-ident-requires : tie.Need-bind-ident-requires
-bind-ident-requires c κs = (c .before .before .before .pre .is, ident-room _ (c .before .before .before .pre))
+ident-term-requires : tie.Need-ident-term-requires
+ident-term-requires c κs = search needs
+
+stands-requires : tie.Need-stands-requires
+stands-requires c κs = search needs
+
+is-value-requires : tie.Need-is-value-requires
+is-value-requires c κs = search needs
+
+bind-unless-requires : tie.Need-bind-unless-requires
+bind-unless-requires c κs = let o = identHere _ (as-variable _ (c .before .before .before .before .before .before .before .before .before .before .pre .0)) (c .before .before .before .before .before .before .before .before .before .before .pre .1) (c .before .before .before .before .before .before .ident-term .ensures) refl (c .before .before .before .before .before .before .before .before .before .before .pre .2) (c .before .before .before .before .stands .ensures) (c .before .before .is-value .ensures) in (o .named, o .few, c .before .before .before .before .before .before .before .before .before .before .pre .2)
 
 leave-requires : tie.Need-leave-requires
 leave-requires c κs = search needs
 
+leave-asked-requires : tie.Need-leave-asked-requires
+leave-asked-requires c κs = let o = identHere _ (as-variable _ (c .before .before .before .before .before .before .before .before .before .before .before .before .before .before .before .before .before .before .before .before .before .pre .0)) (c .before .before .before .before .before .before .before .before .before .before .before .before .before .before .before .before .before .before .before .before .before .pre .1) (c .before .before .before .before .before .before .before .before .before .before .before .before .before .before .before .before .before .ident-term .ensures) refl (c .before .before .before .before .before .before .before .before .before .before .before .before .before .before .before .before .before .before .before .before .before .pre .2) (c .before .before .before .before .before .before .before .before .before .before .before .before .before .before .before .stands .ensures) (c .before .before .before .before .before .before .before .before .before .before .before .before .before .is-value .ensures) in ident-asking _ o (c .before .before .before .before .before .before .before .before .before .before .before .before .before .before .before .before .before .before .before .before .before .pre .2) (c .before .before .before .before .before .before .before .before .before .before .before .before .before .before .before .stands .ensures) (c .before .before .before .before .before .before .before .before .before .before .bind-unless .ensures) (c .before .before .before .before .leave .ensures)
+
 same-length : tie.Need-same-length
 same-length c = search needs
 
+same-length-2 : tie.Need-same-length-2
+same-length-2 c = search needs
+
 returns : tie.Need-returns
-returns c = c .before .before .leave .ensures ∙ ap (marked _ _ _) (c .before .before .before .before .before .before .bind-ident .ensures) ∙ sym (ident-step _ occurs _ (c .before .before .before .before .before .before .before .before .before .before .pre .is))
+returns c = let o = identHere _ (as-variable _ (c .before .before .before .before .before .before .before .before .before .before .before .before .before .before .before .before .before .before .before .before .before .before .before .before .before .before .pre .0)) (c .before .before .before .before .before .before .before .before .before .before .before .before .before .before .before .before .before .before .before .before .before .before .before .before .before .before .pre .1) (c .before .before .before .before .before .before .before .before .before .before .before .before .before .before .before .before .before .before .before .before .before .before .ident-term .ensures) refl (c .before .before .before .before .before .before .before .before .before .before .before .before .before .before .before .before .before .before .before .before .before .before .before .before .before .before .pre .2) (c .before .before .before .before .before .before .before .before .before .before .before .before .before .before .before .before .before .before .before .before .stands .ensures) (c .before .before .before .before .before .before .before .before .before .before .before .before .before .before .before .before .before .before .is-value .ensures) in ident-ends _ o (c .before .before .before .before .before .before .before .before .before .before .before .before .before .before .before .bind-unless .ensures) (c .before .before .before .before .before .before .before .before .before .leave .ensures) (c .before .before .before .before .leave-asked .ensures .0) (c .before .before .before .before .leave-asked .ensures .1)
 
 pub walk-ident-term-spec : {M : Type 1} → statement M
-walk-ident-term-spec = tie.close (tie.spec bind-ident-requires leave-requires same-length returns)
+walk-ident-term-spec =
+    tie.close
+    (tie.spec
+    ident-term-requires
+    stands-requires
+    is-value-requires
+    bind-unless-requires
+    leave-requires
+    leave-asked-requires
+    same-length
+    same-length-2
+    returns)
