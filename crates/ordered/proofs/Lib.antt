@@ -8,3 +8,4 @@ pub mod Args
 pub mod Moves
 pub mod Paths
 pub mod Idents
+pub mod Ends

@@ -1,7 +1,6 @@
-use mathlib.Core.Path.{sym, ap, _∙_}
 use Rattle.ast.specs.Kinds.{kindOf}
-use Rattle.table.specs.State.{marked}
 use Rattle.ordered.proofs.Steps.{one}
+use Rattle.ordered.proofs.Idents.{one-ends}
 use borrow.Author.Needs.{needs}
 use Rattle.ordered.proofs.walk_then_stmt.Statement.{statement}
 use Rattle.ordered.proofs.walk_then_stmt.Tie as tie
@@ -11,7 +10,7 @@ then-stmt-requires c κs = search needs
 
 walk-then-atom-requires : tie.Need-walk-then-atom-requires
 unfolding kindOf
-walk-then-atom-requires c κs = (one _ (c .before .before .before .before .before .pre) (c .before .before .then-stmt .ensures)) .first
+walk-then-atom-requires c κs = (one _ (c .before .before .before .before .before .before .before .pre .0) (c .before .before .before .then-stmt .ensures) .first, c .before .before .before .before .before .before .before .pre .1)
 
 leave-requires : tie.Need-leave-requires
 leave-requires c κs = search needs
@@ -19,11 +18,20 @@ leave-requires c κs = search needs
 same-length : tie.Need-same-length
 same-length c = search needs
 
+same-length-2 : tie.Need-same-length-2
+same-length-2 c = search needs
+
 returns : tie.Need-returns
 unfolding kindOf
-returns c = c .before .before .leave .ensures ∙ ap (marked _ _ _) (c .before .before .before .before .before .before .walk-then-atom .ensures) ∙ sym ((one _ (c .before .before .before .before .before .before .before .before .before .before .before .before .pre) (c .before .before .before .before .before .before .before .before .before .then-stmt .ensures)) .whole)
+returns c = one-ends _ (c .before .before .before .before .before .before .before .before .before .before .before .before .before .before .before .before .pre .0) (c .before .before .before .before .before .before .before .before .before .before .before .before .then-stmt .ensures) (c .before .before .before .before .before .before .before .before .walk-then-atom .ensures) (c .before .before .leave .ensures)
 
 pub walk-then-stmt-spec : {M : Type 1} → statement M
 walk-then-stmt-spec =
     tie.close
-    (tie.spec then-stmt-requires walk-then-atom-requires leave-requires same-length returns)
+    (tie.spec
+    then-stmt-requires
+    walk-then-atom-requires
+    leave-requires
+    same-length
+    same-length-2
+    returns)

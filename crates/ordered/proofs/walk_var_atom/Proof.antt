@@ -1,8 +1,7 @@
-use mathlib.Core.Path.{sym, ap, subst, _∙_}
-use Rattle.table.specs.State.{Walked, marked}
-use Rattle.ordered.specs.Walk.{declares, walk}
+use mathlib.Core.Path.{sym, subst}
 use Rattle.ordered.specs.Promises.{Variable}
 use Rattle.ordered.proofs.Atoms.{ifVarOf}
+use Rattle.ordered.proofs.Ends.{if-var-ends}
 use borrow.Author.Needs.{needs}
 use Rattle.ordered.proofs.walk_var_atom.Statement.{statement}
 use Rattle.ordered.proofs.walk_var_atom.Tie as tie
@@ -11,10 +10,10 @@ var-if-atom-requires : tie.Need-var-if-atom-requires
 var-if-atom-requires c κs = search needs
 
 walk-type-expr-requires : tie.Need-walk-type-expr-requires
-walk-type-expr-requires c κs = (ifVarOf _ (c .before .before .before .before .before .before .pre) (c .before .before .before .var-if-atom .ensures .first) (c .before .before .before .var-if-atom .ensures .second)) .first
+walk-type-expr-requires c κs = (ifVarOf _ (c .before .before .before .before .before .before .before .before .pre .0) (c .before .before .before .before .var-if-atom .ensures .first) (c .before .before .before .before .var-if-atom .ensures .second) .first, c .before .before .before .before .before .before .before .before .pre .1)
 
 walk-var-term-requires : tie.Need-walk-var-term-requires
-walk-var-term-requires c κs = subst (λ (f : Walked). Variable (c .before .before .before .before .before .before .before .before .before .before .args .image .now) (f .scope) (c .before .before .before .before .before .before .before .var-if-atom .result .term .0 .0) f) (sym (c .before .before .before .walk-type-expr .ensures)) ((ifVarOf _ (c .before .before .before .before .before .before .before .before .before .before .pre) (c .before .before .before .before .before .before .before .var-if-atom .ensures .first) (c .before .before .before .before .before .before .before .var-if-atom .ensures .second)) .second)
+walk-var-term-requires c κs = (subst (Variable _ _ _) (sym (c .before .before .before .before .before .before .walk-type-expr .ensures .same)) (ifVarOf _ (c .before .before .before .before .before .before .before .before .before .before .before .before .before .before .before .pre .0) (c .before .before .before .before .before .before .before .before .before .before .before .var-if-atom .ensures .first) (c .before .before .before .before .before .before .before .before .before .before .before .var-if-atom .ensures .second) .second), c .before .before .before .before .before .before .walk-type-expr .ensures .stands)
 
 leave-requires : tie.Need-leave-requires
 leave-requires c κs = search needs
@@ -22,8 +21,11 @@ leave-requires c κs = search needs
 same-length : tie.Need-same-length
 same-length c = search needs
 
+same-length-2 : tie.Need-same-length-2
+same-length-2 c = search needs
+
 returns : tie.Need-returns
-returns c = c .before .before .leave .ensures ∙ ap (marked _ _ _) (c .before .before .before .before .before .before .walk-var-term .ensures ∙ ap (walk _ declares _) (c .before .before .before .before .before .before .before .before .before .before .walk-type-expr .ensures)) ∙ sym ((ifVarOf _ (c .before .before .before .before .before .before .before .before .before .before .before .before .before .before .before .before .before .pre) (c .before .before .before .before .before .before .before .before .before .before .before .before .before .before .var-if-atom .ensures .first) (c .before .before .before .before .before .before .before .before .before .before .before .before .before .before .var-if-atom .ensures .second)) .whole)
+returns c = if-var-ends _ (c .before .before .before .before .before .before .before .before .before .before .before .before .before .before .before .before .before .before .before .before .before .before .before .before .pre .0) (c .before .before .before .before .before .before .before .before .before .before .before .before .before .before .before .before .before .before .before .before .var-if-atom .ensures .first) (c .before .before .before .before .before .before .before .before .before .before .before .before .before .before .before .before .before .before .before .before .var-if-atom .ensures .second) (c .before .before .before .before .before .before .before .before .before .before .before .before .before .before .before .walk-type-expr .ensures) (c .before .before .before .before .before .before .before .before .walk-var-term .ensures) (c .before .before .leave .ensures)
 
 pub walk-var-atom-spec : {M : Type 1} → statement M
 walk-var-atom-spec =
@@ -34,4 +36,5 @@ walk-var-atom-spec =
     walk-var-term-requires
     leave-requires
     same-length
+    same-length-2
     returns)

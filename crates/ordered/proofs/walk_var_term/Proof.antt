@@ -1,18 +1,54 @@
-use mathlib.Core.Path.{sym, _∙_}
-use Rattle.table.specs.Values.{walkedOf}
-use Rattle.ordered.proofs.Atoms.{declares-as}
+use mathlib.Core.Path.{ap}
+use denote.Enum.Declared.{tagOf}
+use Rattle.typed.proofs.nodes.Term as Term
+use Rattle.typed.proofs.Enums.{term-is, term-other, after-first}
+use Rattle.ordered.proofs.Atoms.{var-other}
+use Rattle.ordered.proofs.Ends.{ends-as}
 use borrow.Author.Needs.{needs}
 use Rattle.ordered.proofs.walk_var_term.Statement.{statement}
 use Rattle.ordered.proofs.walk_var_term.Tie as tie
 
-walk-then-defined-var-requires : tie.Need-walk-then-defined-var-requires
-walk-then-defined-var-requires c κs = search needs
+term-requires : tie.Need-term-requires
+term-requires c κs = search needs
+
+enum-known-ident : tie.Need-enum-known-ident
+enum-known-ident c = search needs
+
+walk-var-ident-requires : tie.Need-walk-var-ident-requires
+walk-var-ident-requires c κs = let k = term-is _ (c .before .before .before .before .before .before .before .before .before .pre .0 .is) (c .before .before .before .before .before .term .ensures) (c .before .before .before .ident .given .1) in (c .before .before .before .before .before .before .before .before .before .pre .0, record { first = k .number; second = k .child }, c .before .before .before .before .before .before .before .before .before .pre .1)
+
+walk-term-requires : tie.Need-walk-term-requires
+walk-term-requires c κs = let o = var-other _ (c .before .before .before .before .before .before .before .pre .0) (term-other _ (c .before .before .before .before .before .before .before .pre .0 .is) (c .before .before .before .term .ensures) (λ i r. after-first (c .before .before .match .keys2) (ap (tagOf Term.the-type) r))) in (o .0, c .before .before .before .before .before .before .before .pre .1)
 
 same-length : tie.Need-same-length
 same-length c = search needs
 
+same-length-2 : tie.Need-same-length-2
+same-length-2 c = search needs
+
 returns : tie.Need-returns
-returns c = c .before .before .walk-then-defined-var .ensures ∙ sym (declares-as _ (walkedOf (c .before .before .before .before .before .before .before .args .current) (c .before .before .before .before .before .before .before .args .table .now)) (c .before .before .before .before .before .before .before .pre .is))
+returns c = search needs
+
+same-length-3 : tie.Need-same-length-3
+same-length-3 c = search needs
+
+same-length-4 : tie.Need-same-length-4
+same-length-4 c = search needs
+
+returns-2 : tie.Need-returns-2
+returns-2 c = let o = var-other _ (c .before .before .before .before .before .before .before .before .before .before .before .before .pre .0) (term-other _ (c .before .before .before .before .before .before .before .before .before .before .before .before .pre .0 .is) (c .before .before .before .before .before .before .before .before .term .ensures) (λ i r. after-first (c .before .before .before .before .before .before .before .match .keys2) (ap (tagOf Term.the-type) r))) in ends-as _ (o .1) (c .before .before .before .before .walk-term .ensures)
 
 pub walk-var-term-spec : {M : Type 1} → statement M
-walk-var-term-spec = tie.close (tie.spec walk-then-defined-var-requires same-length returns)
+walk-var-term-spec =
+    tie.close
+    (tie.spec
+    term-requires
+    enum-known-ident
+    walk-var-ident-requires
+    walk-term-requires
+    same-length
+    same-length-2
+    returns
+    same-length-3
+    same-length-4
+    returns-2)
