@@ -6,23 +6,23 @@ use Prim.Native.Nat.{ℕ, zero, suc, _+_, _<_, _≤_, _^_}
 use native.Mathlib.Omega.{arith}
 use lib.ListN.{length}
 use borrow.Author.Tests.{eq-eqb, ne-eqb, le-leb, lt-leb}
-use Rattle.ast.specs.Image.{nodes, last}
+use Rattle.ast.specs.Image.{last}
 use Rattle.ast.specs.Kinds.{kindOf}
 use Rattle.ast.specs.Tests.{need, verdict}
 use Rattle.ast.specs.Tree.{treeAt}
 use Rattle.ast.proofs.Accepted.{both, skip, stop, sized, formed, last-below}
-use Rattle.table.specs.Rising.{Sorted}
 use Rattle.table.specs.Table.{Table}
 use Rattle.table.specs.Values.{tableOf}
 use Rattle.table.specs.declared.Walked.{Walked as InCode}
+use Rattle.environment.specs.Stands.{Noted}
 use Rattle.rows.specs.Rows.{Row, Appended}
 use Rattle.scopes.specs.Resolve.{testTable}
 use Rattle.scopes.specs.Calls.{testRows}
-use Rattle.scopes.specs.Answers.{Resolves}
+use Rattle.scopes.specs.Promises.{NotedBy}
 use Rattle.scopes.specs.declared.Declared.{Declared}
 use Rattle.scopes.specs.declared.Declared.the-variants.{Done}
 use Rattle.scopes.proofs.Calls.{rows-table, rows-long}
-use Rattle.scopes.proofs.Headed.{resolved-filled}
+use Rattle.scopes.proofs.Resolving.{table-accepted}
 use Rattle.bindings.specs.Errors.{isStrict, strictRows, declRows, plainRows, errorRows, testErrors}
 use Rattle.bindings.specs.Promises.{Ready, ofMode, Filled}
 use Rattle.bindings.proofs.Bound.{both-few}
@@ -41,13 +41,13 @@ module _ (img : List ℕ) where
   pub rows-fit : (t : Table) → verdict img ≡ 0 → length (plainRows img t) + length (strictRows img) < 2 ^ 32
   rows-fit t e = let a = both-few img e t in let s = (sized img e) .fewNodes in omega arith
 
-  pub root-ready : {t : Table} {m : ℕ} → verdict img ≡ 0 → Sorted (nodes img) (t .symbols) (t .words) → m ≡ last img → Ready img t (kindOf 0) m (declRows img t (treeAt img m)) 0
+  pub root-ready : {t : Table} {env : List ℕ} {m : ℕ} → verdict img ≡ 0 → Noted img t env → m ≡ last img → Ready img t env (kindOf 0) m (declRows img t (treeAt img m)) 0
   unfolding plainRows
-  root-ready {t} {m} e s q =
-      subst (λ (x : ℕ). Ready img t (kindOf 0) x (declRows img t (treeAt img x)) 0) (sym q)
+  root-ready {t} {env} {m} e s q =
+      subst (λ (x : ℕ). Ready img t env (kindOf 0) x (declRows img t (treeAt img x)) 0) (sym q)
       (record {
         is = record { accepted = e; below = last-below img e; kind = ap kindOf ((formed img e) .root) };
-        room = record { rising = s; fits = let a = rows-fit t e in omega arith };
+        room = record { noted = s; fits = let a = rows-fit t e in omega arith };
       })
 
   pub plain-of : (t : Table) {m : ℕ} → m ≡ last img → declRows img t (treeAt img m) ≡ plainRows img t
@@ -84,7 +84,9 @@ module _ (img tab rows : List ℕ) (mode : ℕ) where
   errors-table e = rows-table img tab rows (errors-rows e)
 
   -- what the checks ask
-  pub errors-filled : testErrors img tab rows mode ≡ 0 → {d : Declared} {ws : List ℕ} → Resolves img tab d ws → {w : InCode} → d ≡ Done w → Filled img (tableOf w ws) rows
-  errors-filled p r q =
-      let f = resolved-filled img tab (errors-table p) r q in
-      record { accepted = f .accepted; rising = f .rising; long = rows-long img tab rows (errors-rows p) }
+  pub errors-filled : testErrors img tab rows mode ≡ 0 → {d : Declared} {w : InCode} {ws env : List ℕ} → d ≡ Done w → NotedBy img d ws env → Filled img (tableOf w ws) env rows
+  errors-filled p {ws = ws} {env} q h = record {
+    accepted = table-accepted img tab (errors-table p);
+    noted = subst (λ (d : Declared). NotedBy img d ws env) q h;
+    long = rows-long img tab rows (errors-rows p);
+  }

@@ -8,7 +8,7 @@ use native.Mathlib.Nat.{add-zero, sub-zero}
 use native.Mathlib.Omega.{arith}
 use lib.Dec.{eqb}
 use lib.ListN.{length-append, getD}
-use Rattle.ast.specs.Image.{nodes, field}
+use Rattle.ast.specs.Image.{field}
 use Rattle.ast.specs.Kinds.{inner, term, head, noChild, kindOf}
 use Rattle.ast.specs.Is.{Is, Run}
 use Rattle.ast.specs.Tree.{ordered, treeAt}
@@ -19,7 +19,7 @@ use Rattle.typed.specs.RowShapes.{Two, Listed}
 use Rattle.typed.specs.declared.nodes.NodeList.{NodeList}
 use Rattle.typed.proofs.Lists.{at-list}
 use Rattle.table.specs.Table.{Table}
-use Rattle.table.specs.Rising.{Sorted}
+use Rattle.environment.specs.Stands.{Noted}
 use Rattle.rows.specs.Rows.{Row, Appended}
 use Rattle.rows.proofs.Parts.{Left, left-room}
 use Rattle.bindings.specs.Errors.{introducedRow, rowsOf, rowsSeq}
@@ -28,24 +28,24 @@ use Rattle.bindings.specs.Promises.{Room, inside, listed}
 use Rattle.bindings.proofs.RowLaws.{rowsAt, plain-rows, term-rows, ident-rows, member-rows, receiver-rows, head-ident, head-other, one-inside, two-inside, case-inside, list-inside}
 use Rattle.bindings.proofs.Quiet.{quiet}
 
-module _ {img : List ℕ} {t : Table} where
+module _ {img : List ℕ} {t : Table} {env : List ℕ} where
   -- room for the same rows, for the first of them, and for the rest
-  pub room-as : {l k : List Row} {c : ℕ} → l ≡ k → Room img t l c → Room img t k c
-  room-as {c = c} e h = subst (λ (m : List Row). Room img t m c) e h
+  pub room-as : {l k : List Row} {c : ℕ} → l ≡ k → Room img t env l c → Room img t env k c
+  room-as {c = c} e h = subst (λ (m : List Row). Room img t env m c) e h
 
-  pub room-first : {l m : List Row} {c : ℕ} (k : List Row) → m ≡ l ++ k → Room img t m c → Room img t l c
+  pub room-first : {l m : List Row} {c : ℕ} (k : List Row) → m ≡ l ++ k → Room img t env m c → Room img t env l c
   room-first {l} {c = c} k e h =
       let g = (room-as e h) .fits in
-      record { rising = h .rising; fits = let a = length-append l k in omega arith }
+      record { noted = h .noted; fits = let a = length-append l k in omega arith }
 
-  pub room-rest : {l k m : List Row} {N c r : ℕ} {ws vs : List ℕ} → m ≡ l ++ k → Room img t m c → Appended N l c ws r vs → Room img t k r
+  pub room-rest : {l k m : List Row} {N c r : ℕ} {ws vs : List ℕ} → m ≡ l ++ k → Room img t env m c → Appended N l c ws r vs → Room img t env k r
   room-rest {l} {k} e h f =
       let g = (room-as e h) .fits in
-      record { rising = h .rising; fits = let a = length-append l k in let b = f .count in omega arith }
+      record { noted = h .noted; fits = let a = length-append l k in let b = f .count in omega arith }
 
   -- room for a part of what a loop has left
-  pub room-left : {l whole rest : List Row} {N c r : ℕ} {ws vs : List ℕ} (more : List Row) → Sorted (nodes img) (t .symbols) (t .words) → Left N whole rest c ws r vs → rest ≡ l ++ more → Room img t l r
-  room-left {l} more s h e = record { rising = s; fits = left-room l more h e }
+  pub room-left : {l whole rest : List Row} {N c r : ℕ} {ws vs : List ℕ} (more : List Row) → Noted img t env → Left N whole rest c ws r vs → rest ≡ l ++ more → Room img t env l r
+  room-left {l} more s h e = record { noted = s; fits = left-room l more h e }
 
 module _ (img : List ℕ) (t : Table) where
   -- the rows l are those below the node d, which is below n and of kind k

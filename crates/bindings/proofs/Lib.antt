@@ -1,4 +1,5 @@
 pub mod Cases
+pub mod Looked
 pub mod Leaves
 pub mod RowLaws
 pub mod Quiet

@@ -2,45 +2,61 @@
 use mathlib.Core.Path.{_≡_}
 use mathlib.Core.Bool.{Bool, true, false}
 use mathlib.Core.List.{List, [], _∷_, _++_}
+use mathlib.Core.Option.{some}
 use Prim.Native.Nat.{ℕ, _+_, _<_, _≤_, _^_}
 use lib.ListN.{length, set, replicate}
-use Rattle.ast.specs.Image.{nodes, field}
+use Rattle.ast.specs.Image.{nodes, field, nameOf}
 use Rattle.ast.specs.Kinds.{Kind, kindOf}
 use Rattle.ast.specs.Tests.{verdict}
 use Rattle.ast.specs.Is.{Is, Run}
 use Rattle.ast.specs.Tree.{treeAt}
 use Rattle.ast.specs.Items.{items, below}
-use Rattle.ast.specs.Named.{termKind}
+use Rattle.ast.specs.Named.{termKind, thenAtomKind}
 use Rattle.typed.specs.declared.nodes.NodeList.{NodeList}
 use Rattle.table.specs.Table.{Table}
-use Rattle.table.specs.Rising.{Sorted}
+use Rattle.environment.specs.Layout.{namesMost}
+use Rattle.environment.specs.Asked.{asked}
+use Rattle.environment.specs.Stands.{Noted}
 use Rattle.rows.specs.Rows.{Row, rowsLength}
 use Rattle.bindings.specs.Errors.{rowsSeq, patternRows, argRows, declsRows, repeated, repeatedTo, strictRows, isStrict}
 
--- the symbol rows of the table stand by rising scope, and the count has room for the rows l
-pub record Room (img : List ℕ) (t : Table) (l : List Row) (count : ℕ) : Type 0 where
-  pub rising : Sorted (nodes img) (t .symbols) (t .words)
+-- the notes of the walk are those of the table, and the count has room for the rows l
+pub record Room (img : List ℕ) (t : Table) (env : List ℕ) (l : List Row) (count : ℕ) : Type 0 where
+  pub noted : Noted img t env
   pub fits : count + length l < 2 ^ 32
 
 -- what a check of the node n asks, for the rows l that it appends
-pub record Ready (img : List ℕ) (t : Table) (kd : Kind) (n : ℕ) (l : List Row) (count : ℕ) : Type 0 where
+pub record Ready (img : List ℕ) (t : Table) (env : List ℕ) (kd : Kind) (n : ℕ) (l : List Row) (count : ℕ) : Type 0 where
   pub is : Is img kd n
-  pub room : Room img t l count
+  pub room : Room img t env l count
 
--- what a check of the variable n of a defined-then asks: it is of case Ident or Wildcard
-pub record PlainVariable (img : List ℕ) (t : Table) (n : ℕ) (l : List Row) (count : ℕ) : Type 0 where
+-- the name of the IdentTerm i is asked for at the node n
+pub record Asks (img : List ℕ) (n i : ℕ) : Type 0 where
+  pub node : n < nodes img
+  pub is : asked img n ≡ some (nameOf img i)
+  pub below : nameOf img i < namesMost
+
+-- the ThenAtom n is of case Defined, with the child d
+pub record Defines (img : List ℕ) (n d : ℕ) : Type 0 where
+  pub is : Is img (kindOf thenAtomKind) n
+  pub number : 1 ≡ field img n 0
+  pub child : d ≡ field img n 1
+
+-- what a check of the variable n of a defined-then asks: it is of case Ident, its name asked for at the atom o, or Wildcard
+pub record PlainVariable (img : List ℕ) (t : Table) (env : List ℕ) (o n : ℕ) (l : List Row) (count : ℕ) : Type 0 where
   pub is : Is img (kindOf termKind) n
   pub plain : field img n 0 ≤ 1
-  pub room : Room img t l count
+  pub asks : (i : ℕ) → 0 ≡ field img n 0 → i ≡ field img n 1 → Asks img o i
+  pub room : Room img t env l count
 
 -- the same of a run of children
-pub record ReadyRun (img : List ℕ) (t : Table) (k n j c : ℕ) (l : List Row) (count : ℕ) : Type 0 where
+pub record ReadyRun (img : List ℕ) (t : Table) (env : List ℕ) (k n j c : ℕ) (l : List Row) (count : ℕ) : Type 0 where
   pub run : Run img k n j c
-  pub room : Room img t l count
+  pub room : Room img t env l count
 
 -- of the nodes of a list
-abbrev pub ReadyAll : List ℕ → Table → ℕ → NodeList → List Row → ℕ → Type 0
-ReadyAll img t k ns l count = ReadyRun img t k (ns .node .0) (ns .first) (ns .count) l count
+abbrev pub ReadyAll : List ℕ → Table → List ℕ → ℕ → NodeList → List Row → ℕ → Type 0
+ReadyAll img t env k ns l count = ReadyRun img t env k (ns .node .0) (ns .first) (ns .count) l count
 
 module _ (img : List ℕ) (t : Table) where
   -- the rows below a node, rows 1 asked for or not
@@ -93,8 +109,8 @@ pub record Marks (img ms : List ℕ) (count : ℕ) : Type 0 where
 abbrev pub ofMode : List ℕ → ℕ → List Row
 ofMode img mode = elim (isStrict img mode) as (λ _. List Row) [ true ↦ strictRows img | false ↦ [] ]
 
--- a table that Resolve filled, and lent rows that are long enough
-pub record Filled (img : List ℕ) (t : Table) (rows : List ℕ) : Type 0 where
+-- a table that Resolve filled, with its notes, and lent rows that are long enough
+pub record Filled (img : List ℕ) (t : Table) (env rows : List ℕ) : Type 0 where
   pub accepted : verdict img ≡ 0
-  pub rising : Sorted (nodes img) (t .symbols) (t .words)
+  pub noted : Noted img t env
   pub long : rowsLength (nodes img) ≤ length rows

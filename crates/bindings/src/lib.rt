@@ -13,12 +13,12 @@ ghost use Rattle.ast.specs.Tests as «tests-spec»;
 ghost use Rattle.ast.specs.Tree.{treeAt};
 ghost use Rattle.typed.specs.Nodes.{nameWord};
 ghost use Rattle.table.specs.Table as «table-spec»;
-ghost use Rattle.table.specs.Rising.{Sorted};
 ghost use Rattle.table.specs.Values.{tableOf};
+ghost use Rattle.environment.specs.Stands.{Noted};
 ghost use Rattle.rows.specs.Rows.{row, Appended, Wrote, when};
 ghost use Rattle.scopes.specs.Answers.{rowedAnswer};
 ghost use Rattle.bindings.specs.Errors.{sameNode, introduces, introducedRow, definedRow, argRow, isCtor, rowsOf, declRows, repeatedIn, repeatedTo, strictRows, errorRows, testErrors, errors};
-ghost use Rattle.bindings.specs.Promises.{Room, Ready, PlainVariable, inside, ofStmts, ofDecls, ofPattern, ofCase, ofArgs, marked, MarkedOne, Marks, ofMode, Filled, ReadyAll};
+ghost use Rattle.bindings.specs.Promises.{Room, Ready, Asks, Defines, PlainVariable, inside, ofStmts, ofDecls, ofPattern, ofCase, ofArgs, marked, MarkedOne, Marks, ofMode, Filled, ReadyAll};
 use ast::NodeId;
 use ast::kinds;
 use error::ErrorKind;
@@ -36,8 +36,9 @@ pub fn check_bindings(image: &[u8], table: &mut [u32], rows: &mut [u32], mode: u
     if code != 0 {
         return Rowed::Refused(code);
     }
-    match scopes::resolve_into(image, table) {
-        Declared::Done(w) => Rowed::Rows(write_rows(image, table, w, rows, mode)),
+    let mut env = [0u32; environment::WORDS];
+    match scopes::resolve_into(image, table, &mut env) {
+        Declared::Done(w) => Rowed::Rows(write_rows(image, table, w, &env, rows, mode)),
         Declared::Twice(name, first, second) => Rowed::Twice(name, first, second),
     }
 }
@@ -57,13 +58,20 @@ fn test_errors(image: &[u8], table: &[u32], rows: &[u32], mode: u32) -> u32
 }
 
 // The error rows, with their count in front.
-fn write_rows(image: &[u8], table: &[u32], w: Walked, rows: &mut [u32], mode: u32) -> u32
-    requires { ⌜ Filled (now image) (tableOf w (now table)) (now rows) ⌝ }
+fn write_rows(
+    image: &[u8],
+    table: &[u32],
+    w: Walked,
+    env: &[u32],
+    rows: &mut [u32],
+    mode: u32,
+) -> u32
+    requires { ⌜ Filled (now image) (tableOf w (now table)) (now env) (now rows) ⌝ }
     ensures { λ r. ⌜ Wrote («image-spec».nodes (now (image .entry))) (errorRows (now (image .entry)) (tableOf w (now (table .entry))) mode) (now (rows .entry)) r (now (rows .exit)) ⌝ }
 {
     let n = ast::node_count(image);
     rows::begin(rows, n);
-    let after_module = walk_module(image, table, w, rows, 0, ModuleId(NodeId(n - 1)));
+    let after_module = walk_module(image, table, w, env, rows, 0, ModuleId(NodeId(n - 1)));
     let after_mode = check_mode(image, rows, after_module, mode);
     rows::finish(rows, after_mode)
 }
@@ -72,33 +80,35 @@ fn walk_module(
     image: &[u8],
     table: &[u32],
     w: Walked,
+    env: &[u32],
     rows: &mut [u32],
     written: u32,
     module: ModuleId,
 ) -> u32
-    requires { ⌜ Ready (now image) (tableOf w (now table)) (kindOf moduleKind) («module» .0 .0) (declRows (now image) (tableOf w (now table)) (treeAt (now image) («module» .0 .0))) written ⌝ }
+    requires { ⌜ Ready (now image) (tableOf w (now table)) (now env) (kindOf moduleKind) («module» .0 .0) (declRows (now image) (tableOf w (now table)) (treeAt (now image) («module» .0 .0))) written ⌝ }
     ensures { λ r. ⌜ Appended («image-spec».nodes (now (image .entry))) (declRows (now (image .entry)) (tableOf w (now (table .entry))) (treeAt (now (image .entry)) («module» .0 .0))) written (now (rows .entry)) r (now (rows .exit)) ⌝ }
 {
     let Module { decls } = typed::module(image, module);
-    walk_decls(image, table, w, rows, written, decls)
+    walk_decls(image, table, w, env, rows, written, decls)
 }
 
 fn walk_decls(
     image: &[u8],
     table: &[u32],
     w: Walked,
+    env: &[u32],
     rows: &mut [u32],
     written: u32,
     decls: DeclIds,
 ) -> u32
-    requires { ⌜ ReadyAll (now image) (tableOf w (now table)) declKind (decls .0) (ofDecls (now image) (tableOf w (now table)) (decls .0)) written ⌝ }
+    requires { ⌜ ReadyAll (now image) (tableOf w (now table)) (now env) declKind (decls .0) (ofDecls (now image) (tableOf w (now table)) (decls .0)) written ⌝ }
     ensures { λ r. ⌜ Appended («image-spec».nodes (now (image .entry))) (ofDecls (now (image .entry)) (tableOf w (now (table .entry))) (decls .0)) written (now (rows .entry)) r (now (rows .exit)) ⌝ }
 {
     let mut i = 0;
     let mut after = written;
     while i < decls.0.count {
         let decl = typed::nth_decl(image, decls, i);
-        after = walk_decl(image, table, w, rows, after, decl);
+        after = walk_decl(image, table, w, env, rows, after, decl);
         i += 1;
     }
     after
@@ -108,22 +118,23 @@ fn walk_decl(
     image: &[u8],
     table: &[u32],
     w: Walked,
+    env: &[u32],
     rows: &mut [u32],
     written: u32,
     decl: DeclId,
 ) -> u32
-    requires { ⌜ Ready (now image) (tableOf w (now table)) (kindOf declKind) (decl .0 .0) (declRows (now image) (tableOf w (now table)) (treeAt (now image) (decl .0 .0))) written ⌝ }
+    requires { ⌜ Ready (now image) (tableOf w (now table)) (now env) (kindOf declKind) (decl .0 .0) (declRows (now image) (tableOf w (now table)) (treeAt (now image) (decl .0 .0))) written ⌝ }
     ensures { λ r. ⌜ Appended («image-spec».nodes (now (image .entry))) (declRows (now (image .entry)) (tableOf w (now (table .entry))) (treeAt (now (image .entry)) (decl .0 .0))) written (now (rows .entry)) r (now (rows .exit)) ⌝ }
 {
     match typed::decl(image, decl) {
         Decl::Type(_) | Decl::Pred(_) | Decl::Func(_) | Decl::Const(_) | Decl::Enum(_) => written,
         Decl::Rule(id) => {
             let RuleDecl { body, .. } = typed::rule_decl(image, id);
-            walk_stmt_block(image, table, w, rows, written, body)
+            walk_stmt_block(image, table, w, env, rows, written, body)
         }
         Decl::Model(id) => {
             let ModelDecl { body, .. } = typed::model_decl(image, id);
-            walk_decls(image, table, w, rows, written, body)
+            walk_decls(image, table, w, env, rows, written, body)
         }
     }
 }
@@ -132,18 +143,19 @@ fn walk_stmt_block(
     image: &[u8],
     table: &[u32],
     w: Walked,
+    env: &[u32],
     rows: &mut [u32],
     written: u32,
     stmts: StmtIds,
 ) -> u32
-    requires { ⌜ ReadyAll (now image) (tableOf w (now table)) stmtKind (stmts .0) (ofStmts (now image) (tableOf w (now table)) (stmts .0)) written ⌝ }
+    requires { ⌜ ReadyAll (now image) (tableOf w (now table)) (now env) stmtKind (stmts .0) (ofStmts (now image) (tableOf w (now table)) (stmts .0)) written ⌝ }
     ensures { λ r. ⌜ Appended («image-spec».nodes (now (image .entry))) (ofStmts (now (image .entry)) (tableOf w (now (table .entry))) (stmts .0)) written (now (rows .entry)) r (now (rows .exit)) ⌝ }
 {
     let mut i = 0;
     let mut after = written;
     while i < stmts.0.count {
         let stmt = typed::nth_stmt(image, stmts, i);
-        after = walk_stmt(image, table, w, rows, after, stmt);
+        after = walk_stmt(image, table, w, env, rows, after, stmt);
         i += 1;
     }
     after
@@ -153,21 +165,22 @@ fn walk_stmt(
     image: &[u8],
     table: &[u32],
     w: Walked,
+    env: &[u32],
     rows: &mut [u32],
     written: u32,
     stmt: StmtId,
 ) -> u32
-    requires { ⌜ Ready (now image) (tableOf w (now table)) (kindOf stmtKind) (stmt .0 .0) (inside (now image) (tableOf w (now table)) false (stmt .0 .0)) written ⌝ }
+    requires { ⌜ Ready (now image) (tableOf w (now table)) (now env) (kindOf stmtKind) (stmt .0 .0) (inside (now image) (tableOf w (now table)) false (stmt .0 .0)) written ⌝ }
     ensures { λ r. ⌜ Appended («image-spec».nodes (now (image .entry))) (inside (now (image .entry)) (tableOf w (now (table .entry))) false (stmt .0 .0)) written (now (rows .entry)) r (now (rows .exit)) ⌝ }
 {
     match typed::stmt(image, stmt) {
         Stmt::If(_) => written,
         Stmt::Then(id) => {
             let ThenStmt { atom } = typed::then_stmt(image, id);
-            check_then_atom(image, table, w, rows, written, atom)
+            check_then_atom(image, table, w, env, rows, written, atom)
         }
-        Stmt::Branch(id) => walk_branch(image, table, w, rows, written, id),
-        Stmt::Match(id) => walk_match(image, table, w, rows, written, id),
+        Stmt::Branch(id) => walk_branch(image, table, w, env, rows, written, id),
+        Stmt::Match(id) => walk_match(image, table, w, env, rows, written, id),
     }
 }
 
@@ -175,11 +188,12 @@ fn walk_branch(
     image: &[u8],
     table: &[u32],
     w: Walked,
+    env: &[u32],
     rows: &mut [u32],
     written: u32,
     id: BranchStmtId,
 ) -> u32
-    requires { ⌜ Ready (now image) (tableOf w (now table)) (kindOf branchStmtKind) (id .0 .0) (inside (now image) (tableOf w (now table)) false (id .0 .0)) written ⌝ }
+    requires { ⌜ Ready (now image) (tableOf w (now table)) (now env) (kindOf branchStmtKind) (id .0 .0) (inside (now image) (tableOf w (now table)) false (id .0 .0)) written ⌝ }
     ensures { λ r. ⌜ Appended («image-spec».nodes (now (image .entry))) (inside (now (image .entry)) (tableOf w (now (table .entry))) false (id .0 .0)) written (now (rows .entry)) r (now (rows .exit)) ⌝ }
 {
     let BranchStmt { blocks } = typed::branch_stmt(image, id);
@@ -188,7 +202,7 @@ fn walk_branch(
     let mut after = written;
     while i < blocks.0.count {
         let block = typed::block(image, blocks, place);
-        after = walk_stmt_block(image, table, w, rows, after, block);
+        after = walk_stmt_block(image, table, w, env, rows, after, block);
         place = block.0.first + block.0.count;
         i += 1;
     }
@@ -199,11 +213,12 @@ fn walk_match(
     image: &[u8],
     table: &[u32],
     w: Walked,
+    env: &[u32],
     rows: &mut [u32],
     written: u32,
     id: MatchStmtId,
 ) -> u32
-    requires { ⌜ Ready (now image) (tableOf w (now table)) (kindOf matchStmtKind) (id .0 .0) (inside (now image) (tableOf w (now table)) false (id .0 .0)) written ⌝ }
+    requires { ⌜ Ready (now image) (tableOf w (now table)) (now env) (kindOf matchStmtKind) (id .0 .0) (inside (now image) (tableOf w (now table)) false (id .0 .0)) written ⌝ }
     ensures { λ r. ⌜ Appended («image-spec».nodes (now (image .entry))) (inside (now (image .entry)) (tableOf w (now (table .entry))) false (id .0 .0)) written (now (rows .entry)) r (now (rows .exit)) ⌝ }
 {
     let MatchStmt { cases, .. } = typed::match_stmt(image, id);
@@ -211,7 +226,7 @@ fn walk_match(
     let mut after = written;
     while i < cases.0.count {
         let case = typed::nth_case(image, cases, i);
-        after = walk_match_case(image, table, w, rows, after, case);
+        after = walk_match_case(image, table, w, env, rows, after, case);
         i += 1;
     }
     after
@@ -221,40 +236,42 @@ fn walk_match_case(
     image: &[u8],
     table: &[u32],
     w: Walked,
+    env: &[u32],
     rows: &mut [u32],
     written: u32,
     case: MatchCaseId,
 ) -> u32
-    requires { ⌜ Ready (now image) (tableOf w (now table)) (kindOf matchCaseKind) (case .0 .0) (ofCase (now image) (tableOf w (now table)) (case .0 .0)) written ⌝ }
+    requires { ⌜ Ready (now image) (tableOf w (now table)) (now env) (kindOf matchCaseKind) (case .0 .0) (ofCase (now image) (tableOf w (now table)) (case .0 .0)) written ⌝ }
     ensures { λ r. ⌜ Appended («image-spec».nodes (now (image .entry))) (ofCase (now (image .entry)) (tableOf w (now (table .entry))) (case .0 .0)) written (now (rows .entry)) r (now (rows .exit)) ⌝ }
 {
-    let after_pattern = check_match_case_pattern(image, table, w, rows, written, case);
+    let after_pattern = check_match_case_pattern(image, table, w, env, rows, written, case);
     let MatchCase { body, .. } = typed::match_case(image, case);
-    walk_stmt_block(image, table, w, rows, after_pattern, body)
+    walk_stmt_block(image, table, w, env, rows, after_pattern, body)
 }
 
 fn check_then_atom(
     image: &[u8],
     table: &[u32],
     w: Walked,
+    env: &[u32],
     rows: &mut [u32],
     written: u32,
     atom: ThenAtomId,
 ) -> u32
-    requires { ⌜ Ready (now image) (tableOf w (now table)) (kindOf thenAtomKind) (atom .0 .0) (inside (now image) (tableOf w (now table)) true (atom .0 .0)) written ⌝ }
+    requires { ⌜ Ready (now image) (tableOf w (now table)) (now env) (kindOf thenAtomKind) (atom .0 .0) (inside (now image) (tableOf w (now table)) true (atom .0 .0)) written ⌝ }
     ensures { λ r. ⌜ Appended («image-spec».nodes (now (image .entry))) (inside (now (image .entry)) (tableOf w (now (table .entry))) true (atom .0 .0)) written (now (rows .entry)) r (now (rows .exit)) ⌝ }
 {
     match typed::then_atom(image, atom) {
         ThenAtom::Equal(id) => {
             let EqualAtom { lhs, rhs } = typed::equal_atom(image, id);
-            let after_lhs = check_epic_term(image, table, w, rows, written, lhs);
-            check_epic_term(image, table, w, rows, after_lhs, rhs)
+            let after_lhs = check_epic_term(image, table, w, env, rows, written, lhs);
+            check_epic_term(image, table, w, env, rows, after_lhs, rhs)
         }
-        ThenAtom::Defined(id) => check_then_defined(image, table, w, rows, written, atom, id),
+        ThenAtom::Defined(id) => check_then_defined(image, table, w, env, rows, written, atom, id),
         ThenAtom::Pred(id) => {
             // A member predicate's receiver is not asked.
             let PredAtom { args, .. } = typed::pred_atom(image, id);
-            check_epic_terms(image, table, w, rows, written, args)
+            check_epic_terms(image, table, w, env, rows, written, args)
         }
     }
 }
@@ -263,21 +280,22 @@ fn check_then_defined(
     image: &[u8],
     table: &[u32],
     w: Walked,
+    env: &[u32],
     rows: &mut [u32],
     written: u32,
     atom: ThenAtomId,
     id: DefinedThenAtomId,
 ) -> u32
-    requires { ⌜ Ready (now image) (tableOf w (now table)) (kindOf definedThenAtomKind) (id .0 .0) (rowsOf (now image) (tableOf w (now table)) true (atom .0 .0) (treeAt (now image) (id .0 .0))) written ⌝ }
+    requires { ⌜ Ready (now image) (tableOf w (now table)) (now env) (kindOf definedThenAtomKind) (id .0 .0) (rowsOf (now image) (tableOf w (now table)) true (atom .0 .0) (treeAt (now image) (id .0 .0))) written × Defines (now image) (atom .0 .0) (id .0 .0) ⌝ }
     ensures { λ r. ⌜ Appended («image-spec».nodes (now (image .entry))) (rowsOf (now (image .entry)) (tableOf w (now (table .entry))) true (atom .0 .0) (treeAt (now (image .entry)) (id .0 .0))) written (now (rows .entry)) r (now (rows .exit)) ⌝ }
 {
     let DefinedThenAtom { var, term } = typed::defined_then_atom(image, id);
     match var {
         OptTermId::Given(var) => {
-            let after_var = check_then_defined_var(image, table, w, rows, written, atom, var);
-            check_epic_term(image, table, w, rows, after_var, term)
+            let after_var = check_then_defined_var(image, table, w, env, rows, written, atom, var);
+            check_epic_term(image, table, w, env, rows, after_var, term)
         }
-        OptTermId::Absent => check_epic_term(image, table, w, rows, written, term),
+        OptTermId::Absent => check_epic_term(image, table, w, env, rows, written, term),
     }
 }
 
@@ -287,34 +305,35 @@ fn check_epic_term(
     image: &[u8],
     table: &[u32],
     w: Walked,
+    env: &[u32],
     rows: &mut [u32],
     written: u32,
     term: TermId,
 ) -> u32
-    requires { ⌜ Ready (now image) (tableOf w (now table)) (kindOf termKind) (term .0 .0) (inside (now image) (tableOf w (now table)) true (term .0 .0)) written ⌝ }
+    requires { ⌜ Ready (now image) (tableOf w (now table)) (now env) (kindOf termKind) (term .0 .0) (inside (now image) (tableOf w (now table)) true (term .0 .0)) written ⌝ }
     ensures { λ r. ⌜ Appended («image-spec».nodes (now (image .entry))) (inside (now (image .entry)) (tableOf w (now (table .entry))) true (term .0 .0)) written (now (rows .entry)) r (now (rows .exit)) ⌝ }
 {
     match typed::term(image, term) {
-        Term::Ident(id) => check_epic_ident(image, table, w, rows, written, term, id),
+        Term::Ident(id) => check_epic_ident(image, table, w, env, rows, written, term, id),
         Term::Member(id) => {
             let TermMember { term, .. } = typed::term_member(image, id);
-            check_epic_term(image, table, w, rows, written, term)
+            check_epic_term(image, table, w, env, rows, written, term)
         }
         Term::Wildcard => written,
         Term::App(id) => {
             let AppTerm { head, args } = typed::app_term(image, id);
-            let after_head = check_epic_app_head(image, table, w, rows, written, head);
-            check_epic_terms(image, table, w, rows, after_head, args)
+            let after_head = check_epic_app_head(image, table, w, env, rows, written, head);
+            check_epic_terms(image, table, w, env, rows, after_head, args)
         }
         Term::Dom(_) | Term::Cod(_) => written,
         Term::Id(id) => {
             let IdTerm { arg } = typed::id_term(image, id);
-            check_epic_term(image, table, w, rows, written, arg)
+            check_epic_term(image, table, w, env, rows, written, arg)
         }
         Term::Comp(id) => {
             let CompTerm { first, second } = typed::comp_term(image, id);
-            let after_first = check_epic_term(image, table, w, rows, written, first);
-            check_epic_term(image, table, w, rows, after_first, second)
+            let after_first = check_epic_term(image, table, w, env, rows, written, first);
+            check_epic_term(image, table, w, env, rows, after_first, second)
         }
     }
 }
@@ -324,26 +343,34 @@ fn check_epic_ident(
     image: &[u8],
     table: &[u32],
     w: Walked,
+    env: &[u32],
     rows: &mut [u32],
     written: u32,
     term: TermId,
     id: IdentTermId,
 ) -> u32
-    requires { ⌜ Room (now image) (tableOf w (now table)) (introducedRow (now image) (tableOf w (now table)) true (term .0 .0) (id .0 .0)) written ⌝ }
+    requires { ⌜ Room (now image) (tableOf w (now table)) (now env) (introducedRow (now image) (tableOf w (now table)) true (term .0 .0) (id .0 .0)) written × Asks (now image) (term .0 .0) (id .0 .0) ⌝ }
     ensures { λ r. ⌜ Appended («image-spec».nodes (now (image .entry))) (introducedRow (now (image .entry)) (tableOf w (now (table .entry))) true (term .0 .0) (id .0 .0)) written (now (rows .entry)) r (now (rows .exit)) ⌝ }
 {
-    let test = is_introduced(image, table, w, term, id);
+    let test = is_introduced(image, table, w, env, term, id);
     let number = error::row_number(ErrorKind::VariableIntroducedInThenStmt);
     put_if(image, rows, written, test, number, term.0)
 }
 
 // The ident term introduces its name.
-fn is_introduced(image: &[u8], table: &[u32], w: Walked, term: TermId, id: IdentTermId) -> bool
-    requires { ⌜ Sorted («image-spec».nodes (now image)) (w .symbols) (now table) ⌝ }
+fn is_introduced(
+    image: &[u8],
+    table: &[u32],
+    w: Walked,
+    env: &[u32],
+    term: TermId,
+    id: IdentTermId,
+) -> bool
+    requires { ⌜ Noted (now image) (tableOf w (now table)) (now env) × Asks (now image) (term .0 .0) (id .0 .0) ⌝ }
     ensures { λ r. ⌜ r ≡ introduces (now (image .entry)) (tableOf w (now (table .entry))) (term .0 .0) (id .0 .0) ⌝ }
 {
     let symbols = w.symbols;
-    let found = table::at_exit(image, table, symbols, term.0, id.0);
+    let found = environment::at_exit(image, table, symbols, env, term.0, id.0);
     if !table::is_var(image, found) {
         return false;
     }
@@ -352,6 +379,7 @@ fn is_introduced(image: &[u8], table: &[u32], w: Walked, term: TermId, id: Ident
             image,
             table,
             w,
+            env,
             term,
             id,
             IdentTermId(binding),
@@ -383,11 +411,12 @@ fn check_epic_terms(
     image: &[u8],
     table: &[u32],
     w: Walked,
+    env: &[u32],
     rows: &mut [u32],
     written: u32,
     args: TermListId,
 ) -> u32
-    requires { ⌜ Ready (now image) (tableOf w (now table)) (kindOf termListKind) (args .0 .0) (inside (now image) (tableOf w (now table)) true (args .0 .0)) written ⌝ }
+    requires { ⌜ Ready (now image) (tableOf w (now table)) (now env) (kindOf termListKind) (args .0 .0) (inside (now image) (tableOf w (now table)) true (args .0 .0)) written ⌝ }
     ensures { λ r. ⌜ Appended («image-spec».nodes (now (image .entry))) (inside (now (image .entry)) (tableOf w (now (table .entry))) true (args .0 .0)) written (now (rows .entry)) r (now (rows .exit)) ⌝ }
 {
     let TermList { terms } = typed::term_list(image, args);
@@ -395,7 +424,7 @@ fn check_epic_terms(
     let mut after = written;
     while i < terms.0.count {
         let arg = typed::nth_term(image, terms, i);
-        after = check_epic_term(image, table, w, rows, after, arg);
+        after = check_epic_term(image, table, w, env, rows, after, arg);
         i += 1;
     }
     after
@@ -406,20 +435,21 @@ fn check_epic_app_head(
     image: &[u8],
     table: &[u32],
     w: Walked,
+    env: &[u32],
     rows: &mut [u32],
     written: u32,
     head: AppHeadId,
 ) -> u32
-    requires { ⌜ Ready (now image) (tableOf w (now table)) (kindOf appHeadKind) (head .0 .0) (rowsOf (now image) (tableOf w (now table)) true (head .0 .0) (treeAt (now image) (head .0 .0))) written ⌝ }
+    requires { ⌜ Ready (now image) (tableOf w (now table)) (now env) (kindOf appHeadKind) (head .0 .0) (rowsOf (now image) (tableOf w (now table)) true (head .0 .0) (treeAt (now image) (head .0 .0))) written ⌝ }
     ensures { λ r. ⌜ Appended («image-spec».nodes (now (image .entry))) (rowsOf (now (image .entry)) (tableOf w (now (table .entry))) true (head .0 .0) (treeAt (now (image .entry)) (head .0 .0))) written (now (rows .entry)) r (now (rows .exit)) ⌝ }
 {
     match typed::app_head(image, head) {
         AppHead::Ident(_) => written,
         AppHead::Member(id) => {
             let AppHeadMember { receiver, .. } = typed::app_head_member(image, id);
-            check_epic_term(image, table, w, rows, written, receiver)
+            check_epic_term(image, table, w, env, rows, written, receiver)
         }
-        AppHead::Term(term) => check_epic_term(image, table, w, rows, written, term),
+        AppHead::Term(term) => check_epic_term(image, table, w, env, rows, written, term),
     }
 }
 
@@ -427,15 +457,16 @@ fn binding_visible_before(
     image: &[u8],
     table: &[u32],
     w: Walked,
+    env: &[u32],
     term: TermId,
     id: IdentTermId,
     binding: IdentTermId,
 ) -> bool
-    requires { ⌜ Sorted («image-spec».nodes (now image)) (w .symbols) (now table) ⌝ }
+    requires { ⌜ Noted (now image) (tableOf w (now table)) (now env) × Asks (now image) (term .0 .0) (id .0 .0) ⌝ }
     ensures { λ r. ⌜ r ≡ sameNode (some (binding .0 .0)) («table-spec».atEntry (now (image .entry)) (tableOf w (now (table .entry))) (term .0 .0) (id .0 .0)) ⌝ }
 {
     let symbols = w.symbols;
-    match table::at_entry(image, table, symbols, term.0, id.0) {
+    match environment::at_entry(image, table, symbols, env, term.0, id.0) {
         Found::At(node) => binding.0.0 == node.0,
         Found::Nothing => false,
     }
@@ -446,18 +477,19 @@ fn check_then_defined_var(
     image: &[u8],
     table: &[u32],
     w: Walked,
+    env: &[u32],
     rows: &mut [u32],
     written: u32,
     atom: ThenAtomId,
     var: TermId,
 ) -> u32
-    requires { ⌜ PlainVariable (now image) (tableOf w (now table)) (var .0 .0) (definedRow (now image) (tableOf w (now table)) (atom .0 .0) (treeAt (now image) (var .0 .0))) written ⌝ }
+    requires { ⌜ PlainVariable (now image) (tableOf w (now table)) (now env) (atom .0 .0) (var .0 .0) (definedRow (now image) (tableOf w (now table)) (atom .0 .0) (treeAt (now image) (var .0 .0))) written ⌝ }
     ensures { λ r. ⌜ Appended («image-spec».nodes (now (image .entry))) (definedRow (now (image .entry)) (tableOf w (now (table .entry))) (atom .0 .0) (treeAt (now (image .entry)) (var .0 .0))) written (now (rows .entry)) r (now (rows .exit)) ⌝ }
 {
     match typed::term(image, var) {
         Term::Ident(id) => {
             let symbols = w.symbols;
-            let found = table::at_entry(image, table, symbols, atom.0, id.0);
+            let found = environment::at_entry(image, table, symbols, env, atom.0, id.0);
             let test = table::is_var(image, found);
             let number = error::row_number(ErrorKind::ThenDefinedVarNotNew);
             put_if(image, rows, written, test, number, var.0)
@@ -473,11 +505,12 @@ fn check_match_case_pattern(
     image: &[u8],
     table: &[u32],
     w: Walked,
+    env: &[u32],
     rows: &mut [u32],
     written: u32,
     case: MatchCaseId,
 ) -> u32
-    requires { ⌜ Ready (now image) (tableOf w (now table)) (kindOf matchCaseKind) (case .0 .0) (ofPattern (now image) (tableOf w (now table)) (case .0 .0)) written ⌝ }
+    requires { ⌜ Ready (now image) (tableOf w (now table)) (now env) (kindOf matchCaseKind) (case .0 .0) (ofPattern (now image) (tableOf w (now table)) (case .0 .0)) written ⌝ }
     ensures { λ r. ⌜ Appended («image-spec».nodes (now (image .entry))) (ofPattern (now (image .entry)) (tableOf w (now (table .entry))) (case .0 .0)) written (now (rows .entry)) r (now (rows .exit)) ⌝ }
 {
     let MatchCase { pattern, .. } = typed::match_case(image, case);
@@ -485,21 +518,21 @@ fn check_match_case_pattern(
         return written;
     };
     let AppTerm { head, args } = typed::app_term(image, app);
-    if !is_ctor_head(image, table, w, head) {
+    if !is_ctor_head(image, table, w, env, head) {
         return written;
     }
-    check_pattern_args(image, table, w, rows, written, args)
+    check_pattern_args(image, table, w, env, rows, written, args)
 }
 
 // The head of a pattern is an ident that names a constructor.
-fn is_ctor_head(image: &[u8], table: &[u32], w: Walked, head: AppHeadId) -> bool
-    requires { ⌜ Ready (now image) (tableOf w (now table)) (kindOf appHeadKind) (head .0 .0) [] 0 ⌝ }
+fn is_ctor_head(image: &[u8], table: &[u32], w: Walked, env: &[u32], head: AppHeadId) -> bool
+    requires { ⌜ Ready (now image) (tableOf w (now table)) (now env) (kindOf appHeadKind) (head .0 .0) [] 0 ⌝ }
     ensures { λ r. ⌜ r ≡ isCtor (now (image .entry)) (tableOf w (now (table .entry))) (treeAt (now (image .entry)) (head .0 .0)) ⌝ }
 {
     match typed::app_head(image, head) {
         AppHead::Ident(id) => {
             let symbols = w.symbols;
-            let found = table::at_exit(image, table, symbols, head.0, id.0);
+            let found = environment::at_exit(image, table, symbols, env, head.0, id.0);
             table::is_kind(image, found, kinds::CTOR_DECL)
         }
         AppHead::Member(_) | AppHead::Term(_) => false,
@@ -510,11 +543,12 @@ fn check_pattern_args(
     image: &[u8],
     table: &[u32],
     w: Walked,
+    env: &[u32],
     rows: &mut [u32],
     written: u32,
     args: TermListId,
 ) -> u32
-    requires { ⌜ Ready (now image) (tableOf w (now table)) (kindOf termListKind) (args .0 .0) (ofArgs (now image) (tableOf w (now table)) (args .0 .0)) written ⌝ }
+    requires { ⌜ Ready (now image) (tableOf w (now table)) (now env) (kindOf termListKind) (args .0 .0) (ofArgs (now image) (tableOf w (now table)) (args .0 .0)) written ⌝ }
     ensures { λ r. ⌜ Appended («image-spec».nodes (now (image .entry))) (ofArgs (now (image .entry)) (tableOf w (now (table .entry))) (args .0 .0)) written (now (rows .entry)) r (now (rows .exit)) ⌝ }
 {
     let TermList { terms } = typed::term_list(image, args);
@@ -522,7 +556,7 @@ fn check_pattern_args(
     let mut after = written;
     while i < terms.0.count {
         let arg = typed::nth_term(image, terms, i);
-        after = check_pattern_arg(image, table, w, rows, after, arg);
+        after = check_pattern_arg(image, table, w, env, rows, after, arg);
         i += 1;
     }
     after
@@ -534,17 +568,18 @@ fn check_pattern_arg(
     image: &[u8],
     table: &[u32],
     w: Walked,
+    env: &[u32],
     rows: &mut [u32],
     written: u32,
     arg: TermId,
 ) -> u32
-    requires { ⌜ Ready (now image) (tableOf w (now table)) (kindOf termKind) (arg .0 .0) (argRow (now image) (tableOf w (now table)) (treeAt (now image) (arg .0 .0))) written ⌝ }
+    requires { ⌜ Ready (now image) (tableOf w (now table)) (now env) (kindOf termKind) (arg .0 .0) (argRow (now image) (tableOf w (now table)) (treeAt (now image) (arg .0 .0))) written ⌝ }
     ensures { λ r. ⌜ Appended («image-spec».nodes (now (image .entry))) (argRow (now (image .entry)) (tableOf w (now (table .entry))) (treeAt (now (image .entry)) (arg .0 .0))) written (now (rows .entry)) r (now (rows .exit)) ⌝ }
 {
     match typed::term(image, arg) {
         Term::Ident(id) => {
             let symbols = w.symbols;
-            let found = table::at_entry(image, table, symbols, arg.0, id.0);
+            let found = environment::at_entry(image, table, symbols, env, arg.0, id.0);
             let test = table::is_var(image, found);
             let number = error::row_number(ErrorKind::MatchPatternArgVarIsNotFresh);
             put_if(image, rows, written, test, number, arg.0)

@@ -6,24 +6,27 @@ use mathlib.Core.Option.{Option, none as nothing, some}
 use Prim.Native.Nat.{ℕ, zero, suc, _+_, _-_, _<_, _≤_}
 use native.Mathlib.Omega.{arith}
 use native.Mathlib.Nat.{sub-zero, add-zero}
-use lib.Dec.{eqb}
+use lib.Dec.{T, eqb}
 use lib.ListN.{length, getD, set, drop, length-append}
 use lib.Seq.{getD-set-same}
 use Rattle.ast.specs.Declarations.{ruleNode, declared, declaredAll}
 use Rattle.ast.specs.Image.{nodes, kindAt, field, nameOf}
 use Rattle.ast.specs.Is.{Is, kindBy}
 use Rattle.ast.specs.Items.{items, below}
-use Rattle.ast.specs.Kinds.{Class, outer, inner, root, decl, signature, rule, enum, model, Field, name, child, list, noChild, Kind, kindOf}
+use Rattle.ast.specs.Kinds.{Class, outer, inner, root, decl, signature, rule, enum, model, Field, name, optName, child, optChild, list, lists, cases, noChild, Kind, kinds, kindOf}
 use Rattle.ast.specs.Named.{argDeclListKind, declKind, ctorDeclKind, enumDeclKind, modelDeclKind, ruleDeclKind, stmtKind}
 use Rattle.ast.specs.Rows.{fieldsAt}
+use Rattle.ast.specs.Tests.{verdict}
 use Rattle.ast.specs.Tree.{Tree, node, Trees, none, _◂_, ordered, treeAt, size}
+use Rattle.ast.proofs.Acceptance.{name-below, opt-name-below}
 use Rattle.ast.proofs.Accepted.{sized}
-use Rattle.ast.proofs.Bools.{false-true}
+use Rattle.ast.proofs.Bools.{true-is, false-true}
 use Rattle.ast.proofs.ByKind.{low-kind}
 use Rattle.ast.proofs.Row.{append, append-none, Child, FormedFields, next, nodeOf}
 use Rattle.ast.proofs.Shapes.{row, tree-of, child-is, case-kids, case-one, case-child, items-more, run-tail}
 use Rattle.ast.proofs.RowNames.{opt-word}
 use Rattle.ast.proofs.Small.{Smalls, tree-small, items-small}
+use Rattle.ast.proofs.Vars.{every-kind}
 use Rattle.ast.proofs.Words.{name-plain}
 use Rattle.typed.specs.RowShapes.{Listed as ListedAt}
 use Rattle.typed.specs.declared.nodes.NodeList.{NodeList}
@@ -35,6 +38,10 @@ use Rattle.table.specs.Values.{walkedOf}
 use Rattle.table.specs.declared.Walked.{Walked as InCode}
 use Rattle.ast.specs.declared.NodeId.{NodeId}
 use Rattle.table.proofs.Kept.{past, mark-past, mark-length, symbol-past}
+use Rattle.environment.specs.Asked.{asked}
+use Rattle.environment.specs.Stands.{Opens, Named}
+use Rattle.environment.proofs.Asking.{loudFields, quiet, quiet-at}
+use Rattle.environment.proofs.Laws.{opens-left}
 use Rattle.scopes.specs.Walk.{Listed, done, twice, recorded, enterName, andThen, enterNames, markAll, enterAll, visit}
 use Rattle.scopes.specs.Promises.{listedOf, enter, ent, ents, vis, restEnter, Seen, Entering, Enters, EnterRun, Signature, Stamped}
 use Rattle.scopes.specs.declared.Declared.{Declared}
@@ -43,45 +50,88 @@ use Rattle.scopes.proofs.Adds.{named, Went, done-same, twice-done, name
 use Rattle.scopes.proofs.Entering.{and-nothing, enter-first, enter-own}
 use Rattle.scopes.proofs.Stamps.{seen-none, seen-stamp, seen-symbol, seen-marked}
 
--- a class of kinds whose name is no option
-plainly : Class → Bool
-plainly (inner i) = false
-plainly (outer root) = true
-plainly (outer decl) = true
-plainly (outer signature) = true
-plainly (outer rule) = false
-plainly (outer enum) = true
-plainly (outer model) = true
+-- fields that start with a name that is no option
+plainly : List Field → Bool
+plainly [] = false
+plainly (name ∷ fs) = true
+plainly (optName ∷ fs) = false
+plainly (child k ∷ fs) = false
+plainly (optChild k ∷ fs) = false
+plainly (list k ∷ fs) = false
+plainly (lists k ∷ fs) = false
+plainly (cases ks ∷ fs) = false
+
+-- no name is asked for at a node with such fields
+plain-quiet : (fs : List Field) → plainly fs ≡ true → loudFields fs ≡ false
+unfolding plainly loudFields
+plain-quiet [] h = refl
+plain-quiet (name ∷ fs) h = refl
+plain-quiet (optName ∷ fs) h = refl
+plain-quiet (child k ∷ fs) h = refl
+plain-quiet (optChild k ∷ fs) h = refl
+plain-quiet (list k ∷ fs) h = refl
+plain-quiet (lists k ∷ fs) h = refl
+plain-quiet (cases ks ∷ fs) h = absurd (false-true h)
+
+plain-first : (fs : List Field) → plainly fs ≡ true → (gs : List Field) × (fs ≡ name ∷ gs)
+unfolding plainly
+plain-first [] h = absurd (false-true h)
+plain-first (name ∷ fs) h = (fs, refl)
+plain-first (optName ∷ fs) h = absurd (false-true h)
+plain-first (child k ∷ fs) h = absurd (false-true h)
+plain-first (optChild k ∷ fs) h = absurd (false-true h)
+plain-first (list k ∷ fs) h = absurd (false-true h)
+plain-first (lists k ∷ fs) h = absurd (false-true h)
+plain-first (cases ks ∷ fs) h = absurd (false-true h)
+
+-- a signature has such fields: one computed check of the table of kinds
+signs : Class → List Field → Bool
+signs (inner i) fs = true
+signs (outer root) fs = true
+signs (outer decl) fs = true
+signs (outer signature) fs = plainly fs
+signs (outer rule) fs = true
+signs (outer enum) fs = true
+signs (outer model) fs = true
+
+signing : ℕ → Kind → Bool
+signing k kd = signs (kd .class) (kd .fields)
+
+every-signing : (k : ℕ) → k ≤ 40 → T (signing k (kindOf k))
+unfolding signing signs plainly kinds
+every-signing k l = every-kind signing tt k l
 
 module _ (img : List ℕ) where
   -- before a call --------------------------------------------------------------------------------------------------------
-  pub entering-less : {seen : List ℕ} {a m : ℕ} {e : Walked} → a ≤ m → Entering img seen m e → Entering img seen a e
-  entering-less h p = record { accepted = p .accepted; live = p .live; room = (let r = p .room in omega arith); long = p .long; stamps = p .stamps }
+  pub entering-less : {seen env : List ℕ} {a m : ℕ} {e : Walked} → a ≤ m → Entering img seen env m e → Entering img seen env a e
+  entering-less h p = record { accepted = p .accepted; live = p .live; room = (let r = p .room in omega arith); long = p .long; stamps = p .stamps; opens = p .opens }
 
-  pub entering-marked : {seen : List ℕ} {n m : ℕ} {e f : Walked} → f ≡ marked img n (e .scope) e → n < nodes img → Entering img seen m e → Entering img seen m f
+  pub entering-marked : {seen env : List ℕ} {n m : ℕ} {e f : Walked} → f ≡ marked img n (e .scope) e → n < nodes img → asked img n ≡ nothing → Entering img seen env m e → Entering img seen env m f
   unfolding marked mark
-  entering-marked {seen} {n} {m} {e} {f} q l p =
-      subst (Entering img seen m) (sym q)
+  entering-marked {seen} {env} {n} {m} {e} {f} q l a p =
+      subst (Entering img seen env m) (sym q)
       (record {
         accepted = p .accepted;
         live = p .live;
         room = p .room;
         long = (let y = mark-length img n (e .scope) (e .scope) (e .table) in let z = p .long in omega arith);
         stamps = seen-marked img (e .scope) e l (p .stamps);
+        opens = opens-left img (e .scope) l a refl (p .opens);
       })
 
-  pub entering-next : {Q : Walked → Type 0} {seen vs : List ℕ} {a m : ℕ} {e f : Walked} → Entering img seen (a + m) e → Went img Q 0 a e f → Seen img vs f → Entering img vs m f
-  entering-next p w s =
+  pub entering-next : {Q : Walked → Type 0} {seen vs env en : List ℕ} {a m : ℕ} {e f : Walked} → Entering img seen env (a + m) e → Went img Q 0 a e f → Seen img vs f → Opens img f en → Entering img vs en m f
+  entering-next p w s o =
       record {
         accepted = p .accepted;
         live = (let y = w .same in let z = p .live in omega arith);
         room = (let y = w .symbols in let z = p .room in omega arith);
         long = (let y = w .long in let z = p .long in omega arith);
         stamps = s;
+        opens = o;
       }
 
   -- a word has room for what is counted
-  pub few-words : {seen : List ℕ} {m : ℕ} {e : Walked} → Entering img seen m e → nodes img ≤ 2048
+  pub few-words : {seen env : List ℕ} {m : ℕ} {e : Walked} → Entering img seen env m e → nodes img ≤ 2048
   few-words p = (sized img (p .accepted)) .fewNodes
 
   -- after a call ---------------------------------------------------------------------------------------------------------
@@ -90,33 +140,60 @@ module _ (img : List ℕ) where
   past-marked n cur e q l = ap (λ (g : Walked). past img (g .table)) q ∙ mark-past img n cur (e .scope) (e .table) l
 
   -- the same, told of another list and from an earlier table
-  pub enters-as : {l k : Listed} {us ws seen vs : List ℕ} {r : Declared} → l ≡ k → drop (tableLength (nodes img)) us ≡ drop (tableLength (nodes img)) ws
-      → Enters img l us r seen vs → Enters img k ws r seen vs
-  enters-as q h p = record { same = p .same ∙ q; stamps = λ f d. p .stamps f (q ∙ d); passed = p .passed ∙ h }
+  pub enters-as : {l k : Listed} {us ws seen env vs : List ℕ} {r : Declared} → l ≡ k → drop (tableLength (nodes img)) us ≡ drop (tableLength (nodes img)) ws
+      → Enters img l us r seen env vs → Enters img k ws r seen env vs
+  enters-as q h p = record { same = p .same ∙ q; stamps = λ f d. p .stamps f (q ∙ d); opens = λ f d. p .opens f (q ∙ d); passed = p .passed ∙ h }
 
   -- a name, as its row has it ------------------------------------------------------------------------------------------------
-  plain-name : (n : ℕ) {x : ℕ} → plainly ((kindOf (kindAt img n)) .class) ≡ true → x ≡ field img n 0 → x ≡ nameOf img n
-  unfolding plainly kindOf
-  plain-name n h q =
-      q ∙ sym (name-plain img n (λ r. false-true (sym (ap (λ (k : ℕ). plainly ((kindOf k) .class)) r) ∙ h)) (λ r. false-true (sym (ap (λ (k : ℕ). plainly ((kindOf k) .class)) r) ∙ h)))
+  plain-named : (n : ℕ) {x : ℕ} → verdict img ≡ 0 → n < nodes img → plainly (fieldsAt img n) ≡ true → x ≡ field img n 0 → Named img n x
+  unfolding plainly kindOf fieldsAt
+  plain-named n {x} a l h q =
+      let (gs, e) = plain-first (fieldsAt img n) h in
+      let b = name-below img a n l gs e in
+      let c = (sized img a) .fewNames in
+      let w : x ≡ nameOf img n = q ∙ sym (name-plain img n (λ r. false-true (sym (ap (λ (k : ℕ). plainly ((kindOf k) .fields)) r) ∙ h)) (λ r. false-true (sym (ap (λ (k : ℕ). plainly ((kindOf k) .fields)) r) ∙ h))) in
+      record { is = w; below = omega arith }
 
-  pub sig-name : {n x : ℕ} → Signature img n → x ≡ field img n 0 → x ≡ nameOf img n
-  unfolding plainly
-  sig-name s q = plain-name _ (ap plainly (s .class)) q
+  sig-plain : {n : ℕ} → Signature img n → plainly (fieldsAt img n) ≡ true
+  unfolding signing signs fieldsAt
+  sig-plain {n} s = true-is _ (subst (λ (c : Class). T (signs c (fieldsAt img n))) (s .class) (every-signing (kindAt img n) (low-kind img (s .accepted) n (s .below))))
 
-  pub enum-name : {n x : ℕ} → Is img (kindOf enumDeclKind) n → x ≡ field img n 0 → x ≡ nameOf img n
-  unfolding plainly kindOf
-  enum-name is q = plain-name _ (ap (λ (k : Kind). plainly (k .class)) (is .kind)) q
+  pub sig-name : {n x : ℕ} → Signature img n → x ≡ field img n 0 → Named img n x
+  sig-name s q = plain-named _ (s .accepted) (s .below) (sig-plain s) q
 
-  pub model-name : {n x : ℕ} → Is img (kindOf modelDeclKind) n → x ≡ field img n 0 → x ≡ nameOf img n
-  unfolding plainly kindOf
-  model-name is q = plain-name _ (ap (λ (k : Kind). plainly (k .class)) (is .kind)) q
+  pub enum-name : {n x : ℕ} → Is img (kindOf enumDeclKind) n → x ≡ field img n 0 → Named img n x
+  unfolding plainly kindOf fieldsAt
+  enum-name is q = plain-named _ (is .accepted) (is .below) (ap (λ (k : Kind). plainly (k .fields)) (is .kind)) q
 
-  pub rule-name : {n x : ℕ} → Is img (kindOf ruleDeclKind) n → suc x ≡ field img n 0 → x ≡ nameOf img n
+  pub model-name : {n x : ℕ} → Is img (kindOf modelDeclKind) n → x ≡ field img n 0 → Named img n x
+  unfolding plainly kindOf fieldsAt
+  model-name is q = plain-named _ (is .accepted) (is .below) (ap (λ (k : Kind). plainly (k .fields)) (is .kind)) q
+
+  pub rule-name : {n x : ℕ} → Is img (kindOf ruleDeclKind) n → suc x ≡ field img n 0 → Named img n x
   unfolding kindOf fieldsAt
   rule-name {n} is q =
-      let w = opt-word img n (list stmtKind ∷ []) (ap (λ (k : Kind). k .fields) (is .kind)) (low-kind img (is .accepted) n (is .below)) in
-      omega arith
+      let f : fieldsAt img n ≡ optName ∷ list stmtKind ∷ [] = ap (λ (k : Kind). k .fields) (is .kind) in
+      let w = opt-word img n (list stmtKind ∷ []) f (low-kind img (is .accepted) n (is .below)) in
+      let b = opt-name-below img (is .accepted) n (is .below) (list stmtKind ∷ []) f (λ z. absurd (omega arith)) in
+      let c = (sized img (is .accepted)) .fewNames in
+      record { is = omega arith; below = omega arith }
+
+  -- no name is asked for at a declaration
+  pub sig-quiet : {n : ℕ} → Signature img n → asked img n ≡ nothing
+  unfolding fieldsAt
+  sig-quiet {n} s = quiet-at img n (kindAt img n) (plain-quiet (fieldsAt img n) (sig-plain s)) refl
+
+  pub rule-quiet : {n : ℕ} → Is img (kindOf ruleDeclKind) n → asked img n ≡ nothing
+  unfolding kindOf loudFields
+  rule-quiet is = quiet img refl is
+
+  enum-quiet : {n : ℕ} → Is img (kindOf enumDeclKind) n → asked img n ≡ nothing
+  unfolding kindOf loudFields
+  enum-quiet is = quiet img refl is
+
+  decl-quiet : {n : ℕ} → Is img (kindOf declKind) n → asked img n ≡ nothing
+  unfolding kindOf loudFields
+  decl-quiet is = quiet img refl is
 
   -- one name -------------------------------------------------------------------------------------------------------------
   found-here : (n : ℕ) (e : Walked) (x : ℕ) (o : Option ℕ) → x ≡ nameOf img n → o ≡ findFrom img (e .table .symbols) (e .table .words) 0 (e .scope) x
@@ -134,46 +211,56 @@ module _ (img : List ℕ) where
   unfolding enterName named
   enter-twice n e x a q p = ap (named img n e) (found-here n e x (some a) q p) ∙ ap (λ (y : ℕ). twice y a n) (sym q)
 
-  module _ {seen : List ℕ} {e : Walked} (p : Entering img seen 1 e) (n x : ℕ) (name-is : x ≡ nameOf img n) where
-    entered : {us vs : List ℕ} (w : InCode) → nothing ≡ findFrom img (e .table .symbols) (e .table .words) 0 (e .scope) x → walkedOf w vs ≡ ownSymbol img n e
-        → Seen img us (ownSymbol img n e) → Enters img (enterName img n e) (e .table .words) (Done w) us vs
+  module _ {seen env : List ℕ} {e : Walked} (p : Entering img seen env 1 e) (n x : ℕ) (name-is : Named img n x) where
+    -- the scope does not have it: its stamp was not there, or no row is found
+    pub free-new : {us : List ℕ} {b : Bool} → Stamped seen x (e .scope) b us → b ≡ true → find img (e .table) (e .scope) x ≡ nothing
+    unfolding find
+    free-new t q = let (a, l, d) = t .new q in seen-none img x (p .stamps) l a
+
+    pub free-old : nothing ≡ findFrom img (e .table .symbols) (e .table .words) 0 (e .scope) x → find img (e .table) (e .scope) x ≡ nothing
+    unfolding find
+    free-old o = sym o
+
+    pub few : e .table .symbols < nodes img
+    few = let z = p .room in omega arith
+
+    entered : {us en vs : List ℕ} (w : InCode) → find img (e .table) (e .scope) x ≡ nothing → (walkedOf w vs ≡ ownSymbol img n e) × Opens img (walkedOf w vs) en
+        → Seen img us (ownSymbol img n e) → Enters img (enterName img n e) (e .table .words) (Done w) us en vs
     unfolding ownSymbol
-    entered {us} {vs} w h q s =
-        let g = enter-new n e x name-is h in
+    entered {us} {en} {vs} w h (q, o) s =
+        let g = enter-new n e x (name-is .is) (unfold find in sym h) in
         record {
           same = ap done q ∙ sym g;
           stamps = λ f d. subst (Seen img us) (done-same (ownSymbol img n e) f (sym g ∙ d)) s;
-          passed = ap (λ (f : Walked). past img (f .table)) q ∙ symbol-past img (e .scope) n (e .table) (let z = p .room in omega arith);
+          opens = λ f d. subst (λ (k : Walked). Opens img k en) (q ∙ done-same (ownSymbol img n e) f (sym g ∙ d)) o;
+          passed = ap (λ (f : Walked). past img (f .table)) q ∙ symbol-past img (e .scope) n (e .table) few;
         }
 
-    few : e .table .symbols < nodes img
-    few = let z = p .room in omega arith
-
     -- its stamp was not there
-    pub enters-new : {us vs : List ℕ} {b : Bool} (w : InCode) → Stamped seen x (e .scope) b us → b ≡ true → walkedOf w vs ≡ ownSymbol img n e
-        → Enters img (enterName img n e) (e .table .words) (Done w) us vs
-    enters-new {us} {vs} {b} w t q h =
+    pub enters-new : {us en vs : List ℕ} {b : Bool} (w : InCode) → Stamped seen x (e .scope) b us → b ≡ true → (walkedOf w vs ≡ ownSymbol img n e) × Opens img (walkedOf w vs) en
+        → Enters img (enterName img n e) (e .table .words) (Done w) us en vs
+    enters-new {us} {en} {vs} {b} w t q h =
         let (a, l, d) = t .new q in
-        entered w (sym (seen-none img x (p .stamps) l a)) h
+        entered w (free-new t q) h
         (subst (λ (vs : List ℕ). Seen img vs (ownSymbol img n e)) (sym d)
-        (seen-symbol img n e few (p .long) (λ k. ap (λ (y : ℕ). getD (set seen x (suc (e .scope))) y 0) (sym name-is) ∙ getD-set-same seen x (suc (e .scope)) 0 l) (seen-stamp img x (p .stamps))))
+        (seen-symbol img n e few (p .long) (λ k. ap (λ (y : ℕ). getD (set seen x (suc (e .scope))) y 0) (sym (name-is .is)) ∙ getD-set-same seen x (suc (e .scope)) 0 l) (seen-stamp img x (p .stamps))))
 
     -- it was there, but the scope does not have the name
-    pub enters-old : {us vs : List ℕ} {b : Bool} (w : InCode) → Stamped seen x (e .scope) b us → b ≡ false
-        → nothing ≡ findFrom img (e .table .symbols) (e .table .words) 0 (e .scope) x → walkedOf w vs ≡ ownSymbol img n e
-        → Enters img (enterName img n e) (e .table .words) (Done w) us vs
-    enters-old {us} {vs} {b} w t q o h =
+    pub enters-old : {us en vs : List ℕ} {b : Bool} (w : InCode) → Stamped seen x (e .scope) b us → b ≡ false
+        → nothing ≡ findFrom img (e .table .symbols) (e .table .words) 0 (e .scope) x → (walkedOf w vs ≡ ownSymbol img n e) × Opens img (walkedOf w vs) en
+        → Enters img (enterName img n e) (e .table .words) (Done w) us en vs
+    enters-old {us} {en} {vs} {b} w t q o h =
         let (a, d) = t .old q in
-        entered w o h
+        entered w (free-old o) h
         (subst (λ (vs : List ℕ). Seen img vs (ownSymbol img n e)) (sym d)
-        (seen-symbol img n e few (p .long) (λ k. ap (λ (y : ℕ). getD seen y 0) (sym name-is) ∙ a (subst (λ (y : ℕ). y < length seen) (sym name-is) k)) (p .stamps)))
+        (seen-symbol img n e few (p .long) (λ k. ap (λ (y : ℕ). getD seen y 0) (sym (name-is .is)) ∙ a (subst (λ (y : ℕ). y < length seen) (sym (name-is .is)) k)) (p .stamps)))
 
     -- the scope has it
-    pub enters-twice : {us : List ℕ} (a b : NodeId) → some (a .0) ≡ findFrom img (e .table .symbols) (e .table .words) 0 (e .scope) x → b .0 ≡ n
-        → Enters img (enterName img n e) (e .table .words) (Twice x a b) us (e .table .words)
+    pub enters-twice : {us en : List ℕ} (a b : NodeId) → some (a .0) ≡ findFrom img (e .table .symbols) (e .table .words) 0 (e .scope) x → b .0 ≡ n
+        → Enters img (enterName img n e) (e .table .words) (Twice x a b) us en (e .table .words)
     enters-twice a b o q =
-        let g = enter-twice n e x (a .0) name-is o in
-        record { same = ap (twice x (a .0)) q ∙ sym g; stamps = λ f d. absurd (twice-done x (a .0) n f (sym g ∙ d)); passed = refl }
+        let g = enter-twice n e x (a .0) (name-is .is) o in
+        record { same = ap (twice x (a .0)) q ∙ sym g; stamps = λ f d. absurd (twice-done x (a .0) n f (sym g ∙ d)); opens = λ f d. absurd (twice-done x (a .0) n f (sym g ∙ d)); passed = refl }
 
   -- what follows a name, or a declaration -----------------------------------------------------------------------------------
   pub and-done : (f : Walked) (g : Walked → Listed) (l : Listed) → l ≡ done f → andThen img l g ≡ g f
@@ -221,7 +308,7 @@ module _ (img : List ℕ) where
         ap length (r .1 ∙ ap (λ (y : ℕ). ruleNode (ruleShape n y) n) (sym q)),
       )
 
-  pub rule-entering : {seen : List ℕ} {n x : ℕ} {e : Walked} → Is img (kindOf ruleDeclKind) n → suc x ≡ field img n 0 → Entering img seen (ent (treeAt img n)) e → Entering img seen 1 e
+  pub rule-entering : {seen env : List ℕ} {n x : ℕ} {e : Walked} → Is img (kindOf ruleDeclKind) n → suc x ≡ field img n 0 → Entering img seen env (ent (treeAt img n)) e → Entering img seen env 1 e
   rule-entering {e = e} is q p = entering-less (let z = (rule-named e is q) .1 in omega arith) p
 
   -- how many names they may add
@@ -232,13 +319,15 @@ module _ (img : List ℕ) where
   model-ent is = (model-enter nowhere is) .1
 
   -- an unnamed rule is only marked
-  pub rule-passes : {seen : List ℕ} {m n : ℕ} {e : Walked} {vs : List ℕ} (w : InCode) → Is img (kindOf ruleDeclKind) n → Entering img seen m e → field img n 0 ≡ 0
-      → walkedOf w vs ≡ marked img n (e .scope) e → Enters img (enter img (treeAt img n) e) (e .table .words) (Done w) seen vs
-  rule-passes {seen} {m} {n} {e} w is p z q =
+  pub rule-passes : {seen env : List ℕ} {m n : ℕ} {e : Walked} {vs : List ℕ} (w : InCode) → Is img (kindOf ruleDeclKind) n → Entering img seen env m e → field img n 0 ≡ 0
+      → walkedOf w vs ≡ marked img n (e .scope) e → Enters img (enter img (treeAt img n) e) (e .table .words) (Done w) seen env vs
+  rule-passes {seen} {env} {m} {n} {e} w is p z q =
       let g = rule-unnamed e is z in
+      let r = entering-marked refl (is .below) (rule-quiet is) p in
       record {
         same = ap done q ∙ sym g;
-        stamps = λ f d. subst (Seen img seen) (done-same (marked img n (e .scope) e) f (sym g ∙ d)) (seen-marked img (e .scope) e (is .below) (p .stamps));
+        stamps = λ f d. subst (Seen img seen) (done-same (marked img n (e .scope) e) f (sym g ∙ d)) (r .stamps);
+        opens = λ f d. subst (λ (k : Walked). Opens img k env) (done-same (marked img n (e .scope) e) f (sym g ∙ d)) (r .opens);
         passed = past-marked n (e .scope) e q (is .below);
       }
 
@@ -265,55 +354,65 @@ module _ (img : List ℕ) where
   ents-more n j count i h = ap ents (items-more img n j count i h) ∙ length-append (declared (treeAt img (field img n (j + i)))) (declaredAll (items img n (count - (i + 1)) (j + (i + 1))))
 
   -- a loop over the items: after i of them it stands at f
-  pub record EnterLeft (seen : List ℕ) (n j count i : ℕ) (e f : Walked) : Type 0 where
+  pub record EnterLeft (seen env : List ℕ) (n j count i : ℕ) (e f : Walked) : Type 0 where
     pub within : i ≤ count
     pub long : length (f .table .words) ≡ length (e .table .words)
-    pub entering : Entering img seen (ents (items img n (count - i) (j + i))) f
+    pub entering : Entering img seen env (ents (items img n (count - i) (j + i))) f
     pub passed : past img (f .table) ≡ past img (e .table)
     pub left : restEnter img n j count 0 e ≡ restEnter img n j count i f
 
-  pub enter-begin : {seen : List ℕ} {n j count : ℕ} {e : Walked} → Entering img seen (ents (items img n count j)) e → EnterLeft seen n j count 0 e e
-  enter-begin {seen} {n} {j} {count} {e} p =
-      record { within = omega arith; long = refl; entering = subst (λ (us : Trees). Entering img seen (ents us) e) (same-items n j count) p; passed = refl; left = refl }
+  pub enter-begin : {seen env : List ℕ} {n j count : ℕ} {e : Walked} → Entering img seen env (ents (items img n count j)) e → EnterLeft seen env n j count 0 e e
+  enter-begin {seen} {env} {n} {j} {count} {e} p =
+      record { within = omega arith; long = refl; entering = subst (λ (us : Trees). Entering img seen env (ents us) e) (same-items n j count) p; passed = refl; left = refl }
 
-  pub record EnterItem (seen : List ℕ) (n j count i c : ℕ) (e f : Walked) : Type 0 where
-    pub entering : Entering img seen (ent (treeAt img c)) f
-    pub more : {us : List ℕ} {r : Declared} {vs : List ℕ} (w : InCode) → r ≡ Done w → Enters img (enter img (treeAt img c) f) (f .table .words) r us vs → EnterLeft us n j count (i + 1) e (walkedOf w vs)
-    pub stop : {us : List ℕ} {r : Declared} {vs : List ℕ} (x : ℕ) (a b : NodeId) → r ≡ Twice x a b → Enters img (enter img (treeAt img c) f) (f .table .words) r us vs
-        → Enters img (restEnter img n j count 0 e) (e .table .words) (Twice x a b) us vs
+  pub record EnterItem (seen env : List ℕ) (n j count i c : ℕ) (e f : Walked) : Type 0 where
+    pub entering : Entering img seen env (ent (treeAt img c)) f
+    pub more : {us en : List ℕ} {r : Declared} {vs : List ℕ} (w : InCode) → r ≡ Done w → Enters img (enter img (treeAt img c) f) (f .table .words) r us en vs → EnterLeft us en n j count (i + 1) e (walkedOf w vs)
+    pub stop : {us en : List ℕ} {r : Declared} {vs : List ℕ} (x : ℕ) (a b : NodeId) → r ≡ Twice x a b → Enters img (enter img (treeAt img c) f) (f .table .words) r us en vs
+        → Enters img (restEnter img n j count 0 e) (e .table .words) (Twice x a b) us en vs
 
-  pub enterItem : {seen : List ℕ} {n j count i c : ℕ} {e f : Walked} → EnterLeft seen n j count i e f → i < count → c ≡ field img n (j + i) → EnterItem seen n j count i c e f
-  enterItem {seen} {n} {j} {count} {i} {c} {e} {f} b l q =
-      subst (λ (x : ℕ). EnterItem seen n j count i x e f) (sym q)
+  pub enterItem : {seen env : List ℕ} {n j count i c : ℕ} {e f : Walked} → EnterLeft seen env n j count i e f → i < count → c ≡ field img n (j + i) → EnterItem seen env n j count i c e f
+  enterItem {seen} {env} {n} {j} {count} {i} {c} {e} {f} b l q =
+      subst (λ (x : ℕ). EnterItem seen env n j count i x e f) (sym q)
       (record {
         entering = entering-less (let s = ents-more n j count i l in omega arith) (b .entering);
-        more = λ {us} {r} {vs} w d p. after w d p;
-        stop = λ {us} {r} {vs} x a z d p.
+        more = λ {us} {en} {r} {vs} w d p. after w d p;
+        stop = λ {us} {en} {r} {vs} x a z d p.
             let h : enter img (treeAt img m) f ≡ twice x (a .0) (z .0) = sym (p .same) ∙ ap (λ (o : Declared). listedOf o vs) d in
             let g = b .left ∙ enter-more n j count i f l ∙ and-stop x (a .0) (z .0) (restEnter img n j count (i + 1)) _ h in
-            record { same = sym g; stamps = λ k t. absurd (twice-done x (a .0) (z .0) k (sym g ∙ t)); passed = p .passed ∙ b .passed };
+            record {
+              same = sym g;
+              stamps = λ k t. absurd (twice-done x (a .0) (z .0) k (sym g ∙ t));
+              opens = λ k t. absurd (twice-done x (a .0) (z .0) k (sym g ∙ t));
+              passed = p .passed ∙ b .passed;
+            };
       })
     where
       m : ℕ
       m = field img n (j + i)
 
-      after : {us : List ℕ} {r : Declared} {vs : List ℕ} (w : InCode) → r ≡ Done w → Enters img (enter img (treeAt img m) f) (f .table .words) r us vs → EnterLeft us n j count (i + 1) e (walkedOf w vs)
-      after {us} {r} {vs} w d p =
+      after : {us en : List ℕ} {r : Declared} {vs : List ℕ} (w : InCode) → r ≡ Done w → Enters img (enter img (treeAt img m) f) (f .table .words) r us en vs → EnterLeft us en n j count (i + 1) e (walkedOf w vs)
+      after {us} {en} {r} {vs} w d p =
           let h : enter img (treeAt img m) f ≡ done (walkedOf w vs) = sym (p .same) ∙ ap (λ (o : Declared). listedOf o vs) d in
           let t = (enter-in img (treeAt img m) (tree-small img m) f) .went (walkedOf w vs) h in
           record {
             within = omega arith;
             long = t .long ∙ b .long;
-            entering = entering-next (subst (λ (y : ℕ). Entering img seen y f) (ents-more n j count i l) (b .entering)) t (p .stamps (walkedOf w vs) h);
+            entering = entering-next (subst (λ (y : ℕ). Entering img seen env y f) (ents-more n j count i l) (b .entering)) t (p .stamps (walkedOf w vs) h) (p .opens (walkedOf w vs) h);
             passed = p .passed ∙ b .passed;
             left = b .left ∙ enter-more n j count i f l ∙ and-done (walkedOf w vs) (restEnter img n j count (i + 1)) _ h;
           }
 
-  pub enter-ended : {seen : List ℕ} {n j count i : ℕ} {e : Walked} {vs : List ℕ} (w : InCode) → EnterLeft seen n j count i e (walkedOf w vs) → count ≤ i
-      → Enters img (restEnter img n j count 0 e) (e .table .words) (Done w) seen vs
-  enter-ended {seen} {n} {j} {count} {i} {e} {vs} w b l =
+  pub enter-ended : {seen env : List ℕ} {n j count i : ℕ} {e : Walked} {vs : List ℕ} (w : InCode) → EnterLeft seen env n j count i e (walkedOf w vs) → count ≤ i
+      → Enters img (restEnter img n j count 0 e) (e .table .words) (Done w) seen env vs
+  enter-ended {seen} {env} {n} {j} {count} {i} {e} {vs} w b l =
       let g = b .left ∙ enter-end n j count i (walkedOf w vs) l in
-      record { same = sym g; stamps = λ f d. subst (Seen img seen) (done-same (walkedOf w vs) f (sym g ∙ d)) (b .entering .stamps); passed = b .passed }
+      record {
+        same = sym g;
+        stamps = λ f d. subst (Seen img seen) (done-same (walkedOf w vs) f (sym g ∙ d)) (b .entering .stamps);
+        opens = λ f d. subst (λ (k : Walked). Opens img k env) (done-same (walkedOf w vs) f (sym g ∙ d)) (b .entering .opens);
+        passed = b .passed;
+      }
 
   -- an enum: its own name, then its constructors' -----------------------------------------------------------------------------
   ctor-is : {n i c : ℕ} → Is img (kindOf enumDeclKind) n → i < field img n 1 → c ≡ field img n (2 + i) → Is img (kindBy (outer signature) (name ∷ child argDeclListKind ∷ [])) c
@@ -343,8 +442,8 @@ module _ (img : List ℕ) where
   ctor-ents : {n : ℕ} → Is img (kindOf enumDeclKind) n → ents (items img n (field img n 1) 2) ≡ field img n 1
   ctor-ents {n} is = sig-ents n (field img n 1) 2 (λ i l. signed (ctor-is {i = i} is l refl))
 
-  pub sig-entering : {seen : List ℕ} {n : ℕ} {e : Walked} → Signature img n → Entering img seen (ent (treeAt img n)) e → Entering img seen 1 e
-  sig-entering {seen} {n} {e} s p = entering-less (let z = (sig-enter e s) .1 in omega arith) p
+  pub sig-entering : {seen env : List ℕ} {n : ℕ} {e : Walked} → Signature img n → Entering img seen env (ent (treeAt img n)) e → Entering img seen env 1 e
+  sig-entering {e = e} s p = entering-less (let z = (sig-enter e s) .1 in omega arith) p
 
   pub enum-whole : {n : ℕ} (e : Walked) → Is img (kindOf enumDeclKind) n → enter img (treeAt img n) e ≡ andThen img (enterName img n (marked img n (e .scope) e)) (restEnter img n 2 (field img n 1) 0)
   enum-whole {n} e is = (enum-enter e is) .0 ∙ ap (andThen img (enterName img n (marked img n (e .scope) e))) (fun-ext (λ f. enter-start n 2 (field img n 1) f))
@@ -353,43 +452,48 @@ module _ (img : List ℕ) where
   enum-ent {n} is = let a = (enum-enter nowhere is) .1 in let c = ctor-ents is in omega arith
 
   -- its constructors are the count items from place j of m's row on
-  pub record EnumEnter (seen : List ℕ) (n : ℕ) (e f : Walked) (m j count : ℕ) : Type 0 where
-    pub own : Entering img seen 1 f
-    pub ctors : {us vs : List ℕ} {r : Declared} (w : InCode) → r ≡ Done w → Enters img (enterName img n f) (f .table .words) r us vs → EnterRun img us ctorDeclKind m j count (walkedOf w vs)
-    pub enters : {us vs qs ws : List ℕ} {r o : Declared} (w : InCode) → r ≡ Done w → Enters img (enterName img n f) (f .table .words) r us vs
-        → Enters img (restEnter img m j count 0 (walkedOf w vs)) vs o qs ws → Enters img (enter img (treeAt img n) e) (e .table .words) o qs ws
-    pub stop : {us vs : List ℕ} {r : Declared} (x : ℕ) (a b : NodeId) → r ≡ Twice x a b → Enters img (enterName img n f) (f .table .words) r us vs
-        → Enters img (enter img (treeAt img n) e) (e .table .words) (Twice x a b) us vs
+  pub record EnumEnter (seen env : List ℕ) (n : ℕ) (e f : Walked) (m j count : ℕ) : Type 0 where
+    pub own : Entering img seen env 1 f
+    pub ctors : {us en vs : List ℕ} {r : Declared} (w : InCode) → r ≡ Done w → Enters img (enterName img n f) (f .table .words) r us en vs → EnterRun img us en ctorDeclKind m j count (walkedOf w vs)
+    pub enters : {us en vs qs em ws : List ℕ} {r o : Declared} (w : InCode) → r ≡ Done w → Enters img (enterName img n f) (f .table .words) r us en vs
+        → Enters img (restEnter img m j count 0 (walkedOf w vs)) vs o qs em ws → Enters img (enter img (treeAt img n) e) (e .table .words) o qs em ws
+    pub stop : {us en vs : List ℕ} {r : Declared} (x : ℕ) (a b : NodeId) → r ≡ Twice x a b → Enters img (enterName img n f) (f .table .words) r us en vs
+        → Enters img (enter img (treeAt img n) e) (e .table .words) (Twice x a b) us en vs
 
-  pub enumEnter : {seen : List ℕ} {n : ℕ} {e f : Walked} {l : NodeList} → Is img (kindOf enumDeclKind) n → Entering img seen (ent (treeAt img n)) e → f ≡ marked img n (e .scope) e → ListedAt img n 1 l
-      → EnumEnter seen n e f (l .node .0) (l .first) (l .count)
+  pub enumEnter : {seen env : List ℕ} {n : ℕ} {e f : Walked} {l : NodeList} → Is img (kindOf enumDeclKind) n → Entering img seen env (ent (treeAt img n)) e → f ≡ marked img n (e .scope) e → ListedAt img n 1 l
+      → EnumEnter seen env n e f (l .node .0) (l .first) (l .count)
   unfolding next kindOf
-  enumEnter {seen} {n} {e} {f} is p q a =
-      at-list img (EnumEnter seen n e f) a
+  enumEnter {seen} {env} {n} {e} {f} is p q a =
+      at-list img (EnumEnter seen env n e f) a
       (record {
         own = entering-less (omega arith) both;
-        ctors = λ {us} {vs} {r} w d h.
+        ctors = λ {us} {en} {vs} {r} w d h.
             let g = named-as w d h in
             record {
               run = run-tail img is refl refl;
-              entering = subst (λ (c : ℕ). Entering img us c (walkedOf w vs)) (sym (ctor-ents is)) (entering-next both ((name-in img n f) .went (walkedOf w vs) g) (h .stamps (walkedOf w vs) g));
+              entering = subst (λ (c : ℕ). Entering img us en c (walkedOf w vs)) (sym (ctor-ents is)) (entering-next both ((name-in img n f) .went (walkedOf w vs) g) (h .stamps (walkedOf w vs) g) (h .opens (walkedOf w vs) g));
             };
-        enters = λ {us} {vs} {qs} {ws} {r} {o} w d h k.
+        enters = λ {us} {en} {vs} {qs} {em} {ws} {r} {o} w d h k.
             let z = whole ∙ and-done (walkedOf w vs) (restEnter img n 2 (field img n 1) 0) _ (named-as w d h) in
-            record { same = k .same ∙ sym z; stamps = λ g t. k .stamps g (sym z ∙ t); passed = k .passed ∙ h .passed ∙ past-marked n (e .scope) e q (is .below) };
-        stop = λ {us} {vs} {r} x a b d h.
+            record { same = k .same ∙ sym z; stamps = λ g t. k .stamps g (sym z ∙ t); opens = λ g t. k .opens g (sym z ∙ t); passed = k .passed ∙ h .passed ∙ past-marked n (e .scope) e q (is .below) };
+        stop = λ {us} {en} {vs} {r} x a b d h.
             let z = whole ∙ and-stop x (a .0) (b .0) (restEnter img n 2 (field img n 1) 0) _ (sym (h .same) ∙ ap (λ (o : Declared). listedOf o vs) d) in
-            record { same = sym z; stamps = λ g t. absurd (twice-done x (a .0) (b .0) g (sym z ∙ t)); passed = h .passed ∙ past-marked n (e .scope) e q (is .below) };
+            record {
+              same = sym z;
+              stamps = λ g t. absurd (twice-done x (a .0) (b .0) g (sym z ∙ t));
+              opens = λ g t. absurd (twice-done x (a .0) (b .0) g (sym z ∙ t));
+              passed = h .passed ∙ past-marked n (e .scope) e q (is .below);
+            };
       })
     where
-      both : Entering img seen (1 + field img n 1) f
-      both = entering-marked q (is .below) (subst (λ (m : ℕ). Entering img seen m e) (enum-ent is) p)
+      both : Entering img seen env (1 + field img n 1) f
+      both = entering-marked q (is .below) (enum-quiet is) (subst (λ (m : ℕ). Entering img seen env m e) (enum-ent is) p)
 
       whole : enter img (treeAt img n) e ≡ andThen img (enterName img n f) (restEnter img n 2 (field img n 1) 0)
       whole = enum-whole e is ∙ ap (λ (g : Walked). andThen img (enterName img n g) (restEnter img n 2 (field img n 1) 0)) (sym q)
 
-      named-as : {us vs : List ℕ} {r : Declared} (w : InCode) → r ≡ Done w → Enters img (enterName img n f) (f .table .words) r us vs → enterName img n f ≡ done (walkedOf w vs)
-      named-as {us} {vs} {r} w d h = sym (h .same) ∙ ap (λ (o : Declared). listedOf o vs) d
+      named-as : {us en vs : List ℕ} {r : Declared} (w : InCode) → r ≡ Done w → Enters img (enterName img n f) (f .table .words) r us en vs → enterName img n f ≡ done (walkedOf w vs)
+      named-as {us} {en} {vs} {r} w d h = sym (h .same) ∙ ap (λ (o : Declared). listedOf o vs) d
 
   -- a Decl: what its declaration is -----------------------------------------------------------------------------------------
   abbrev pub declKinds : List ℕ
@@ -441,13 +545,13 @@ module _ (img : List ℕ) where
     decl-size = ap size (o .tree)
 
   -- the declaration entered, after its Decl is marked
-  pub record DeclEnter (seen : List ℕ) (n d : ℕ) (e f : Walked) : Type 0 where
-    pub entering : Entering img seen (ent (treeAt img d)) f
-    pub enters : {us : List ℕ} {r : Declared} {vs : List ℕ} → Enters img (enter img (treeAt img d) f) (f .table .words) r us vs → Enters img (enter img (treeAt img n) e) (e .table .words) r us vs
+  pub record DeclEnter (seen env : List ℕ) (n d : ℕ) (e f : Walked) : Type 0 where
+    pub entering : Entering img seen env (ent (treeAt img d)) f
+    pub enters : {us en : List ℕ} {r : Declared} {vs : List ℕ} → Enters img (enter img (treeAt img d) f) (f .table .words) r us en vs → Enters img (enter img (treeAt img n) e) (e .table .words) r us en vs
 
-  pub declEnter : {seen : List ℕ} {k n d : ℕ} {e f : Walked} → DeclOf k n d → n < nodes img → Entering img seen (ent (treeAt img n)) e → f ≡ marked img n (e .scope) e → DeclEnter seen n d e f
-  declEnter {seen} {k} {n} {d} {e} {f} o l p q =
+  pub declEnter : {seen env : List ℕ} {k n d : ℕ} {e f : Walked} → DeclOf k n d → Is img (kindOf declKind) n → Entering img seen env (ent (treeAt img n)) e → f ≡ marked img n (e .scope) e → DeclEnter seen env n d e f
+  declEnter {seen} {env} {k} {n} {d} {e} {f} o is p q =
       record {
-        entering = entering-marked q l (entering-less (let z = decl-ent o in omega arith) p);
-        enters = λ h. enters-as (ap (enter img (treeAt img d)) q ∙ sym (decl-entered o e)) (past-marked n (e .scope) e q l) h;
+        entering = entering-marked q (is .below) (decl-quiet is) (entering-less (let z = decl-ent o in omega arith) p);
+        enters = λ h. enters-as (ap (enter img (treeAt img d)) q ∙ sym (decl-entered o e)) (past-marked n (e .scope) e q (is .below)) h;
       }

@@ -1,8 +1,9 @@
--- The table with its three counts in front: lookups, entries and exits are as before, and so is the order of its rows; and what a call
--- finds in it.
-use mathlib.Core.Path.{_≡_, sym, ap, subst, _∙_}
+-- The table with its three counts in front: lookups, entries and exits are as before, so is the order of its rows, and what was noted
+-- tells the same; and what a call finds in it.
+use mathlib.Core.Path.{_≡_, refl, sym, ap, subst, _∙_}
 use mathlib.Core.List.{List}
-use Prim.Native.Nat.{ℕ, suc, _<_}
+use mathlib.Core.Option.{some}
+use Prim.Native.Nat.{ℕ, zero, suc, _<_}
 use native.Mathlib.Omega.{arith}
 use Rattle.ast.specs.Image.{nodes}
 use Rattle.ast.specs.Tests.{verdict}
@@ -13,6 +14,8 @@ use Rattle.table.specs.Table.{Table, find, lookup, entryAt, exitAt}
 use Rattle.table.specs.Values.{tableOf}
 use Rattle.table.specs.declared.Walked.{Walked as InCode}
 use Rattle.table.proofs.Frames.{from-same}
+use Rattle.environment.specs.Layout.{notedEntry, notedExit}
+use Rattle.environment.specs.Stands.{told, Tells, Noted}
 use Rattle.scopes.specs.Walk.{done}
 use Rattle.scopes.specs.Resolve.{testTable, walked, headed, counted, Way, refuses, stops, fills, way}
 use Rattle.scopes.specs.Answers.{declaredWay, Resolves}
@@ -39,6 +42,22 @@ module _ (img : List ℕ) (t : Table) where
 
   pub headed-exit : (n : ℕ) → exitAt img (t .words) n ≡ exitAt img (headed img t) n
   headed-exit n = sym (headed-word img t (exitPlace (nodes img) n) (omega arith))
+
+  headed-told : (w : ℕ) → told img (headed img t) w ≡ told img (t .words) w
+  unfolding told
+  headed-told zero = refl
+  headed-told (suc j) = ap some (headed-word img t (nodePlace (nodes img) j) (omega arith))
+
+  headed-tells : {w : ℕ} (s x : ℕ) → Tells img t w (lookup img t s x) → Tells img (counted img t) w (lookup img (counted img t) s x)
+  headed-tells {w} s x h = record { row = h .row; is = headed-told w ∙ h .is ∙ headed-lookup s x }
+
+  pub headed-noted : {env : List ℕ} → Noted img t env → Noted img (counted img t) env
+  headed-noted {env} h =
+      record {
+        outer = λ x l. headed-tells 0 x (h .outer x l);
+        entries = λ n x l a p. subst (λ (s : ℕ). Tells img (counted img t) (notedEntry env n) (lookup img (counted img t) s x)) (headed-entry n) (headed-tells (entryAt img (t .words) n) x (h .entries n x l a (let z = headed-entry n in omega arith)));
+        exits = λ n x l a p. subst (λ (s : ℕ). Tells img (counted img t) (notedExit env n) (lookup img (counted img t) s x)) (headed-exit n) (headed-tells (exitAt img (t .words) n) x (h .exits n x l a (let z = headed-exit n in omega arith)));
+      }
 
   pub headed-sorted : Sorted (nodes img) (t .symbols) (t .words) → Sorted (nodes img) (t .symbols) (headed img t)
   headed-sorted s =

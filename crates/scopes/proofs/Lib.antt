@@ -11,6 +11,7 @@ pub mod Stamps
 pub mod Entries
 pub mod Decls
 pub mod Visiting
+pub mod Models
 pub mod Rooting
 pub mod Headed
 pub mod Single

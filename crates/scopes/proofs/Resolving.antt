@@ -92,6 +92,7 @@ module _ (img ws : List ℕ) (n : ℕ) (below : n < nodes img) (long : tableLeng
 
 -- what is done at the end of the module
 pub record Ended (img ws : List ℕ) (e : Walked) : Type 0 where
+  pub outer : e .scope ≡ 0
   pub some : 1 ≤ e .table .scopes
   pub scopes : e .table .scopes ≤ nodes img
   pub symbols : e .table .symbols ≤ nodes img
@@ -116,6 +117,7 @@ module _ (img ws : List ℕ) (long : tableLength (nodes img) ≤ length ws) wher
       let few : Few img (e .table) = record { scopes = omega arith; symbols = omega arith } in
       let steps = ends-and img (enterAll img ts m) (visitAll img ts) (enterAll-ends img ts (fit .1) m) (λ f. visitAll-ends img ts (fit .1) f) e h in
       record {
+        outer = w .same ∙ z;
         some = omega arith;
         scopes = omega arith;
         symbols = omega arith;

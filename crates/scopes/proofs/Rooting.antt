@@ -1,9 +1,10 @@
 -- The module's list, and Resolve as the code goes: cleared words, the walk, the counts, or words cleared again.
 use mathlib.Core.Path.{_≡_, refl, sym, ap, subst, _∙_}
 use mathlib.Core.List.{List, _++_}
+use mathlib.Core.Option.{none as nothing}
 use Prim.Native.Nat.{ℕ, suc, _+_, _<_, _≤_}
 use native.Mathlib.Omega.{arith}
-use lib.ListN.{length, drop, replicate}
+use lib.ListN.{length, getD, drop, replicate, length-replicate, getD-replicate, List·getD-append}
 use Rattle.ast.specs.Answer.{Answer, refused, twice as twiceAnswer, result}
 use Rattle.ast.specs.Image.{nodes, last, field}
 use Rattle.ast.specs.Is.{Is}
@@ -13,7 +14,7 @@ use Rattle.ast.specs.Named.{moduleKind}
 use Rattle.ast.specs.Tests.{verdict}
 use Rattle.ast.specs.Tree.{Tree, Trees, none, treeAt, size, sizes}
 use Rattle.ast.specs.declared.NodeId.{NodeId}
-use Rattle.ast.proofs.Accepted.{formed, last-below}
+use Rattle.ast.proofs.Accepted.{sized, formed, last-below}
 use Rattle.ast.proofs.Count.{tree-size}
 use Rattle.ast.proofs.Row.{append, append-none, nodeOf}
 use Rattle.ast.proofs.Shapes.{tree-of, run-list}
@@ -22,9 +23,14 @@ use Rattle.typed.specs.declared.nodes.NodeList.{NodeList}
 use Rattle.typed.proofs.Lists.{at-list}
 use Rattle.table.specs.Layout.{allOnes, tableLength}
 use Rattle.table.specs.State.{Walked, childScope, marked}
-use Rattle.table.specs.Values.{tableOf}
+use Rattle.table.specs.Values.{tableOf, walkedOf}
 use Rattle.table.specs.declared.Walked.{Walked as InCode}
 use Rattle.rows.specs.Rows.{cleared}
+use Rattle.environment.specs.Asked.{asked}
+use Rattle.environment.specs.Layout.{environmentLength}
+use Rattle.environment.specs.Stands.{Opens, Noted}
+use Rattle.environment.proofs.Asking.{loudFields, quiet}
+use Rattle.environment.proofs.Laws.{opens-left, opens-module, noted-of}
 use Rattle.scopes.specs.Walk.{andThen, enterAll, visitAll, resolveTree}
 use Rattle.scopes.specs.Resolve.{testTable, zeroed, walked, headed, fills, tableBy, Outcome, resolve}
 use Rattle.scopes.specs.Answers.{Resolves}
@@ -33,12 +39,17 @@ use Rattle.scopes.specs.declared.Declared.{Declared}
 use Rattle.scopes.specs.declared.Declared.the-variants.{Done, Twice}
 use Rattle.scopes.proofs.Adds.{addss}
 use Rattle.scopes.proofs.Calls.{way-stops, way-fills, call-refused, call-stopped, call-filled}
-use Rattle.scopes.proofs.Resolving.{begun, begun-counts, begun-newest, begun-past, table-accepted, table-long, zeroed-past}
-use Rattle.scopes.proofs.Visiting.{over-start}
+use Rattle.scopes.proofs.Resolving.{begun, begun-counts, begun-newest, begun-past, table-accepted, table-long, zeroed-past, walked-ended}
+use Rattle.scopes.proofs.Headed.{headed-noted}
+use Rattle.scopes.proofs.Visiting.{over-start, visits-from}
 
 module _ (img : List ℕ) where
   pub root-is : verdict img ≡ 0 → Is img (kindOf moduleKind) (last img)
   root-is e = record { accepted = e; below = last-below img e; kind = ap kindOf ((formed img e) .root) }
+
+  root-quiet : {n : ℕ} → Is img (kindOf moduleKind) n → asked img n ≡ nothing
+  unfolding kindOf loudFields
+  root-quiet is = quiet img refl is
 
   rootTrees : ℕ → Trees
   rootTrees n = append (items img n (field img n 0) 1) none
@@ -57,17 +68,18 @@ module _ (img : List ℕ) where
   begun-is ws n below long p q = q ∙ ap (λ (k : Walked). marked img n (k .scope) k) p
 
   -- its list is the count items from place j of m's row on
-  pub record RootVisit (ws : List ℕ) (g : Walked) (m j count : ℕ) : Type 0 where
+  pub record RootVisit (ws env : List ℕ) (g : Walked) (m j count : ℕ) : Type 0 where
     pub list : ListRun img m j count g
-    pub visits : {r : Declared} {us vs : List ℕ} → Visits img (overList img m j count g) us r vs → us ≡ g .table .words
-        → Visits img (resolveTree img (treeAt img (last img)) (record { words = ws; scopes = 0; symbols = 0 })) ws r vs
+    pub opens : Opens img g env
+    pub visits : {r : Declared} {us en vs : List ℕ} → Visits img (overList img m j count g) us r en vs → us ≡ g .table .words
+        → Visits img (resolveTree img (treeAt img (last img)) (record { words = ws; scopes = 0; symbols = 0 })) ws r en vs
 
-  pub rootVisit : {n : ℕ} {ws : List ℕ} {f g : Walked} {l : NodeList} → Lent img ws → n ≡ last img
+  pub rootVisit : {n : ℕ} {ws env : List ℕ} {f g : Walked} {l : NodeList} → Lent img ws env → n ≡ last img
       → f ≡ childScope img (record { scope = allOnes; table = record { words = ws; scopes = 0; symbols = 0 } }) → g ≡ marked img n (f .scope) f → Listed img n 0 l
-      → RootVisit ws g (l .node .0) (l .first) (l .count)
+      → RootVisit ws env g (l .node .0) (l .first) (l .count)
   unfolding kindOf rootTrees
-  rootVisit {n} {ws} {f} {g} p q h k c =
-      at-list img (RootVisit ws g) c (subst (λ (f : Walked). RootVisit ws f n 1 (field img n 0)) (sym (begun-is ws n low (p .long) h k))
+  rootVisit {n} {ws} {env} {f} {g} p q h k c =
+      at-list img (RootVisit ws env g) c (subst (λ (f : Walked). RootVisit ws env f n 1 (field img n 0)) (sym (begun-is ws n low (p .long) h k))
       (record {
         list = record {
           run = run-list img is refl;
@@ -79,8 +91,8 @@ module _ (img : List ℕ) where
           newest = begun-newest img ws n low (p .long) .last;
           fresh = λ j l. absurd (let z = counts in omega arith);
         };
-        visits = λ {r} {us} {vs} v u.
-            record { same = v .same ∙ sym whole; passed = v .passed ∙ ap (drop (tableLength (nodes img))) u ∙ begun-past img ws n low (p .long) };
+        opens = opens-left img 0 low (root-quiet is) refl (opens-module img ws env (sized img (p .accepted) .fewNodes) (sized img (p .accepted) .some) (p .long) (p .zeros) (p .blank));
+        visits = λ v u. visits-from img (sym whole) (ap (drop (tableLength (nodes img))) u ∙ begun-past img ws n low (p .long)) v;
       }))
     where
       is : Is img (kindOf moduleKind) n
@@ -108,16 +120,28 @@ module _ (img : List ℕ) where
       whole = ap (λ (x : ℕ). resolveTree img (treeAt img x) (record { words = ws; scopes = 0; symbols = 0 })) (sym q) ∙ root-tree ws low (p .long) is .0
           ∙ ap (λ (us : Trees). andThen img (enterAll img us m) (visitAll img us)) a ∙ over-start img n 1 (field img n 0) m
 
+-- a cleared word is 0
+pub cleared-zero : (n : ℕ) (ws : List ℕ) (i : ℕ) → i < n → getD (cleared n ws) i 0 ≡ 0
+unfolding cleared
+cleared-zero n ws i l =
+    List·getD-append (replicate n 0) (drop n ws) 0 i (let z = length-replicate {A = ℕ} n 0 in omega arith) ∙ getD-replicate n i 0 0 l
+
 -- Resolve, by the words that the code has at each step
 module _ (img tab : List ℕ) (passes : testTable img tab ≡ 0) (us : List ℕ) (c : ℕ) (count-is : c ≡ tableLength (nodes img)) (begins : us ≡ cleared c tab) where
   as-zeroed : us ≡ zeroed img tab
   unfolding zeroed
   as-zeroed = begins ∙ ap (λ (k : ℕ). cleared k tab) count-is
 
-  pub lent : length us ≡ length tab → Lent img us
-  lent l = record { accepted = table-accepted img tab passes; long = (let z = table-long img tab passes in omega arith) }
+  pub lent : {env : List ℕ} → length us ≡ length tab → env ≡ replicate environmentLength 0 → Lent img us env
+  lent l b =
+      record {
+        accepted = table-accepted img tab passes;
+        long = (let z = table-long img tab passes in omega arith);
+        zeros = λ i k. ap (λ (ws : List ℕ). getD ws i 0) begins ∙ cleared-zero c tab i (omega arith);
+        blank = b;
+      }
 
-  module _ {r : Declared} {vs : List ℕ} (h : Visits img (resolveTree img (treeAt img (last img)) (record { words = us; scopes = 0; symbols = 0 })) us r vs) where
+  module _ {r : Declared} {env vs : List ℕ} (h : Visits img (resolveTree img (treeAt img (last img)) (record { words = us; scopes = 0; symbols = 0 })) us r env vs) where
     walked-as : walked img tab ≡ listedOf r vs
     unfolding walked
     walked-as = ap (λ (ws : List ℕ). resolveTree img (treeAt img (last img)) (record { words = ws; scopes = 0; symbols = 0 })) (sym as-zeroed) ∙ sym (h .same)
@@ -131,6 +155,13 @@ module _ (img tab : List ℕ) (passes : testTable img tab ≡ 0) (us : List ℕ)
           way-is = ap (λ (us : List ℕ). fills (record { words = us; scopes = w .scopes; symbols = w .symbols })) q ∙ sym e;
           table-is = q ∙ ap (tableBy img tab) (sym e);
         }
+
+    -- what was noted
+    pub noted-done : {ws : List ℕ} (w : InCode) → r ≡ Done w → ws ≡ headed img (tableOf w vs) → Noted img (tableOf w ws) env
+    noted-done w d q =
+        let e = ap (λ (o : Declared). listedOf o vs) d in
+        subst (λ (us : List ℕ). Noted img (tableOf w us) env) (sym q)
+        (headed-noted img (tableOf w vs) (noted-of img (walked-ended img tab passes (walkedOf w vs) (walked-as ∙ e) .outer) (h .stands (walkedOf w vs) (sym (h .same) ∙ e))))
 
     -- "twice", with the words cleared again
     pub resolved-twice : {ws : List ℕ} (x : ℕ) (a b : NodeId) → r ≡ Twice x a b → ws ≡ cleared c vs → Resolves img tab (Twice x a b) ws

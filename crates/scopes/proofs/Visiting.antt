@@ -1,14 +1,14 @@
 -- Visiting the declarations of a list: what each function over it is handed, and hands on.
 use mathlib.Core.Path.{_≡_, refl, sym, ap, subst, _∙_, fun-ext}
 use mathlib.Core.List.{List, [], _∷_}
-use Prim.Native.Nat.{ℕ, suc, _+_, _-_, _<_, _≤_, _^_}
+use Prim.Native.Nat.{ℕ, suc, _+_, _-_, _<_, _≤_}
 use native.Mathlib.Omega.{arith}
 use lib.ListN.{length, drop}
 use Rattle.ast.specs.Image.{nodes, field}
 use Rattle.ast.specs.Is.{Is, kindBy}
 use Rattle.ast.specs.Items.{items, below}
-use Rattle.ast.specs.Kinds.{outer, signature, Field, name, child, list, Kind, kindOf}
-use Rattle.ast.specs.Named.{argDeclListKind, ctorDeclKind, declKind, enumDeclKind, funcDeclKind, modelDeclKind, ruleDeclKind, stmtKind, typeDeclKind, typeExprKind}
+use Rattle.ast.specs.Kinds.{outer, signature, Field, name, child, Kind, kindOf}
+use Rattle.ast.specs.Named.{argDeclListKind, ctorDeclKind, declKind, enumDeclKind, funcDeclKind, ruleDeclKind, stmtKind, typeDeclKind, typeExprKind}
 use Rattle.ast.specs.Tree.{Tree, node, block, Trees, none, treeAt, size, sizes}
 use Rattle.ast.proofs.Accepted.{sized}
 use Rattle.ast.proofs.Row.{append, append-none, Child, FormedFields, next, nodeOf}
@@ -18,22 +18,23 @@ use Rattle.typed.specs.RowShapes.{Listed as ListedAt}
 use Rattle.typed.specs.declared.nodes.NodeList.{NodeList}
 use Rattle.typed.proofs.Lists.{at-list}
 use Rattle.table.specs.Layout.{tableLength}
-use Rattle.table.specs.State.{Walked, childScope, marked, back}
+use Rattle.table.specs.State.{Walked, back}
 use Rattle.table.specs.Values.{walkedOf}
 use Rattle.table.specs.declared.Walked.{Walked as InCode}
 use Rattle.ast.specs.declared.NodeId.{NodeId}
+use Rattle.environment.specs.Stands.{Stands, Opens, Path}
 use Rattle.ordered.specs.Walk.{occurs, walk, walkSeq}
-use Rattle.ordered.specs.Promises.{over, inside, rest, Few, Room, Ready, ReadyRun}
-use Rattle.ordered.proofs.Grows.{Grows, seq-grows}
+use Rattle.ordered.specs.Promises.{over, inside, rest, Room, Ready, ReadyRun}
+use Rattle.ordered.proofs.Paths.{seq-path}
 use Rattle.table.proofs.Kept.{past}
 use Rattle.ordered.proofs.Lists.{rest-start}
 use Rattle.ordered.proofs.Size.{seq-within}
 use Rattle.ordered.proofs.Steps.{room-below, tree-grows}
 use Rattle.scopes.specs.Walk.{Listed, done, twice, andThen, enterAll, visit, visitAll}
-use Rattle.scopes.specs.Promises.{listedOf, ents, vis, viss, restEnter, restVisit, overList, Enters, Visits, Inside, Fits, Visit, EnterRun, VisitRun, ListRun}
+use Rattle.scopes.specs.Promises.{listedOf, vis, viss, restEnter, restVisit, overList, Enters, Visits, Inside, Fits, Visit, EnterRun, VisitRun, ListRun}
 use Rattle.scopes.specs.declared.Declared.{Declared}
 use Rattle.scopes.specs.declared.Declared.the-variants.{Done, Twice}
-use Rattle.scopes.proofs.Adds.{Newest, enterAll-in, visit-in, opened, opened-counts, child-newest, child-past, child-empty, fits-next}
+use Rattle.scopes.proofs.Adds.{done-same, twice-done, enterAll-in, visit-in, fits-next}
 use Rattle.scopes.proofs.Entries.{DeclOf, decl-size, decl-vis, and-done, and-stop, same-items, enter-start}
 use Rattle.scopes.proofs.Stamps.{seen-start}
 
@@ -47,20 +48,21 @@ module _ (img : List ℕ) where
   unfolding visit nodeOf kindOf
   rule-visit {n} e is = subst (λ (u : Tree). visit img u e ≡ done (back img (e .scope) (walkSeq img occurs (below u) e))) (sym (tree-of img is)) refl
 
-  room-of : {a b : ℕ} {e f : Walked} → nodes img ≤ 2048 → Fits img a b e → Grows img e f → f .table .scopes ≤ e .table .scopes + a → f .table .symbols ≤ e .table .symbols + b → Room img f
-  room-of {a} {b} {e} {f} w p g x y =
+  room-of : {a b : ℕ} {e f : Walked} → nodes img ≤ 2048 → Fits img a b e → f .table .scopes ≤ e .table .scopes + a → f .table .symbols ≤ e .table .symbols + b → Room img f
+  room-of w p x y =
       let h = p .scopes in
       let k = p .symbols in
-      let q : Few img (f .table) = record { scopes = omega arith; symbols = omega arith } in
-      record { scopes = omega arith; symbols = omega arith; few = q; rising = (g .kept q (p .kept)) .rising }
+      record { scopes = omega arith; symbols = omega arith; few = record { scopes = omega arith; symbols = omega arith } }
 
   below-small : (u : Tree) → Small (nodes img) u → Smalls (nodes img) (below u)
   unfolding Small
   below-small (node i k c sh ts) h = h .1
   below-small (block ts) h = h
 
-  inside-grows : (n : ℕ) (e : Walked) → Grows img e (inside img occurs n e)
-  inside-grows n e = seq-grows img occurs (below (treeAt img n)) (below-small (treeAt img n) (tree-small img n)) e
+  -- what is walked leaves a way back to where it started
+  pub inside-path : {kd : Kind} {n : ℕ} {e g : Walked} {env : List ℕ} → Inside img kd n e → Stands img e env → g ≡ inside img occurs n e → Path img (g .table) (e .scope) (g .scope)
+  inside-path {n = n} {e} p s q =
+      subst (λ (k : Walked). Path img (k .table) (e .scope) (k .scope)) (sym q) (seq-path img occurs (below (treeAt img n)) e (below-small (treeAt img n) (tree-small img n)) (p .room .few) s)
 
   Sizes : ℕ → Type 0
   Sizes n = (size (treeAt img n) ≡ suc (sizes (below (treeAt img n)))) × (vis (treeAt img n) ≡ sizes (below (treeAt img n)))
@@ -79,7 +81,7 @@ module _ (img : List ℕ) where
       let w = seq-within img occurs (below (treeAt img n)) e in
       let x = w .scopes in
       let y = w .symbols in
-      record { is = is; room = room-of ((sized img (is .accepted)) .fewNodes) p (inside-grows n e) (omega arith) (omega arith) }
+      record { is = is; room = room-of ((sized img (is .accepted)) .fewNodes) p (omega arith) (omega arith) }
 
   pub sig-inside : {fs : List Field} {n : ℕ} {e : Walked} → Is img (kindBy (outer signature) fs) n → Fits img (size (treeAt img n)) (vis (treeAt img n)) e → Inside img (kindBy (outer signature) fs) n e
   sig-inside is p = inside-room is (sig-sizes is) p
@@ -150,20 +152,33 @@ module _ (img : List ℕ) where
       → walkedOf r ws ≡ back img (current .scope .0) (walkedOf after ws)
   dropped-is r current after ws h = λ i. record { scope = (h .0 i) .0; table = record { words = ws; scopes = h .1 i; symbols = h .2 i } }
 
+  -- what stands at the end, told of a list that is done there
+  pub stands-done : {e : Walked} {l : Listed} {env : List ℕ} → Stands img e env → done e ≡ l → (f : Walked) → l ≡ done f → Stands img f env
+  stands-done {e} {l} {env} s q f d = subst (λ (k : Walked). Stands img k env) (done-same e f (q ∙ d)) s
+
   -- a walk that is done hands this back
-  pub done-visits : (n : ℕ) {e : Walked} {vs : List ℕ} (w : InCode) → Fits img (size (treeAt img n)) (vis (treeAt img n)) e → done (walkedOf w vs) ≡ visit img (treeAt img n) e
-      → Visits img (visit img (treeAt img n) e) (e .table .words) (Done w) vs
-  done-visits n {e} {vs} w p q =
+  pub done-visits : (n : ℕ) {e : Walked} {env vs : List ℕ} (w : InCode) → Fits img (size (treeAt img n)) (vis (treeAt img n)) e → done (walkedOf w vs) ≡ visit img (treeAt img n) e
+      → Stands img (walkedOf w vs) env → Visits img (visit img (treeAt img n) e) (e .table .words) (Done w) env vs
+  done-visits n {e} {env} {vs} w p q s =
       let t = (visit-in img (treeAt img n) (tree-small img n) e) .went (walkedOf w vs) (sym q) in
       let x = t .scopes in
       let y = t .symbols in
       let u = p .scopes in
       let v = p .symbols in
-      record { same = q; passed = t .passed (record { scopes = omega arith; symbols = omega arith }) }
+      record { same = q; stands = stands-done s q; passed = t .passed (record { scopes = omega arith; symbols = omega arith }) }
 
-  -- the same, told of another declaration
-  pub visits-as : {l k : Listed} {ws vs : List ℕ} {r : Declared} → l ≡ k → Visits img l ws r vs → Visits img k ws r vs
-  visits-as q h = record { same = h .same ∙ q; passed = h .passed }
+  -- the same, told of another declaration, and from an earlier table
+  pub visits-from : {l k : Listed} {us ws env vs : List ℕ} {r : Declared} → l ≡ k → drop (tableLength (nodes img)) us ≡ drop (tableLength (nodes img)) ws
+      → Visits img l us r env vs → Visits img k ws r env vs
+  visits-from q p h = record { same = h .same ∙ q; stands = λ f d. h .stands f (q ∙ d); passed = h .passed ∙ p }
+
+  pub visits-as : {l k : Listed} {ws env vs : List ℕ} {r : Declared} → l ≡ k → Visits img l ws r env vs → Visits img k ws r env vs
+  visits-as q h = visits-from q refl h
+
+  -- a name declared twice: nothing stands
+  pub visits-twice : {l : Listed} {ws env vs : List ℕ} (x : ℕ) (a b : NodeId) → l ≡ twice x (a .0) (b .0) → drop (tableLength (nodes img)) vs ≡ drop (tableLength (nodes img)) ws
+      → Visits img l ws (Twice x a b) env vs
+  visits-twice x a b q p = record { same = sym q; stands = λ f d. absurd (twice-done x (a .0) (b .0) f (sym q ∙ d)); passed = p }
 
   -- what is left of a list ---------------------------------------------------------------------------------------------------
   pub visit-start : (n j count : ℕ) (e : Walked) → visitAll img (items img n count j) e ≡ restVisit img n j count 0 e
@@ -184,26 +199,27 @@ module _ (img : List ℕ) where
   unfolding size vis
   sizes-more n j count i h = (ap sizes (items-more img n j count i h), ap viss (items-more img n j count i h))
 
-  pub record VisitLeft (n j count i : ℕ) (e f : Walked) : Type 0 where
+  pub record VisitLeft (env : List ℕ) (n j count i : ℕ) (e f : Walked) : Type 0 where
     pub within : i ≤ count
     pub long : length (f .table .words) ≡ length (e .table .words)
     pub fits : Fits img (sizes (items img n (count - i) (j + i))) (viss (items img n (count - i) (j + i))) f
     pub passed : past img (f .table) ≡ past img (e .table)
     pub left : restVisit img n j count 0 e ≡ restVisit img n j count i f
+    pub stands : Stands img f env
 
-  pub visit-begin : {k n j count : ℕ} {e : Walked} → VisitRun img k n j count e → VisitLeft n j count 0 e e
-  visit-begin {k} {n} {j} {count} {e} p =
-      record { within = omega arith; long = refl; fits = subst (λ (us : Trees). Fits img (sizes us) (viss us) e) (same-items img n j count) (p .fits); passed = refl; left = refl }
+  pub visit-begin : {env : List ℕ} {k n j count : ℕ} {e : Walked} → VisitRun img k n j count e → Stands img e env → VisitLeft env n j count 0 e e
+  visit-begin {n = n} {j} {count} {e} p s =
+      record { within = omega arith; long = refl; fits = subst (λ (us : Trees). Fits img (sizes us) (viss us) e) (same-items img n j count) (p .fits); passed = refl; left = refl; stands = s }
 
   pub record VisitItem (k n j count i c : ℕ) (e f : Walked) : Type 0 where
     pub low : c < n
     pub ready : Visit img (kindOf k) c f
-    pub more : {r : Declared} {vs : List ℕ} (w : InCode) → r ≡ Done w → Visits img (visit img (treeAt img c) f) (f .table .words) r vs → VisitLeft n j count (i + 1) e (walkedOf w vs)
-    pub stop : {r : Declared} {vs : List ℕ} (x : ℕ) (a b : NodeId) → r ≡ Twice x a b → Visits img (visit img (treeAt img c) f) (f .table .words) r vs
-        → Visits img (restVisit img n j count 0 e) (e .table .words) (Twice x a b) vs
+    pub more : {r : Declared} {en vs : List ℕ} (w : InCode) → r ≡ Done w → Visits img (visit img (treeAt img c) f) (f .table .words) r en vs → VisitLeft en n j count (i + 1) e (walkedOf w vs)
+    pub stop : {r : Declared} {en vs : List ℕ} (x : ℕ) (a b : NodeId) → r ≡ Twice x a b → Visits img (visit img (treeAt img c) f) (f .table .words) r en vs
+        → Visits img (restVisit img n j count 0 e) (e .table .words) (Twice x a b) en vs
 
-  pub visitItem : {k n j count i c : ℕ} {e f : Walked} → VisitRun img k n j count e → VisitLeft n j count i e f → i < count → c ≡ field img n (j + i) → VisitItem k n j count i c e f
-  visitItem {k} {n} {j} {count} {i} {c} {e} {f} p b l q = subst (λ (x : ℕ). VisitItem k n j count i x e f) (sym q) item
+  pub visitItem : {env : List ℕ} {k n j count i c : ℕ} {e f : Walked} → VisitRun img k n j count e → VisitLeft env n j count i e f → i < count → c ≡ field img n (j + i) → VisitItem k n j count i c e f
+  visitItem {k = k} {n} {j} {count} {i} {c} {e} {f} p b l q = subst (λ (x : ℕ). VisitItem k n j count i x e f) (sym q) item
     where
       m : ℕ
       m = field img n (j + i)
@@ -213,8 +229,8 @@ module _ (img : List ℕ) where
           let s = sizes-more n j count i l in
           record { scopes = (let r = b .fits .scopes in omega arith); symbols = (let r = b .fits .symbols in omega arith); kept = b .fits .kept }
 
-      after : {r : Declared} {vs : List ℕ} (w : InCode) → r ≡ Done w → Visits img (visit img (treeAt img m) f) (f .table .words) r vs → VisitLeft n j count (i + 1) e (walkedOf w vs)
-      after {r} {vs} w d h =
+      after : {r : Declared} {en vs : List ℕ} (w : InCode) → r ≡ Done w → Visits img (visit img (treeAt img m) f) (f .table .words) r en vs → VisitLeft en n j count (i + 1) e (walkedOf w vs)
+      after {r} {en} {vs} w d h =
           let g : visit img (treeAt img m) f ≡ done (walkedOf w vs) = sym (h .same) ∙ ap (λ (o : Declared). listedOf o vs) d in
           let t = (visit-in img (treeAt img m) (tree-small img m) f) .went (walkedOf w vs) g in
           record {
@@ -223,6 +239,7 @@ module _ (img : List ℕ) where
             fits = fits-next img more-fits t;
             passed = h .passed ∙ b .passed;
             left = b .left ∙ visit-more n j count i f l ∙ and-done img (walkedOf w vs) (restVisit img n j count (i + 1)) _ g;
+            stands = h .stands (walkedOf w vs) g;
           }
 
       h : Child img n k m × Is img (kindOf k) m
@@ -236,21 +253,20 @@ module _ (img : List ℕ) where
               is = h .1;
               fits = record { scopes = (let r = more-fits .scopes in omega arith); symbols = (let r = more-fits .symbols in omega arith); kept = b .fits .kept };
             };
-            more = λ {r} {vs} w d h. after w d h;
-            stop = λ {r} {vs} x a z d h.
+            more = λ {r} {en} {vs} w d h. after w d h;
+            stop = λ {r} {en} {vs} x a z d h.
                 let g : visit img (treeAt img m) f ≡ twice x (a .0) (z .0) = sym (h .same) ∙ ap (λ (o : Declared). listedOf o vs) d in
-                record {
-                  same = sym (b .left ∙ visit-more n j count i f l ∙ and-stop img x (a .0) (z .0) (restVisit img n j count (i + 1)) _ g);
-                  passed = h .passed ∙ b .passed;
-                };
+                visits-twice x a z (b .left ∙ visit-more n j count i f l ∙ and-stop img x (a .0) (z .0) (restVisit img n j count (i + 1)) _ g) (h .passed ∙ b .passed);
           }
 
-  pub visit-ended : {n j count i : ℕ} {e : Walked} {vs : List ℕ} (w : InCode) → VisitLeft n j count i e (walkedOf w vs) → count ≤ i
-      → Visits img (restVisit img n j count 0 e) (e .table .words) (Done w) vs
-  visit-ended {n} {j} {count} {i} {e} {vs} w b l = record { same = sym (b .left ∙ visit-end n j count i (walkedOf w vs) l); passed = b .passed }
+  pub visit-ended : {env : List ℕ} {n j count i : ℕ} {e : Walked} {vs : List ℕ} (w : InCode) → VisitLeft env n j count i e (walkedOf w vs) → count ≤ i
+      → Visits img (restVisit img n j count 0 e) (e .table .words) (Done w) env vs
+  visit-ended {n = n} {j} {count} {i} {e} {vs} w b l =
+      let g = sym (b .left ∙ visit-end n j count i (walkedOf w vs) l) in
+      record { same = g; stands = stands-done (b .stands) g; passed = b .passed }
 
-  -- the lists of an enum and of a model ---------------------------------------------------------------------------------------
-  abbrev listTrees : ℕ → Trees
+  -- the list of an enum -----------------------------------------------------------------------------------------------------
+  abbrev pub listTrees : ℕ → Trees
   listTrees n = append (items img n (field img n 1) 2) none
 
   -- the list is the count items from place j of m's row on
@@ -284,80 +300,9 @@ module _ (img : List ℕ) where
       ap (λ (l : Listed). andThen img l (visitAll img (items img n count j))) (enter-start img n j count e)
       ∙ ap (λ (k : Walked → Listed). andThen img (restEnter img n j count 0 e) k) (fun-ext (λ f. visit-start n j count f))
 
-  model-visit : {n : ℕ} (e : Walked) → Is img (kindOf modelDeclKind) n
-      → (visit img (treeAt img n) e ≡ andThen img (andThen img (enterAll img (listTrees n) (opened img n e)) (λ f. visitAll img (listTrees n) f)) (λ f. done (back img (e .scope) f)))
-      × (size (treeAt img n) ≡ suc (sizes (listTrees n))) × (vis (treeAt img n) ≡ ents (listTrees n) + viss (listTrees n))
-  unfolding visit vis size nodeOf kindOf
-  model-visit {n} e is =
-      subst (λ (u : Tree). (visit img u e ≡ andThen img (andThen img (enterAll img (listTrees n) (opened img n e)) (λ f. visitAll img (listTrees n) f)) (λ f. done (back img (e .scope) f)))
-      × (size u ≡ suc (sizes (listTrees n))) × (vis u ≡ ents (listTrees n) + viss (listTrees n)))
-      (sym (tree-of img is)) (refl, refl, refl)
-
-  -- its own scope, with its node marked
-  pub opened-is : (n : ℕ) (e : Walked) {f g : Walked} → f ≡ childScope img e → g ≡ marked img n (f .scope) f → g ≡ opened img n e
-  unfolding childScope
-  opened-is n e {f} {g} p q = q ∙ ap (λ (k : Walked). marked img n (k .scope) k) p
-
-  pub record ModelVisit (n : ℕ) (e g : Walked) (m j count : ℕ) : Type 0 where
-    pub own : m ≡ n
-    pub list : ListRun img m j count g
-    pub back-in : {r : Declared} {us vs : List ℕ} (v w : InCode) → r ≡ Done w → Visits img (overList img m j count g) us r vs → us ≡ g .table .words
-        → walkedOf v vs ≡ back img (e .scope) (walkedOf w vs) → Visits img (visit img (treeAt img n) e) (e .table .words) (Done v) vs
-    pub stop : {r : Declared} {us vs : List ℕ} (x : ℕ) (a b : NodeId) → r ≡ Twice x a b → Visits img (overList img m j count g) us r vs → us ≡ g .table .words
-        → Visits img (visit img (treeAt img n) e) (e .table .words) (Twice x a b) vs
-
-  pub model-room : {n : ℕ} {e : Walked} → Visit img (kindOf modelDeclKind) n e → e .table .scopes + 1 < 2 ^ 32
-  model-room {n} {e} p = let z = (model-visit e (p .is)) .1 in let f = p .fits .scopes in let w = (sized img (p .is .accepted)) .fewNodes in omega arith
-
-  pub modelVisit : {n : ℕ} {e g : Walked} {l : NodeList} → Visit img (kindOf modelDeclKind) n e → ListedAt img n 1 l → g ≡ opened img n e → ModelVisit n e g (l .node .0) (l .first) (l .count)
-  unfolding next kindOf
-  modelVisit {n} {e} {g} p q o =
-      at-list img (ModelVisit n e g) q (subst (λ (f : Walked). ModelVisit n e f n 2 (field img n 1)) (sym o)
-      (record {
-        own = refl;
-        list = record {
-          run = run-tail img (p .is) refl refl;
-          fits = record { scopes = (let f = p .fits .scopes in let x = c in let y = s in omega arith); symbols = (let f = p .fits .symbols in let x = c in let y = s in omega arith); kept = new .kept };
-          newest = new .last;
-          fresh = child-empty img e (p .is .below) small (p .fits .kept);
-        };
-        back-in = λ {r} {us} {vs} v w d h u k.
-            let t : overList img n 2 (field img n 1) m ≡ done (walkedOf w vs) = sym (h .same) ∙ ap (λ (x : Declared). listedOf x vs) d in
-            record { same = ap done k ∙ sym (whole ∙ and-done img (walkedOf w vs) (λ f. done (back img (e .scope) f)) _ t); passed = h .passed ∙ ap (drop (tableLength (nodes img))) u ∙ child-past img e (p .is .below) small };
-        stop = λ {r} {us} {vs} x a b d h u.
-            let t : overList img n 2 (field img n 1) m ≡ twice x (a .0) (b .0) = sym (h .same) ∙ ap (λ (y : Declared). listedOf y vs) d in
-            record { same = sym (whole ∙ and-stop img x (a .0) (b .0) (λ f. done (back img (e .scope) f)) _ t); passed = h .passed ∙ ap (drop (tableLength (nodes img))) u ∙ child-past img e (p .is .below) small };
-      }))
-    where
-      ts : Trees
-      ts = items img n (field img n 1) 2
-
-      m : Walked
-      m = opened img n e
-
-      a : listTrees n ≡ ts
-      a = append-none ts
-
-      c : (m .table .scopes ≡ e .table .scopes + 1) × (m .table .symbols ≡ e .table .symbols)
-      c = opened-counts img n e
-
-      s : (size (treeAt img n) ≡ suc (sizes ts)) × (vis (treeAt img n) ≡ ents ts + viss ts)
-      s = (model-visit e (p .is) .1 ∙ ap (λ (us : Trees). suc (sizes us)) a, model-visit e (p .is) .2 ∙ ap (λ (us : Trees). ents us + viss us) a)
-
-      small : e .table .scopes < nodes img
-      small = let f = p .fits .scopes in let z = s .0 in omega arith
-
-      new : Newest img m
-      new = child-newest img e (p .is .below) small (p .fits .kept)
-
-      whole : visit img (treeAt img n) e ≡ andThen img (overList img n 2 (field img n 1) m) (λ f. done (back img (e .scope) f))
-      whole = model-visit e (p .is) .0
-          ∙ ap (λ (us : Trees). andThen img (andThen img (enterAll img us m) (λ f. visitAll img us f)) (λ f. done (back img (e .scope) f))) a
-          ∙ ap (λ (l : Listed). andThen img l (λ f. done (back img (e .scope) f))) (over-start n 2 (field img n 1) m)
-
   -- the names of a list
-  pub list-enter : {n j count : ℕ} {e : Walked} (seen : List ℕ) → ListRun img n j count e → EnterRun img seen declKind n j count e
-  list-enter {n} {j} {count} {e} seen p =
+  pub list-enter : {env : List ℕ} {n j count : ℕ} {e : Walked} (seen : List ℕ) → ListRun img n j count e → Opens img e env → EnterRun img seen env declKind n j count e
+  list-enter {e = e} seen p o =
       record {
         run = p .run;
         entering = record {
@@ -366,17 +311,19 @@ module _ (img : List ℕ) where
           room = (let y = p .fits .symbols in omega arith);
           long = p .fits .kept .rising .long;
           stamps = seen-start img seen e (p .fresh);
+          opens = o;
         };
       }
 
   -- then its declarations
-  pub record ListVisit (n j count : ℕ) (e : Walked) (us : List ℕ) (w : InCode) (ws : List ℕ) : Type 0 where
+  pub record ListVisit (env : List ℕ) (n j count : ℕ) (e : Walked) (us : List ℕ) (w : InCode) (ws : List ℕ) : Type 0 where
     pub run : VisitRun img declKind n j count (walkedOf w ws)
-    pub visits : {r : Declared} {vs : List ℕ} → Visits img (restVisit img n j count 0 (walkedOf w ws)) ws r vs → Visits img (overList img n j count e) us r vs
+    pub stands : Stands img (walkedOf w ws) env
+    pub visits : {r : Declared} {en vs : List ℕ} → Visits img (restVisit img n j count 0 (walkedOf w ws)) ws r en vs → Visits img (overList img n j count e) us r en vs
 
-  pub listVisit : {n j count : ℕ} {e : Walked} {seen ws : List ℕ} {r : Declared} (w : InCode) → ListRun img n j count e → r ≡ Done w → Enters img (restEnter img n j count 0 e) (e .table .words) r seen ws
-      → ListVisit n j count e (e .table .words) w ws
-  listVisit {n} {j} {count} {e} {seen} {ws} {r} w p d h =
+  pub listVisit : {n j count : ℕ} {e : Walked} {seen env ws : List ℕ} {r : Declared} (w : InCode) → ListRun img n j count e → r ≡ Done w → Enters img (restEnter img n j count 0 e) (e .table .words) r seen env ws
+      → ListVisit env n j count e (e .table .words) w ws
+  listVisit {n} {j} {count} {e} {seen} {env} {ws} {r} w p d h =
       let g : restEnter img n j count 0 e ≡ done (walkedOf w ws) = sym (h .same) ∙ ap (λ (o : Declared). listedOf o ws) d in
       let t = (enterAll-in img (items img n count j) (items-small img n count j) e) .went (walkedOf w ws) (enter-start img n j count e ∙ g) in
       let x = t .scopes in
@@ -388,14 +335,15 @@ module _ (img : List ℕ) where
           run = p .run;
           fits = record { scopes = omega arith; symbols = omega arith; kept = (t .keeps (record { scopes = omega arith; symbols = omega arith }) (record { kept = p .fits .kept; last = p .newest })) .kept };
         };
-        visits = λ k. record { same = k .same ∙ sym (and-done img (walkedOf w ws) (restVisit img n j count 0) _ g); passed = k .passed ∙ h .passed };
+        stands = (h .opens (walkedOf w ws) g) .stands;
+        visits = λ k. visits-from (sym (and-done img (walkedOf w ws) (restVisit img n j count 0) _ g)) (h .passed) k;
       }
 
-  pub list-stop : (n j count : ℕ) (e : Walked) {us seen ws : List ℕ} {r : Declared} (x : ℕ) (a b : NodeId) → r ≡ Twice x a b → Enters img (restEnter img n j count 0 e) us r seen ws
-      → Visits img (overList img n j count e) us (Twice x a b) ws
-  list-stop n j count e {us} {seen} {ws} {r} x a b d h =
+  pub list-stop : (n j count : ℕ) (e : Walked) {us seen env ws : List ℕ} {r : Declared} (x : ℕ) (a b : NodeId) → r ≡ Twice x a b → Enters img (restEnter img n j count 0 e) us r seen env ws
+      → Visits img (overList img n j count e) us (Twice x a b) env ws
+  list-stop n j count e {us} {seen} {env} {ws} {r} x a b d h =
       let g : restEnter img n j count 0 e ≡ twice x (a .0) (b .0) = sym (h .same) ∙ ap (λ (o : Declared). listedOf o ws) d in
-      record { same = sym (and-stop img x (a .0) (b .0) (restVisit img n j count 0) _ g); passed = h .passed }
+      visits-twice x a b (and-stop img x (a .0) (b .0) (restVisit img n j count 0) _ g) (h .passed)
 
   -- a Decl that is visited: what is asked of its declaration
   pub decl-fits : {k n d : ℕ} {e : Walked} → DeclOf img k n d → Fits img (size (treeAt img n)) (vis (treeAt img n)) e → Fits img (size (treeAt img d)) (vis (treeAt img d)) e

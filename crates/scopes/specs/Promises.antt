@@ -4,7 +4,7 @@ use mathlib.Core.Path.{_≡_}
 use mathlib.Core.Bool.{Bool, true, false}
 use mathlib.Core.List.{List}
 use Prim.Native.Nat.{ℕ, suc, _+_, _-_, _<_, _≤_}
-use lib.ListN.{length, getD, set, drop}
+use lib.ListN.{length, getD, set, drop, replicate}
 use Rattle.ast.specs.Declarations.{declared, declaredAll}
 use Rattle.ast.specs.Image.{nodes, kindAt, nameOf}
 use Rattle.ast.specs.Is.{Is, Run}
@@ -17,7 +17,9 @@ use Rattle.typed.specs.declared.nodes.NodeList.{NodeList}
 use Rattle.table.specs.Layout.{tableLength}
 use Rattle.table.specs.Rising.{scopeOf, nodeAt}
 use Rattle.table.specs.State.{Walked}
-use Rattle.table.specs.Values.{walkedOf}
+use Rattle.table.specs.Values.{tableOf, walkedOf}
+use Rattle.environment.specs.Layout.{environmentLength}
+use Rattle.environment.specs.Stands.{Stands, Opens, Named, Noted}
 use Rattle.ordered.specs.Walk.{occurs}
 use Rattle.ordered.specs.Promises.{inside, Room}
 use Rattle.table.specs.Kept.{Kept}
@@ -29,6 +31,11 @@ use Rattle.scopes.specs.declared.Declared.the-variants.{Done, Twice}
 abbrev pub listedOf : Declared → List ℕ → Listed
 listedOf (Done w) ws = done (walkedOf w ws)
 listedOf (Twice x a b) ws = twice x (a .0) (b .0)
+
+-- what was noted, where the module is done
+abbrev pub NotedBy : List ℕ → Declared → List ℕ → List ℕ → Type 0
+NotedBy img (Done w) ws env = Noted img (tableOf w ws) env
+NotedBy img (Twice x a b) ws env = Unit {0}
 
 -- how many symbols entering a declaration, or a list of them, may add
 abbrev pub ent : Tree → ℕ
@@ -90,27 +97,31 @@ module _ (img : List ℕ) where
         → getD seen (nameOf img (nodeAt (nodes img) (e .table .words) j)) 0 ≡ suc (e .scope)
 
   -- names may be entered, m more at most
-  pub record Entering (seen : List ℕ) (m : ℕ) (e : Walked) : Type 0 where
+  pub record Entering (seen env : List ℕ) (m : ℕ) (e : Walked) : Type 0 where
     pub accepted : verdict img ≡ 0
     pub live : e .scope < nodes img
     pub room : e .table .symbols + m ≤ nodes img
     pub long : tableLength (nodes img) ≤ length (e .table .words)
     pub stamps : Seen seen e
+    pub opens : Opens img e env
 
   -- the name x of node n may be entered
-  pub record Naming (seen : List ℕ) (x n : ℕ) (e : Walked) : Type 0 where
-    pub name : x ≡ nameOf img n
-    pub entering : Entering seen 1 e
+  pub record Naming (seen env : List ℕ) (x n : ℕ) (e : Walked) : Type 0 where
+    pub name : Named img n x
+    pub entering : Entering seen env 1 e
 
-  -- what entering hands back: the definition's, with the stamps of what was entered, and the words past the table as they were
-  pub record Enters (l : Listed) (ws : List ℕ) (r : Declared) (seen vs : List ℕ) : Type 0 where
+  -- what entering hands back: the definition's, with the stamps of what was entered and what names stand for then, and the words
+  -- past the table as they were
+  pub record Enters (l : Listed) (ws : List ℕ) (r : Declared) (seen env vs : List ℕ) : Type 0 where
     pub same : listedOf r vs ≡ l
     pub stamps : (f : Walked) → l ≡ done f → Seen seen f
+    pub opens : (f : Walked) → l ≡ done f → Opens img f env
     pub passed : drop (tableLength (nodes img)) vs ≡ drop (tableLength (nodes img)) ws
 
   -- what visiting hands back
-  pub record Visits (l : Listed) (ws : List ℕ) (r : Declared) (vs : List ℕ) : Type 0 where
+  pub record Visits (l : Listed) (ws : List ℕ) (r : Declared) (env vs : List ℕ) : Type 0 where
     pub same : listedOf r vs ≡ l
+    pub stands : (f : Walked) → l ≡ done f → Stands img f env
     pub passed : drop (tableLength (nodes img)) vs ≡ drop (tableLength (nodes img)) ws
 
   -- a type, pred, func, const or constructor
@@ -136,9 +147,9 @@ module _ (img : List ℕ) where
     pub fits : Fits (size (treeAt img n)) (vis (treeAt img n)) e
 
   -- what entering the names of a list asks
-  pub record EnterRun (seen : List ℕ) (k n j count : ℕ) (e : Walked) : Type 0 where
+  pub record EnterRun (seen env : List ℕ) (k n j count : ℕ) (e : Walked) : Type 0 where
     pub run : Run img k n j count
-    pub entering : Entering seen (ents (items img n count j)) e
+    pub entering : Entering seen env (ents (items img n count j)) e
 
   -- what visiting the declarations of a list asks
   pub record VisitRun (k n j count : ℕ) (e : Walked) : Type 0 where
@@ -153,8 +164,8 @@ module _ (img : List ℕ) where
     pub fresh : (j : ℕ) → j < e .table .symbols → scopeOf (nodes img) (e .table .words) j < e .scope
 
   -- the same of the nodes of a list
-  abbrev pub EnterAll : List ℕ → ℕ → NodeList → Walked → Type 0
-  EnterAll seen k l e = EnterRun seen k (l .node .0) (l .first) (l .count) e
+  abbrev pub EnterAll : List ℕ → List ℕ → ℕ → NodeList → Walked → Type 0
+  EnterAll seen env k l e = EnterRun seen env k (l .node .0) (l .first) (l .count) e
 
   abbrev pub VisitAll : ℕ → NodeList → Walked → Type 0
   VisitAll k l e = VisitRun k (l .node .0) (l .first) (l .count) e
@@ -162,10 +173,12 @@ module _ (img : List ℕ) where
   abbrev pub WholeAll : NodeList → Walked → Type 0
   WholeAll l e = ListRun (l .node .0) (l .first) (l .count) e
 
--- an accepted image, and a table of enough words
-pub record Lent (img ws : List ℕ) : Type 0 where
+-- an accepted image, a table of enough words, all 0, and an environment of zeros
+pub record Lent (img ws env : List ℕ) : Type 0 where
   pub accepted : verdict img ≡ 0
   pub long : tableLength (nodes img) ≤ length ws
+  pub zeros : (i : ℕ) → i < tableLength (nodes img) → getD ws i 0 ≡ 0
+  pub blank : env ≡ replicate environmentLength 0
 
 -- a name stamped for a scope: whether it was not yet
 pub record Stamped (seen : List ℕ) (x s : ℕ) (r : Bool) (vs : List ℕ) : Type 0 where

@@ -10,10 +10,13 @@ ghost use Rattle.ast.specs.Named.{argDeclListKind, ctorDeclKind, declKind, enum
 ghost use Rattle.ast.specs.Tree.{treeAt};
 ghost use Rattle.table.specs.State.{marked, back};
 ghost use Rattle.table.specs.Values.{tableOf, walkedOf};
+ghost use lib.ListN.{replicate};
+ghost use Rattle.environment.specs.Layout.{environmentLength};
+ghost use Rattle.environment.specs.Stands.{Stands, Opens};
 ghost use Rattle.ordered.specs.Walk.{occurs};
-ghost use Rattle.ordered.specs.Promises.{inside};
+ghost use Rattle.ordered.specs.Promises.{inside, Ends};
 ghost use Rattle.scopes.specs.Walk.{done, enterName, visit, resolveTree};
-ghost use Rattle.scopes.specs.Promises.{enter, ent, enterList, visitList, wholeList, Entering, Naming, Enters, Visits, Signature, Inside, Visit, EnterAll, VisitAll, WholeAll, Lent, Stamped};
+ghost use Rattle.scopes.specs.Promises.{enter, ent, enterList, visitList, wholeList, Entering, Naming, Enters, Visits, Signature, Inside, Visit, EnterAll, VisitAll, WholeAll, Lent, NotedBy, Stamped};
 ghost use Rattle.scopes.specs.Resolve.{testTable, headed, resolve};
 ghost use Rattle.scopes.specs.Calls.{testRows};
 ghost use Rattle.scopes.specs.Lookup as «lookup-spec»;
@@ -95,7 +98,8 @@ pub fn resolve_scopes(image: &[u8], table: &mut [u32]) -> Resolved
     if refusal != 0 {
         return Resolved::Refused(refusal);
     }
-    match resolve_into(image, table) {
+    let mut env = [0u32; environment::WORDS];
+    match resolve_into(image, table, &mut env) {
         Declared::Done(walked) => Resolved::Scopes(walked.scopes, walked.symbols),
         Declared::Twice(name, first, second) => Resolved::Twice(name, first, second),
     }
@@ -115,14 +119,15 @@ pub fn test_table(image: &[u8], table: &[u32]) -> u32
     0
 }
 
-// Resolve, where 1 to 13 refuse nothing: where the walk stands after the module, or the name that is declared twice.
-pub fn resolve_into(image: &[u8], table: &mut [u32]) -> Declared
-    requires { ⌜ testTable (now image) (now table) ≡ 0 ⌝ }
-    ensures { λ r. ⌜ Resolves (now (image .entry)) (now (table .entry)) r (now (table .exit)) ⌝ }
+// Resolve, where 1 to 13 refuse nothing: where the walk stands after the module, or the name that is declared twice. The
+// environment has what was noted then, for the checks.
+pub fn resolve_into(image: &[u8], table: &mut [u32], env: &mut [u32]) -> Declared
+    requires { ⌜ (testTable (now image) (now table) ≡ 0) × (now env ≡ replicate environmentLength 0) ⌝ }
+    ensures { λ r. ⌜ Resolves (now (image .entry)) (now (table .entry)) r (now (table .exit)) × NotedBy (now (image .entry)) r (now (table .exit)) (now (env .exit)) ⌝ }
 {
     let words = table::words_for(ast::node_count(image));
     rows::clear(table, words);
-    match walk_module(image, table) {
+    match walk_module(image, table, env) {
         Declared::Done(walked) => {
             insert_counts(image, table, walked);
             Declared::Done(walked)
@@ -141,9 +146,9 @@ const NO_SCOPE: u32 = 4294967295;
 const STAMPS: usize = 1024;
 
 // The whole module, in a table with no scope and no symbol.
-fn walk_module(image: &[u8], table: &mut [u32]) -> Declared
-    requires { ⌜ Lent (now image) (now table) ⌝ }
-    ensures { λ r. ⌜ Visits (now (image .entry)) (resolveTree (now (image .entry)) (treeAt (now (image .entry)) («image-spec».last (now (image .entry)))) (record { words = now (table .entry); scopes = 0; symbols = 0 })) (now (table .entry)) r (now (table .exit)) ⌝ }
+fn walk_module(image: &[u8], table: &mut [u32], env: &mut [u32]) -> Declared
+    requires { ⌜ Lent (now image) (now table) (now env) ⌝ }
+    ensures { λ r. ⌜ Visits (now (image .entry)) (resolveTree (now (image .entry)) (treeAt (now (image .entry)) («image-spec».last (now (image .entry)))) (record { words = now (table .entry); scopes = 0; symbols = 0 })) (now (table .entry)) r (now (env .exit)) (now (table .exit)) ⌝ }
 {
     let last = ast::node_count(image) - 1;
     let module = ModuleId(NodeId(last));
@@ -156,7 +161,7 @@ fn walk_module(image: &[u8], table: &mut [u32]) -> Declared
     insert_unordered(image, table, module.0, module_scope);
     let Module { decls } = typed::module(image, module);
     let mut seen = [0u32; STAMPS];
-    walk_decls(image, table, &mut seen, module_scope, decls)
+    walk_decls(image, table, &mut seen, env, module_scope, decls)
 }
 
 // N, K and Y, in front.
@@ -208,21 +213,24 @@ fn insert_decl_symbol(
     image: &[u8],
     table: &mut [u32],
     seen: &mut [u32],
+    env: &mut [u32],
     current: Walked,
     name: u32,
     id: NodeId,
 ) -> Declared
-    requires { ⌜ Naming (now image) (now seen) name (id .0) (walkedOf current (now table)) ⌝ }
-    ensures { λ r. ⌜ Enters (now (image .entry)) (enterName (now (image .entry)) (id .0) (walkedOf current (now (table .entry)))) (now (table .entry)) r (now (seen .exit)) (now (table .exit)) ⌝ }
+    requires { ⌜ Naming (now image) (now seen) (now env) name (id .0) (walkedOf current (now table)) ⌝ }
+    ensures { λ r. ⌜ Enters (now (image .entry)) (enterName (now (image .entry)) (id .0) (walkedOf current (now (table .entry)))) (now (table .entry)) r (now (seen .exit)) (now (env .exit)) (now (table .exit)) ⌝ }
 {
     let scope = current.scope;
     let symbols = current.symbols;
     if stamp(seen, name, scope) {
-        return Declared::Done(table::insert_symbol(image, table, current, id));
+        return Declared::Done(environment::enter(image, table, env, current, id, name));
     }
     match table::find(image, table, symbols, scope, name) {
         Found::At(existing) => Declared::Twice(name, existing, id),
-        Found::Nothing => Declared::Done(table::insert_symbol(image, table, current, id)),
+        Found::Nothing => {
+            Declared::Done(environment::enter(image, table, env, current, id, name))
+        }
     }
 }
 
@@ -247,14 +255,15 @@ fn walk_decls(
     image: &[u8],
     table: &mut [u32],
     seen: &mut [u32],
+    env: &mut [u32],
     current: Walked,
     decls: DeclIds,
 ) -> Declared
-    requires { ⌜ WholeAll (now image) (decls .0) (walkedOf current (now table)) ⌝ }
-    ensures { λ r. ⌜ Visits (now (image .entry)) (wholeList (now (image .entry)) (decls .0) (walkedOf current (now (table .entry)))) (now (table .entry)) r (now (table .exit)) ⌝ }
+    requires { ⌜ WholeAll (now image) (decls .0) (walkedOf current (now table)) × Opens (now image) (walkedOf current (now table)) (now env) ⌝ }
+    ensures { λ r. ⌜ Visits (now (image .entry)) (wholeList (now (image .entry)) (decls .0) (walkedOf current (now (table .entry)))) (now (table .entry)) r (now (env .exit)) (now (table .exit)) ⌝ }
 {
-    match enter_decls(image, table, seen, current, decls) {
-        Declared::Done(entered) => visit_decls(image, table, seen, entered, decls),
+    match enter_decls(image, table, seen, env, current, decls) {
+        Declared::Done(entered) => visit_decls(image, table, seen, env, entered, decls),
         Declared::Twice(name, first, second) => Declared::Twice(name, first, second),
     }
 }
@@ -264,17 +273,18 @@ fn enter_decls(
     image: &[u8],
     table: &mut [u32],
     seen: &mut [u32],
+    env: &mut [u32],
     current: Walked,
     decls: DeclIds,
 ) -> Declared
-    requires { ⌜ EnterAll (now image) (now seen) declKind (decls .0) (walkedOf current (now table)) ⌝ }
-    ensures { λ r. ⌜ Enters (now (image .entry)) (enterList (now (image .entry)) (decls .0) (walkedOf current (now (table .entry)))) (now (table .entry)) r (now (seen .exit)) (now (table .exit)) ⌝ }
+    requires { ⌜ EnterAll (now image) (now seen) (now env) declKind (decls .0) (walkedOf current (now table)) ⌝ }
+    ensures { λ r. ⌜ Enters (now (image .entry)) (enterList (now (image .entry)) (decls .0) (walkedOf current (now (table .entry)))) (now (table .entry)) r (now (seen .exit)) (now (env .exit)) (now (table .exit)) ⌝ }
 {
     let mut i = 0;
     let mut cur = current;
     while i < decls.0.count {
         let decl = typed::nth_decl(image, decls, i);
-        match enter_decl(image, table, seen, cur, decl) {
+        match enter_decl(image, table, seen, env, cur, decl) {
             Declared::Done(entered) => {
                 cur = entered;
             }
@@ -292,35 +302,36 @@ fn enter_decl(
     image: &[u8],
     table: &mut [u32],
     seen: &mut [u32],
+    env: &mut [u32],
     current: Walked,
     decl: DeclId,
 ) -> Declared
-    requires { ⌜ (Is (now image) (kindOf declKind) (decl .0 .0)) × (Entering (now image) (now seen) (ent (treeAt (now image) (decl .0 .0))) (walkedOf current (now table))) ⌝ }
-    ensures { λ r. ⌜ Enters (now (image .entry)) (enter (now (image .entry)) (treeAt (now (image .entry)) (decl .0 .0)) (walkedOf current (now (table .entry)))) (now (table .entry)) r (now (seen .exit)) (now (table .exit)) ⌝ }
+    requires { ⌜ (Is (now image) (kindOf declKind) (decl .0 .0)) × (Entering (now image) (now seen) (now env) (ent (treeAt (now image) (decl .0 .0))) (walkedOf current (now table))) ⌝ }
+    ensures { λ r. ⌜ Enters (now (image .entry)) (enter (now (image .entry)) (treeAt (now (image .entry)) (decl .0 .0)) (walkedOf current (now (table .entry)))) (now (table .entry)) r (now (seen .exit)) (now (env .exit)) (now (table .exit)) ⌝ }
 {
     insert_unordered(image, table, decl.0, current);
     match typed::decl(image, decl) {
         Decl::Type(id) => {
             let name = typed::type_decl(image, id).name;
-            enter_signature(image, table, seen, current, name, id.0)
+            enter_signature(image, table, seen, env, current, name, id.0)
         }
         Decl::Pred(id) => {
             let name = typed::pred_decl(image, id).name;
-            enter_signature(image, table, seen, current, name, id.0)
+            enter_signature(image, table, seen, env, current, name, id.0)
         }
         Decl::Func(id) => {
             let name = typed::func_decl(image, id).name;
-            enter_signature(image, table, seen, current, name, id.0)
+            enter_signature(image, table, seen, env, current, name, id.0)
         }
         Decl::Const(id) => {
             let name = typed::const_decl(image, id).name;
-            enter_signature(image, table, seen, current, name, id.0)
+            enter_signature(image, table, seen, env, current, name, id.0)
         }
-        Decl::Rule(id) => enter_rule(image, table, seen, current, id),
-        Decl::Enum(id) => enter_enum(image, table, seen, current, id),
+        Decl::Rule(id) => enter_rule(image, table, seen, env, current, id),
+        Decl::Enum(id) => enter_enum(image, table, seen, env, current, id),
         Decl::Model(id) => {
             let name = typed::model_decl(image, id).name;
-            insert_decl_symbol(image, table, seen, current, name, id.0)
+            insert_decl_symbol(image, table, seen, env, current, name, id.0)
         }
     }
 }
@@ -330,15 +341,16 @@ fn enter_signature(
     image: &[u8],
     table: &mut [u32],
     seen: &mut [u32],
+    env: &mut [u32],
     current: Walked,
     name: u32,
     id: NodeId,
 ) -> Declared
-    requires { ⌜ (Signature (now image) (id .0)) × (Naming (now image) (now seen) name (id .0) (walkedOf current (now table))) ⌝ }
-    ensures { λ r. ⌜ Enters (now (image .entry)) (enter (now (image .entry)) (treeAt (now (image .entry)) (id .0)) (walkedOf current (now (table .entry)))) (now (table .entry)) r (now (seen .exit)) (now (table .exit)) ⌝ }
+    requires { ⌜ (Signature (now image) (id .0)) × (Naming (now image) (now seen) (now env) name (id .0) (walkedOf current (now table))) ⌝ }
+    ensures { λ r. ⌜ Enters (now (image .entry)) (enter (now (image .entry)) (treeAt (now (image .entry)) (id .0)) (walkedOf current (now (table .entry)))) (now (table .entry)) r (now (seen .exit)) (now (env .exit)) (now (table .exit)) ⌝ }
 {
     insert_unordered(image, table, id, current);
-    insert_decl_symbol(image, table, seen, current, name, id)
+    insert_decl_symbol(image, table, seen, env, current, name, id)
 }
 
 // An unnamed rule is not entered.
@@ -346,16 +358,17 @@ fn enter_rule(
     image: &[u8],
     table: &mut [u32],
     seen: &mut [u32],
+    env: &mut [u32],
     current: Walked,
     id: RuleDeclId,
 ) -> Declared
-    requires { ⌜ (Is (now image) (kindOf ruleDeclKind) (id .0 .0)) × (Entering (now image) (now seen) (ent (treeAt (now image) (id .0 .0))) (walkedOf current (now table))) ⌝ }
-    ensures { λ r. ⌜ Enters (now (image .entry)) (enter (now (image .entry)) (treeAt (now (image .entry)) (id .0 .0)) (walkedOf current (now (table .entry)))) (now (table .entry)) r (now (seen .exit)) (now (table .exit)) ⌝ }
+    requires { ⌜ (Is (now image) (kindOf ruleDeclKind) (id .0 .0)) × (Entering (now image) (now seen) (now env) (ent (treeAt (now image) (id .0 .0))) (walkedOf current (now table))) ⌝ }
+    ensures { λ r. ⌜ Enters (now (image .entry)) (enter (now (image .entry)) (treeAt (now (image .entry)) (id .0 .0)) (walkedOf current (now (table .entry)))) (now (table .entry)) r (now (seen .exit)) (now (env .exit)) (now (table .exit)) ⌝ }
 {
     insert_unordered(image, table, id.0, current);
     let RuleDecl { name, .. } = typed::rule_decl(image, id);
     match name {
-        OptName::Given(name) => insert_decl_symbol(image, table, seen, current, name, id.0),
+        OptName::Given(name) => insert_decl_symbol(image, table, seen, env, current, name, id.0),
         OptName::Absent => Declared::Done(current),
     }
 }
@@ -365,16 +378,17 @@ fn enter_enum(
     image: &[u8],
     table: &mut [u32],
     seen: &mut [u32],
+    env: &mut [u32],
     current: Walked,
     id: EnumDeclId,
 ) -> Declared
-    requires { ⌜ (Is (now image) (kindOf enumDeclKind) (id .0 .0)) × (Entering (now image) (now seen) (ent (treeAt (now image) (id .0 .0))) (walkedOf current (now table))) ⌝ }
-    ensures { λ r. ⌜ Enters (now (image .entry)) (enter (now (image .entry)) (treeAt (now (image .entry)) (id .0 .0)) (walkedOf current (now (table .entry)))) (now (table .entry)) r (now (seen .exit)) (now (table .exit)) ⌝ }
+    requires { ⌜ (Is (now image) (kindOf enumDeclKind) (id .0 .0)) × (Entering (now image) (now seen) (now env) (ent (treeAt (now image) (id .0 .0))) (walkedOf current (now table))) ⌝ }
+    ensures { λ r. ⌜ Enters (now (image .entry)) (enter (now (image .entry)) (treeAt (now (image .entry)) (id .0 .0)) (walkedOf current (now (table .entry)))) (now (table .entry)) r (now (seen .exit)) (now (env .exit)) (now (table .exit)) ⌝ }
 {
     insert_unordered(image, table, id.0, current);
     let EnumDecl { name, ctors } = typed::enum_decl(image, id);
-    match insert_decl_symbol(image, table, seen, current, name, id.0) {
-        Declared::Done(entered) => enter_ctors(image, table, seen, entered, ctors),
+    match insert_decl_symbol(image, table, seen, env, current, name, id.0) {
+        Declared::Done(entered) => enter_ctors(image, table, seen, env, entered, ctors),
         Declared::Twice(name, first, second) => Declared::Twice(name, first, second),
     }
 }
@@ -383,18 +397,19 @@ fn enter_ctors(
     image: &[u8],
     table: &mut [u32],
     seen: &mut [u32],
+    env: &mut [u32],
     current: Walked,
     ctors: CtorDeclIds,
 ) -> Declared
-    requires { ⌜ EnterAll (now image) (now seen) ctorDeclKind (ctors .0) (walkedOf current (now table)) ⌝ }
-    ensures { λ r. ⌜ Enters (now (image .entry)) (enterList (now (image .entry)) (ctors .0) (walkedOf current (now (table .entry)))) (now (table .entry)) r (now (seen .exit)) (now (table .exit)) ⌝ }
+    requires { ⌜ EnterAll (now image) (now seen) (now env) ctorDeclKind (ctors .0) (walkedOf current (now table)) ⌝ }
+    ensures { λ r. ⌜ Enters (now (image .entry)) (enterList (now (image .entry)) (ctors .0) (walkedOf current (now (table .entry)))) (now (table .entry)) r (now (seen .exit)) (now (env .exit)) (now (table .exit)) ⌝ }
 {
     let mut i = 0;
     let mut cur = current;
     while i < ctors.0.count {
         let ctor = typed::nth_ctor(image, ctors, i);
         let name = typed::ctor_decl(image, ctor).name;
-        match enter_signature(image, table, seen, cur, name, ctor.0) {
+        match enter_signature(image, table, seen, env, cur, name, ctor.0) {
             Declared::Done(entered) => {
                 cur = entered;
             }
@@ -412,17 +427,18 @@ fn visit_decls(
     image: &[u8],
     table: &mut [u32],
     seen: &mut [u32],
+    env: &mut [u32],
     current: Walked,
     decls: DeclIds,
 ) -> Declared
-    requires { ⌜ VisitAll (now image) declKind (decls .0) (walkedOf current (now table)) ⌝ }
-    ensures { λ r. ⌜ Visits (now (image .entry)) (visitList (now (image .entry)) (decls .0) (walkedOf current (now (table .entry)))) (now (table .entry)) r (now (table .exit)) ⌝ }
+    requires { ⌜ VisitAll (now image) declKind (decls .0) (walkedOf current (now table)) × Stands (now image) (walkedOf current (now table)) (now env) ⌝ }
+    ensures { λ r. ⌜ Visits (now (image .entry)) (visitList (now (image .entry)) (decls .0) (walkedOf current (now (table .entry)))) (now (table .entry)) r (now (env .exit)) (now (table .exit)) ⌝ }
 {
     let mut i = 0;
     let mut cur = current;
     while i < decls.0.count {
         let decl = typed::nth_decl(image, decls, i);
-        match visit_decl(image, table, seen, cur, decl) {
+        match visit_decl(image, table, seen, env, cur, decl) {
             Declared::Done(visited) => {
                 cur = visited;
             }
@@ -440,64 +456,95 @@ fn visit_decl(
     image: &[u8],
     table: &mut [u32],
     seen: &mut [u32],
+    env: &mut [u32],
     current: Walked,
     decl: DeclId,
 ) -> Declared
-    requires { ⌜ Visit (now image) (kindOf declKind) (decl .0 .0) (walkedOf current (now table)) ⌝ }
-    ensures { λ r. ⌜ Visits (now (image .entry)) (visit (now (image .entry)) (treeAt (now (image .entry)) (decl .0 .0)) (walkedOf current (now (table .entry)))) (now (table .entry)) r (now (table .exit)) ⌝ }
+    requires { ⌜ Visit (now image) (kindOf declKind) (decl .0 .0) (walkedOf current (now table)) × Stands (now image) (walkedOf current (now table)) (now env) ⌝ }
+    ensures { λ r. ⌜ Visits (now (image .entry)) (visit (now (image .entry)) (treeAt (now (image .entry)) (decl .0 .0)) (walkedOf current (now (table .entry)))) (now (table .entry)) r (now (env .exit)) (now (table .exit)) ⌝ }
 {
     match typed::decl(image, decl) {
         Decl::Type(_) => Declared::Done(current),
-        Decl::Pred(id) => Declared::Done(visit_pred_decl(image, table, current, id)),
-        Decl::Func(id) => Declared::Done(visit_func_decl(image, table, current, id)),
-        Decl::Const(id) => Declared::Done(visit_const_decl(image, table, current, id)),
-        Decl::Rule(id) => Declared::Done(visit_rule_decl(image, table, current, id)),
-        Decl::Enum(id) => Declared::Done(visit_enum_decl(image, table, current, id)),
-        Decl::Model(id) => visit_model_decl(image, table, seen, current, id),
+        Decl::Pred(id) => Declared::Done(visit_pred_decl(image, table, env, current, id)),
+        Decl::Func(id) => Declared::Done(visit_func_decl(image, table, env, current, id)),
+        Decl::Const(id) => Declared::Done(visit_const_decl(image, table, env, current, id)),
+        Decl::Rule(id) => Declared::Done(visit_rule_decl(image, table, env, current, id)),
+        Decl::Enum(id) => Declared::Done(visit_enum_decl(image, table, env, current, id)),
+        Decl::Model(id) => visit_model_decl(image, table, seen, env, current, id),
     }
 }
 
-fn visit_pred_decl(image: &[u8], table: &mut [u32], current: Walked, id: PredDeclId) -> Walked
-    requires { ⌜ Inside (now image) (kindBy (outer signature) (name ∷ child argDeclListKind ∷ [])) (id .0 .0) (walkedOf current (now table)) ⌝ }
-    ensures { λ r. ⌜ walkedOf r (now (table .exit)) ≡ back (now (image .entry)) (current .scope .0) (inside (now (image .entry)) occurs (id .0 .0) (walkedOf current (now (table .entry)))) ⌝ }
+fn visit_pred_decl(
+    image: &[u8],
+    table: &mut [u32],
+    env: &mut [u32],
+    current: Walked,
+    id: PredDeclId,
+) -> Walked
+    requires { ⌜ Inside (now image) (kindBy (outer signature) (name ∷ child argDeclListKind ∷ [])) (id .0 .0) (walkedOf current (now table)) × Stands (now image) (walkedOf current (now table)) (now env) ⌝ }
+    ensures { λ r. ⌜ Ends (now (image .entry)) (back (now (image .entry)) (current .scope .0) (inside (now (image .entry)) occurs (id .0 .0) (walkedOf current (now (table .entry))))) (walkedOf r (now (table .exit))) (now (env .exit)) ⌝ }
 {
     let args = typed::pred_decl(image, id).args;
-    let after_args = ordered::walk_arg_decl_list(image, table, current, args);
-    dropped(current, after_args)
+    let after_args = ordered::walk_arg_decl_list(image, table, env, current, args);
+    environment::put_back(image, table, env, after_args, current.scope)
 }
 
-fn visit_func_decl(image: &[u8], table: &mut [u32], current: Walked, id: FuncDeclId) -> Walked
-    requires { ⌜ Inside (now image) (kindOf funcDeclKind) (id .0 .0) (walkedOf current (now table)) ⌝ }
-    ensures { λ r. ⌜ walkedOf r (now (table .exit)) ≡ back (now (image .entry)) (current .scope .0) (inside (now (image .entry)) occurs (id .0 .0) (walkedOf current (now (table .entry)))) ⌝ }
+fn visit_func_decl(
+    image: &[u8],
+    table: &mut [u32],
+    env: &mut [u32],
+    current: Walked,
+    id: FuncDeclId,
+) -> Walked
+    requires { ⌜ Inside (now image) (kindOf funcDeclKind) (id .0 .0) (walkedOf current (now table)) × Stands (now image) (walkedOf current (now table)) (now env) ⌝ }
+    ensures { λ r. ⌜ Ends (now (image .entry)) (back (now (image .entry)) (current .scope .0) (inside (now (image .entry)) occurs (id .0 .0) (walkedOf current (now (table .entry))))) (walkedOf r (now (table .exit))) (now (env .exit)) ⌝ }
 {
     let FuncDecl { args, result, .. } = typed::func_decl(image, id);
-    let after_args = ordered::walk_arg_decl_list(image, table, current, args);
-    let after_result = ordered::walk_type_expr(image, table, after_args, result);
-    dropped(current, after_result)
+    let after_args = ordered::walk_arg_decl_list(image, table, env, current, args);
+    let after_result = ordered::walk_type_expr(image, table, env, after_args, result);
+    environment::put_back(image, table, env, after_result, current.scope)
 }
 
-fn visit_const_decl(image: &[u8], table: &mut [u32], current: Walked, id: ConstDeclId) -> Walked
-    requires { ⌜ Inside (now image) (kindBy (outer signature) (name ∷ child typeExprKind ∷ [])) (id .0 .0) (walkedOf current (now table)) ⌝ }
-    ensures { λ r. ⌜ walkedOf r (now (table .exit)) ≡ back (now (image .entry)) (current .scope .0) (inside (now (image .entry)) occurs (id .0 .0) (walkedOf current (now (table .entry)))) ⌝ }
+fn visit_const_decl(
+    image: &[u8],
+    table: &mut [u32],
+    env: &mut [u32],
+    current: Walked,
+    id: ConstDeclId,
+) -> Walked
+    requires { ⌜ Inside (now image) (kindBy (outer signature) (name ∷ child typeExprKind ∷ [])) (id .0 .0) (walkedOf current (now table)) × Stands (now image) (walkedOf current (now table)) (now env) ⌝ }
+    ensures { λ r. ⌜ Ends (now (image .entry)) (back (now (image .entry)) (current .scope .0) (inside (now (image .entry)) occurs (id .0 .0) (walkedOf current (now (table .entry))))) (walkedOf r (now (table .exit))) (now (env .exit)) ⌝ }
 {
     let result = typed::const_decl(image, id).result;
-    let after_result = ordered::walk_type_expr(image, table, current, result);
-    dropped(current, after_result)
+    let after_result = ordered::walk_type_expr(image, table, env, current, result);
+    environment::put_back(image, table, env, after_result, current.scope)
 }
 
-fn visit_rule_decl(image: &[u8], table: &mut [u32], current: Walked, id: RuleDeclId) -> Walked
-    requires { ⌜ Inside (now image) (kindOf ruleDeclKind) (id .0 .0) (walkedOf current (now table)) ⌝ }
-    ensures { λ r. ⌜ walkedOf r (now (table .exit)) ≡ back (now (image .entry)) (current .scope .0) (inside (now (image .entry)) occurs (id .0 .0) (walkedOf current (now (table .entry)))) ⌝ }
+fn visit_rule_decl(
+    image: &[u8],
+    table: &mut [u32],
+    env: &mut [u32],
+    current: Walked,
+    id: RuleDeclId,
+) -> Walked
+    requires { ⌜ Inside (now image) (kindOf ruleDeclKind) (id .0 .0) (walkedOf current (now table)) × Stands (now image) (walkedOf current (now table)) (now env) ⌝ }
+    ensures { λ r. ⌜ Ends (now (image .entry)) (back (now (image .entry)) (current .scope .0) (inside (now (image .entry)) occurs (id .0 .0) (walkedOf current (now (table .entry))))) (walkedOf r (now (table .exit))) (now (env .exit)) ⌝ }
 {
     let body = typed::rule_decl(image, id).body;
-    let after_body = ordered::walk_stmt_block(image, table, current, body);
-    dropped(current, after_body)
+    let after_body = ordered::walk_stmt_block(image, table, env, current, body);
+    environment::put_back(image, table, env, after_body, current.scope)
 }
 
 // The constructors of an enum.
-fn visit_enum_decl(image: &[u8], table: &mut [u32], current: Walked, id: EnumDeclId) -> Walked
-    requires { ⌜ Visit (now image) (kindOf enumDeclKind) (id .0 .0) (walkedOf current (now table)) ⌝ }
-    ensures { λ r. ⌜ done (walkedOf r (now (table .exit))) ≡ visit (now (image .entry)) (treeAt (now (image .entry)) (id .0 .0)) (walkedOf current (now (table .entry))) ⌝ }
+fn visit_enum_decl(
+    image: &[u8],
+    table: &mut [u32],
+    env: &mut [u32],
+    current: Walked,
+    id: EnumDeclId,
+) -> Walked
+    requires { ⌜ Visit (now image) (kindOf enumDeclKind) (id .0 .0) (walkedOf current (now table)) × Stands (now image) (walkedOf current (now table)) (now env) ⌝ }
+    ensures { λ r. ⌜ (done (walkedOf r (now (table .exit))) ≡ visit (now (image .entry)) (treeAt (now (image .entry)) (id .0 .0)) (walkedOf current (now (table .entry)))) × Stands (now (image .entry)) (walkedOf r (now (table .exit))) (now (env .exit)) ⌝ }
 {
     let ctors = typed::enum_decl(image, id).ctors;
     let mut i = 0;
@@ -505,8 +552,9 @@ fn visit_enum_decl(image: &[u8], table: &mut [u32], current: Walked, id: EnumDec
     while i < ctors.0.count {
         let ctor = typed::nth_ctor(image, ctors, i);
         let args = typed::ctor_decl(image, ctor).args;
-        let after_args = ordered::walk_arg_decl_list(image, table, cur, args);
-        cur = dropped(cur, after_args);
+        let after_args = ordered::walk_arg_decl_list(image, table, env, cur, args);
+        let scope = cur.scope;
+        cur = environment::put_back(image, table, env, after_args, scope);
         i += 1;
     }
     cur
@@ -517,17 +565,21 @@ fn visit_model_decl(
     image: &[u8],
     table: &mut [u32],
     seen: &mut [u32],
+    env: &mut [u32],
     current: Walked,
     id: ModelDeclId,
 ) -> Declared
-    requires { ⌜ Visit (now image) (kindOf modelDeclKind) (id .0 .0) (walkedOf current (now table)) ⌝ }
-    ensures { λ r. ⌜ Visits (now (image .entry)) (visit (now (image .entry)) (treeAt (now (image .entry)) (id .0 .0)) (walkedOf current (now (table .entry)))) (now (table .entry)) r (now (table .exit)) ⌝ }
+    requires { ⌜ Visit (now image) (kindOf modelDeclKind) (id .0 .0) (walkedOf current (now table)) × Stands (now image) (walkedOf current (now table)) (now env) ⌝ }
+    ensures { λ r. ⌜ Visits (now (image .entry)) (visit (now (image .entry)) (treeAt (now (image .entry)) (id .0 .0)) (walkedOf current (now (table .entry)))) (now (table .entry)) r (now (env .exit)) (now (table .exit)) ⌝ }
 {
     let body = typed::model_decl(image, id).body;
     let body_scope = table::new_scope(image, table, current);
     insert_unordered(image, table, id.0, body_scope);
-    match walk_decls(image, table, seen, body_scope, body) {
-        Declared::Done(visited) => Declared::Done(dropped(current, visited)),
+    match walk_decls(image, table, seen, env, body_scope, body) {
+        Declared::Done(visited) => {
+            environment::leave_scope(image, table, env, visited, current.symbols);
+            Declared::Done(dropped(current, visited))
+        }
         Declared::Twice(name, first, second) => Declared::Twice(name, first, second),
     }
 }

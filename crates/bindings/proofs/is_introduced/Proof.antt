@@ -3,12 +3,13 @@ use borrow.Author.Tests.{not-true, not-false}
 use Rattle.table.specs.Table.{lookup, isKind}
 use Rattle.table.specs.Values.{optionOf}
 use Rattle.bindings.proofs.Leaves.{introduces-other, introduces-var}
+use Rattle.bindings.proofs.Looked.{looked}
 use borrow.Author.Needs.{needs}
 use Rattle.bindings.proofs.is_introduced.Statement.{statement}
 use Rattle.bindings.proofs.is_introduced.Tie as tie
 
 at-exit-requires : tie.Need-at-exit-requires
-at-exit-requires c κs = search needs
+at-exit-requires c κs = looked _ (c .before .before .before .pre .0) (c .before .before .before .pre .1)
 
 is-var-requires : tie.Need-is-var-requires
 is-var-requires c κs = search needs

@@ -1,7 +1,7 @@
 use mathlib.Core.Path.{sym, ap, _∙_}
 use Rattle.typed.specs.Nodes.{nameWord}
 use Rattle.scopes.specs.Walk.{enterName}
-use Rattle.scopes.proofs.Entries.{entering-marked, past-marked, enters-as, rule-passes, rule-named, rule-entering, rule-name}
+use Rattle.scopes.proofs.Entries.{rule-quiet, entering-marked, past-marked, enters-as, rule-passes, rule-named, rule-entering, rule-name}
 use borrow.Author.Needs.{needs}
 use Rattle.scopes.proofs.enter_rule.Statement.{statement}
 use Rattle.scopes.proofs.enter_rule.Tie as tie
@@ -16,7 +16,7 @@ enum-known-name : tie.Need-enum-known-name
 enum-known-name c = search needs
 
 insert-decl-symbol-requires : tie.Need-insert-decl-symbol-requires
-insert-decl-symbol-requires c κs = let w = sym (ap nameWord (c .before .before .before .name .given .1)) ∙ c .before .before .before .before .before .rule-decl .ensures .first in record { name = rule-name _ (c .before .before .before .before .before .before .before .before .before .before .before .before .before .pre .0) w; entering = entering-marked _ (c .before .before .before .before .before .before .before .before .insert-unordered .ensures) (c .before .before .before .before .before .before .before .before .before .before .before .before .before .pre .0 .below) (rule-entering _ (c .before .before .before .before .before .before .before .before .before .before .before .before .before .pre .0) w (c .before .before .before .before .before .before .before .before .before .before .before .before .before .pre .1)) }
+insert-decl-symbol-requires c κs = let w = sym (ap nameWord (c .before .before .before .before .name .given .1)) ∙ c .before .before .before .before .before .before .rule-decl .ensures .first in record { name = rule-name _ (c .before .before .before .before .before .before .before .before .before .before .before .before .before .before .before .pre .0) w; entering = entering-marked _ (c .before .before .before .before .before .before .before .before .before .insert-unordered .ensures) (c .before .before .before .before .before .before .before .before .before .before .before .before .before .before .before .pre .0 .below) (rule-quiet _ (c .before .before .before .before .before .before .before .before .before .before .before .before .before .before .before .pre .0)) (rule-entering _ (c .before .before .before .before .before .before .before .before .before .before .before .before .before .before .before .pre .0) w (c .before .before .before .before .before .before .before .before .before .before .before .before .before .before .before .pre .1)) }
 
 enum-told : tie.Need-enum-told
 enum-told c = search needs
@@ -27,14 +27,17 @@ same-length c = search needs
 same-length-2 : tie.Need-same-length-2
 same-length-2 c = search needs
 
-returns : tie.Need-returns
-returns c = let w = sym (ap nameWord (c .before .before .before .before .before .before .before .before .name .given .1)) ∙ c .before .before .before .before .before .before .before .before .before .before .rule-decl .ensures .first in enters-as _ (ap (enterName _ _) (c .before .before .before .before .before .before .before .before .before .before .before .before .before .insert-unordered .ensures) ∙ sym ((rule-named _ _ (c .before .before .before .before .before .before .before .before .before .before .before .before .before .before .before .before .before .before .pre .0) w) .0)) (past-marked _ _ _ _ (c .before .before .before .before .before .before .before .before .before .before .before .before .before .insert-unordered .ensures) (c .before .before .before .before .before .before .before .before .before .before .before .before .before .before .before .before .before .before .pre .0 .below)) (c .before .before .before .before .insert-decl-symbol .ensures)
-
 same-length-3 : tie.Need-same-length-3
 same-length-3 c = search needs
 
+returns : tie.Need-returns
+returns c = let w = sym (ap nameWord (c .before .before .before .before .before .before .before .before .before .before .before .name .given .1)) ∙ c .before .before .before .before .before .before .before .before .before .before .before .before .before .rule-decl .ensures .first in enters-as _ (ap (enterName _ _) (c .before .before .before .before .before .before .before .before .before .before .before .before .before .before .before .before .insert-unordered .ensures) ∙ sym ((rule-named _ _ (c .before .before .before .before .before .before .before .before .before .before .before .before .before .before .before .before .before .before .before .before .before .before .pre .0) w) .0)) (past-marked _ _ _ _ (c .before .before .before .before .before .before .before .before .before .before .before .before .before .before .before .before .insert-unordered .ensures) (c .before .before .before .before .before .before .before .before .before .before .before .before .before .before .before .before .before .before .before .before .before .before .pre .0 .below)) (c .before .before .before .before .before .before .insert-decl-symbol .ensures)
+
+same-length-4 : tie.Need-same-length-4
+same-length-4 c = search needs
+
 returns-2 : tie.Need-returns-2
-returns-2 c = rule-passes _ _ (c .before .before .before .before .before .before .before .before .before .before .pre .0) (c .before .before .before .before .before .before .before .before .before .before .pre .1) (sym (c .before .before .rule-decl .ensures .first) ∙ ap nameWord (c .enum-told .given .1)) (c .before .before .before .before .before .insert-unordered .ensures)
+returns-2 c = rule-passes _ _ (c .before .before .before .before .before .before .before .before .before .before .before .pre .0) (c .before .before .before .before .before .before .before .before .before .before .before .pre .1) (sym (c .before .before .rule-decl .ensures .first) ∙ ap nameWord (c .enum-told .given .1)) (c .before .before .before .before .before .insert-unordered .ensures)
 
 pub enter-rule-spec : {M : Type 1} → statement M
 enter-rule-spec =
@@ -47,6 +50,7 @@ enter-rule-spec =
     enum-told
     same-length
     same-length-2
-    returns
     same-length-3
+    returns
+    same-length-4
     returns-2)

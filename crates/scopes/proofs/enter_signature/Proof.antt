@@ -1,6 +1,6 @@
 use mathlib.Core.Path.{sym, ap, _∙_}
 use Rattle.scopes.specs.Walk.{enterName}
-use Rattle.scopes.proofs.Entries.{entering-marked, past-marked, enters-as, sig-enter}
+use Rattle.scopes.proofs.Entries.{sig-quiet, entering-marked, past-marked, enters-as, sig-enter}
 use borrow.Author.Needs.{needs}
 use Rattle.scopes.proofs.enter_signature.Statement.{statement}
 use Rattle.scopes.proofs.enter_signature.Tie as tie
@@ -9,7 +9,7 @@ insert-unordered-requires : tie.Need-insert-unordered-requires
 insert-unordered-requires c κs = search needs
 
 insert-decl-symbol-requires : tie.Need-insert-decl-symbol-requires
-insert-decl-symbol-requires c κs = record { name = c .before .before .before .before .before .before .before .before .before .pre .1 .name; entering = entering-marked _ (c .before .before .before .before .insert-unordered .ensures) (c .before .before .before .before .before .before .before .before .before .pre .0 .below) (c .before .before .before .before .before .before .before .before .before .pre .1 .entering) }
+insert-decl-symbol-requires c κs = record { name = c .before .before .before .before .before .before .before .before .before .before .before .pre .1 .name; entering = entering-marked _ (c .before .before .before .before .before .insert-unordered .ensures) (c .before .before .before .before .before .before .before .before .before .before .before .pre .0 .below) (sig-quiet _ (c .before .before .before .before .before .before .before .before .before .before .before .pre .0)) (c .before .before .before .before .before .before .before .before .before .before .before .pre .1 .entering) }
 
 same-length : tie.Need-same-length
 same-length c = search needs
@@ -17,8 +17,11 @@ same-length c = search needs
 same-length-2 : tie.Need-same-length-2
 same-length-2 c = search needs
 
+same-length-3 : tie.Need-same-length-3
+same-length-3 c = search needs
+
 returns : tie.Need-returns
-returns c = enters-as _ (ap (enterName _ _) (c .before .before .before .before .before .before .before .before .before .insert-unordered .ensures) ∙ sym ((sig-enter _ _ (c .before .before .before .before .before .before .before .before .before .before .before .before .before .before .pre .0)) .0)) (past-marked _ _ _ _ (c .before .before .before .before .before .before .before .before .before .insert-unordered .ensures) (c .before .before .before .before .before .before .before .before .before .before .before .before .before .before .pre .0 .below)) (c .before .before .before .before .insert-decl-symbol .ensures)
+returns c = enters-as _ (ap (enterName _ _) (c .before .before .before .before .before .before .before .before .before .before .before .before .insert-unordered .ensures) ∙ sym ((sig-enter _ _ (c .before .before .before .before .before .before .before .before .before .before .before .before .before .before .before .before .before .before .pre .0)) .0)) (past-marked _ _ _ _ (c .before .before .before .before .before .before .before .before .before .before .before .before .insert-unordered .ensures) (c .before .before .before .before .before .before .before .before .before .before .before .before .before .before .before .before .before .before .pre .0 .below)) (c .before .before .before .before .before .before .insert-decl-symbol .ensures)
 
 pub enter-signature-spec : {M : Type 1} → statement M
 enter-signature-spec =
@@ -28,4 +31,5 @@ enter-signature-spec =
     insert-decl-symbol-requires
     same-length
     same-length-2
+    same-length-3
     returns)

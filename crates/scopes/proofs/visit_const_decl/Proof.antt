@@ -1,6 +1,6 @@
 use mathlib.Core.Path.{sym, ap, _∙_}
 use Rattle.table.specs.State.{back}
-use Rattle.scopes.proofs.Visiting.{sigOne, dropped-is}
+use Rattle.scopes.proofs.Visiting.{sigOne, inside-path}
 use borrow.Author.Needs.{needs}
 use Rattle.scopes.proofs.visit_const_decl.Statement.{statement}
 use Rattle.scopes.proofs.visit_const_decl.Tie as tie
@@ -9,18 +9,27 @@ const-decl-requires : tie.Need-const-decl-requires
 const-decl-requires c κs = search needs
 
 walk-type-expr-requires : tie.Need-walk-type-expr-requires
-walk-type-expr-requires c κs = (sigOne _ (c .before .before .before .before .before .pre) (c .before .before .const-decl .ensures .second)) .first
+walk-type-expr-requires c κs = ((sigOne _ (c .before .before .before .before .before .before .before .pre .0) (c .before .before .before .const-decl .ensures .second)) .first, c .before .before .before .before .before .before .before .pre .1)
 
-dropped-requires : tie.Need-dropped-requires
-dropped-requires c κs = search needs
+put-back-requires : tie.Need-put-back-requires
+put-back-requires c κs = (c .before .before .before .before .before .before .walk-type-expr .ensures .stands, inside-path _ (c .before .before .before .before .before .before .before .before .before .before .before .before .before .before .pre .0) (c .before .before .before .before .before .before .before .before .before .before .before .before .before .before .pre .1) (c .before .before .before .before .before .before .walk-type-expr .ensures .same ∙ sym ((sigOne _ (c .before .before .before .before .before .before .before .before .before .before .before .before .before .before .pre .0) (c .before .before .before .before .before .before .before .before .before .before .const-decl .ensures .second)) .inner)))
 
 same-length : tie.Need-same-length
 same-length c = search needs
 
+same-length-2 : tie.Need-same-length-2
+same-length-2 c = search needs
+
 returns : tie.Need-returns
-returns c = dropped-is (c .before .before .before .before .before .before .before .before .before .args .image .now) (c .dropped .result) (c .before .before .before .before .before .before .before .before .before .args .current) (c .before .before .before .walk-type-expr .result) (c .before .before .before .walk-type-expr .last .1 .0) (c .dropped .ensures) ∙ ap (back (c .before .before .before .before .before .before .before .before .before .args .image .now) _) (c .before .before .before .walk-type-expr .ensures ∙ sym ((sigOne _ (c .before .before .before .before .before .before .before .before .before .pre) (c .before .before .before .before .before .before .const-decl .ensures .second)) .inner))
+returns c = record { same = c .before .before .put-back .ensures .0 ∙ ap (back (c .before .before .before .before .before .before .before .before .before .before .before .before .before .before .before .before .before .args .image .now) _) (c .before .before .before .before .before .before .before .before .before .walk-type-expr .ensures .same ∙ sym ((sigOne _ (c .before .before .before .before .before .before .before .before .before .before .before .before .before .before .before .before .before .pre .0) (c .before .before .before .before .before .before .before .before .before .before .before .before .before .const-decl .ensures .second)) .inner)); stands = c .before .before .put-back .ensures .1 }
 
 pub visit-const-decl-spec : {M : Type 1} → statement M
 visit-const-decl-spec =
     tie.close
-    (tie.spec const-decl-requires walk-type-expr-requires dropped-requires same-length returns)
+    (tie.spec
+    const-decl-requires
+    walk-type-expr-requires
+    put-back-requires
+    same-length
+    same-length-2
+    returns)

@@ -3,7 +3,7 @@ use Rattle.table.specs.State.{back}
 use Rattle.ordered.specs.Promises.{over, Ready}
 use Rattle.ast.specs.Kinds.{kindOf}
 use Rattle.ast.specs.Named.{typeExprKind}
-use Rattle.scopes.proofs.Visiting.{sigTwo, dropped-is}
+use Rattle.scopes.proofs.Visiting.{sigTwo, inside-path}
 use borrow.Author.Needs.{needs}
 use Rattle.scopes.proofs.visit_func_decl.Statement.{statement}
 use Rattle.scopes.proofs.visit_func_decl.Tie as tie
@@ -12,19 +12,22 @@ func-decl-requires : tie.Need-func-decl-requires
 func-decl-requires c κs = search needs
 
 walk-arg-decl-list-requires : tie.Need-walk-arg-decl-list-requires
-walk-arg-decl-list-requires c κs = (sigTwo _ (c .before .before .before .before .before .before .pre) (c .before .before .before .func-decl .ensures .second) (c .before .before .before .func-decl .ensures .third)) .first
+walk-arg-decl-list-requires c κs = ((sigTwo _ (c .before .before .before .before .before .before .before .before .pre .0) (c .before .before .before .before .func-decl .ensures .second) (c .before .before .before .before .func-decl .ensures .third)) .first, c .before .before .before .before .before .before .before .before .pre .1)
 
 walk-type-expr-requires : tie.Need-walk-type-expr-requires
-walk-type-expr-requires c κs = subst (Ready _ (kindOf typeExprKind) _) (sym (c .before .before .before .walk-arg-decl-list .ensures)) ((sigTwo _ (c .before .before .before .before .before .before .before .before .before .before .pre) (c .before .before .before .before .before .before .before .func-decl .ensures .second) (c .before .before .before .before .before .before .before .func-decl .ensures .third)) .second)
+walk-type-expr-requires c κs = (subst (Ready _ (kindOf typeExprKind) _) (sym (c .before .before .before .before .before .before .walk-arg-decl-list .ensures .same)) ((sigTwo _ (c .before .before .before .before .before .before .before .before .before .before .before .before .before .before .before .pre .0) (c .before .before .before .before .before .before .before .before .before .before .before .func-decl .ensures .second) (c .before .before .before .before .before .before .before .before .before .before .before .func-decl .ensures .third)) .second), c .before .before .before .before .before .before .walk-arg-decl-list .ensures .stands)
 
-dropped-requires : tie.Need-dropped-requires
-dropped-requires c κs = search needs
+put-back-requires : tie.Need-put-back-requires
+put-back-requires c κs = (c .before .before .before .before .before .before .walk-type-expr .ensures .stands, inside-path _ (c .before .before .before .before .before .before .before .before .before .before .before .before .before .before .before .before .before .before .before .before .before .before .pre .0) (c .before .before .before .before .before .before .before .before .before .before .before .before .before .before .before .before .before .before .before .before .before .before .pre .1) (c .before .before .before .before .before .before .walk-type-expr .ensures .same ∙ ap (over _ _) (c .before .before .before .before .before .before .before .before .before .before .before .before .before .walk-arg-decl-list .ensures .same) ∙ sym ((sigTwo _ (c .before .before .before .before .before .before .before .before .before .before .before .before .before .before .before .before .before .before .before .before .before .before .pre .0) (c .before .before .before .before .before .before .before .before .before .before .before .before .before .before .before .before .before .before .func-decl .ensures .second) (c .before .before .before .before .before .before .before .before .before .before .before .before .before .before .before .before .before .before .func-decl .ensures .third)) .inner)))
 
 same-length : tie.Need-same-length
 same-length c = search needs
 
+same-length-2 : tie.Need-same-length-2
+same-length-2 c = search needs
+
 returns : tie.Need-returns
-returns c = dropped-is (c .before .before .before .before .before .before .before .before .before .before .before .before .before .before .args .image .now) (c .dropped .result) (c .before .before .before .before .before .before .before .before .before .before .before .before .before .before .args .current) (c .before .before .before .walk-type-expr .result) (c .before .before .before .walk-type-expr .last .1 .0) (c .dropped .ensures) ∙ ap (back (c .before .before .before .before .before .before .before .before .before .before .before .before .before .before .args .image .now) _) (c .before .before .before .walk-type-expr .ensures ∙ ap (over _ _) (c .before .before .before .before .before .before .before .walk-arg-decl-list .ensures) ∙ sym ((sigTwo _ (c .before .before .before .before .before .before .before .before .before .before .before .before .before .before .pre) (c .before .before .before .before .before .before .before .before .before .before .before .func-decl .ensures .second) (c .before .before .before .before .before .before .before .before .before .before .before .func-decl .ensures .third)) .inner))
+returns c = record { same = c .before .before .put-back .ensures .0 ∙ ap (back (c .before .before .before .before .before .before .before .before .before .before .before .before .before .before .before .before .before .before .before .before .before .before .before .before .before .args .image .now) _) (c .before .before .before .before .before .before .before .before .before .walk-type-expr .ensures .same ∙ ap (over _ _) (c .before .before .before .before .before .before .before .before .before .before .before .before .before .before .before .before .walk-arg-decl-list .ensures .same) ∙ sym ((sigTwo _ (c .before .before .before .before .before .before .before .before .before .before .before .before .before .before .before .before .before .before .before .before .before .before .before .before .before .pre .0) (c .before .before .before .before .before .before .before .before .before .before .before .before .before .before .before .before .before .before .before .before .before .func-decl .ensures .second) (c .before .before .before .before .before .before .before .before .before .before .before .before .before .before .before .before .before .before .before .before .before .func-decl .ensures .third)) .inner)); stands = c .before .before .put-back .ensures .1 }
 
 pub visit-func-decl-spec : {M : Type 1} → statement M
 visit-func-decl-spec =
@@ -33,6 +36,7 @@ visit-func-decl-spec =
     func-decl-requires
     walk-arg-decl-list-requires
     walk-type-expr-requires
-    dropped-requires
+    put-back-requires
     same-length
+    same-length-2
     returns)

@@ -1,6 +1,6 @@
 use mathlib.Core.Path.{sym, ap, _∙_}
 use Rattle.table.specs.State.{back}
-use Rattle.scopes.proofs.Visiting.{sigOne, dropped-is}
+use Rattle.scopes.proofs.Visiting.{sigOne, inside-path}
 use borrow.Author.Needs.{needs}
 use Rattle.scopes.proofs.visit_pred_decl.Statement.{statement}
 use Rattle.scopes.proofs.visit_pred_decl.Tie as tie
@@ -9,18 +9,27 @@ pred-decl-requires : tie.Need-pred-decl-requires
 pred-decl-requires c κs = search needs
 
 walk-arg-decl-list-requires : tie.Need-walk-arg-decl-list-requires
-walk-arg-decl-list-requires c κs = (sigOne _ (c .before .before .before .before .before .pre) (c .before .before .pred-decl .ensures .second)) .first
+walk-arg-decl-list-requires c κs = ((sigOne _ (c .before .before .before .before .before .before .before .pre .0) (c .before .before .before .pred-decl .ensures .second)) .first, c .before .before .before .before .before .before .before .pre .1)
 
-dropped-requires : tie.Need-dropped-requires
-dropped-requires c κs = search needs
+put-back-requires : tie.Need-put-back-requires
+put-back-requires c κs = (c .before .before .before .before .before .before .walk-arg-decl-list .ensures .stands, inside-path _ (c .before .before .before .before .before .before .before .before .before .before .before .before .before .before .pre .0) (c .before .before .before .before .before .before .before .before .before .before .before .before .before .before .pre .1) (c .before .before .before .before .before .before .walk-arg-decl-list .ensures .same ∙ sym ((sigOne _ (c .before .before .before .before .before .before .before .before .before .before .before .before .before .before .pre .0) (c .before .before .before .before .before .before .before .before .before .before .pred-decl .ensures .second)) .inner)))
 
 same-length : tie.Need-same-length
 same-length c = search needs
 
+same-length-2 : tie.Need-same-length-2
+same-length-2 c = search needs
+
 returns : tie.Need-returns
-returns c = dropped-is (c .before .before .before .before .before .before .before .before .before .args .image .now) (c .dropped .result) (c .before .before .before .before .before .before .before .before .before .args .current) (c .before .before .before .walk-arg-decl-list .result) (c .before .before .before .walk-arg-decl-list .last .1 .0) (c .dropped .ensures) ∙ ap (back (c .before .before .before .before .before .before .before .before .before .args .image .now) _) (c .before .before .before .walk-arg-decl-list .ensures ∙ sym ((sigOne _ (c .before .before .before .before .before .before .before .before .before .pre) (c .before .before .before .before .before .before .pred-decl .ensures .second)) .inner))
+returns c = record { same = c .before .before .put-back .ensures .0 ∙ ap (back (c .before .before .before .before .before .before .before .before .before .before .before .before .before .before .before .before .before .args .image .now) _) (c .before .before .before .before .before .before .before .before .before .walk-arg-decl-list .ensures .same ∙ sym ((sigOne _ (c .before .before .before .before .before .before .before .before .before .before .before .before .before .before .before .before .before .pre .0) (c .before .before .before .before .before .before .before .before .before .before .before .before .before .pred-decl .ensures .second)) .inner)); stands = c .before .before .put-back .ensures .1 }
 
 pub visit-pred-decl-spec : {M : Type 1} → statement M
 visit-pred-decl-spec =
     tie.close
-    (tie.spec pred-decl-requires walk-arg-decl-list-requires dropped-requires same-length returns)
+    (tie.spec
+    pred-decl-requires
+    walk-arg-decl-list-requires
+    put-back-requires
+    same-length
+    same-length-2
+    returns)
