@@ -39,7 +39,6 @@ module _ (img : List ℕ) where
     where
       T : Table
       T = (walkSeq img walking.occurs ts e) .table
-
       met =
           rule-met img T ts b e
           (record {

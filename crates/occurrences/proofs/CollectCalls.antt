@@ -1,6 +1,6 @@
 -- Occurrences and Once as their code goes: what the collectors find in the table that resolving fills, and that the lists do not need the
 -- count of scopes, which lookup does not read.
-use mathlib.Core.Path.{_≡_, refl, sym, ap, _∙_}
+use mathlib.Core.Path.{_≡_, refl, sym, ap, subst, _∙_}
 use mathlib.Core.List.{List}
 use mathlib.Core.Option.{Option}
 use Prim.Native.Nat.{ℕ}
@@ -14,6 +14,7 @@ use Rattle.rows.specs.Rows.{Row, Wrote}
 use Rattle.rows.proofs.Appends.{wrote-as}
 use Rattle.scopes.specs.Resolve.{testTable}
 use Rattle.scopes.specs.Answers.{Resolves}
+use Rattle.scopes.specs.Promises.{NotedBy}
 use Rattle.scopes.specs.declared.Declared.{Declared}
 use Rattle.scopes.specs.declared.Declared.the-variants.{Done}
 use Rattle.scopes.proofs.Calls.{call-filled}
@@ -22,6 +23,7 @@ use Rattle.occurrences.specs.Spots.{Spot}
 use Rattle.occurrences.specs.Occurrences.{found, occurrenceRows, lone, rowsByRule, loneAnswer, once}
 use Rattle.occurrences.specs.Promises.{Whole, Nodes}
 use Rattle.occurrences.proofs.Few.{rows-few}
+use Rattle.occurrences.proofs.Fitting.{noted-sought}
 use Rattle.occurrences.proofs.CollectRules.{same-lists, same-all}
 
 module _ (img : List ℕ) (t : Table) where
@@ -36,10 +38,10 @@ module _ (img : List ℕ) (t : Table) where
   sought-lists = same-lists img t _ sought-found (moduleRules img)
 
 module _ (img tab : List ℕ) (passes : testTable img tab ≡ 0) {d : Declared} {ws : List ℕ} (r : Resolves img tab d ws) {w : InCode} (q : d ≡ Done w) where
-  pub whole : Whole img (sought ws (w .symbols))
-  whole =
+  pub whole : {env : List ℕ} → NotedBy img d ws env → Whole img (sought ws (w .symbols)) env
+  whole {env} n =
       let f = resolved-filled img tab passes r q in
-      record { accepted = f .accepted; sorted = f .rising; few = rows-few img (sought ws (w .symbols)) (f .accepted) }
+      record { accepted = f .accepted; noted = noted-sought img (tableOf w ws) (subst (λ (x : Declared). NotedBy img x ws env) q n); few = rows-few img (sought ws (w .symbols)) (f .accepted) }
 
   pub symbols : Nodes img (sought ws (w .symbols))
   symbols = (resolved-filled img tab passes r q) .symbols

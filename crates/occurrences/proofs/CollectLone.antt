@@ -225,8 +225,23 @@ pub searched-nothing : {a : List (List Row)} {cs : List ℕ} → a ≡ [] → Se
 searched-nothing e = record { lone-is = lone-none ∙ sym (ap lone e); clean = refl }
 
 module _ (img : List ℕ) (t : Table) where
+  -- a loop over declarations that found none yet
+  pub record ChecksLeft (l : NodeList) (i : ℕ) (ws vs cs us : List ℕ) : Type 0 where
+    pub within : i ≤ l .count
+    pub few : 0 + length (joined (listsLeft img t l i)) ≤ nodes img
+    pub same : lone (listsOf img t l) ≡ lone (listsLeft img t l i)
+    pub long : length vs ≡ length ws
+    pub clean : us ≡ cs
+
+  pub checks-scratch : {i : ℕ} {l : NodeList} {ws vs cs us : List ℕ} → Scratch img t ws cs → ChecksLeft l i ws vs cs us → Scratch img t vs us
+  checks-scratch s k = record { symbols = s .symbols; long = (let a = s .long in let b = k .long in omega arith); zeros = k .clean ∙ s .zeros }
+
+  pub checks-end : {i : ℕ} {l : NodeList} {ws vs cs us : List ℕ} → ChecksLeft l i ws vs cs us → l .count ≤ i → Searched (listsOf img t l) cs Ok us
+  checks-end {i} {l} k h = record { lone-is = lone-none ∙ sym (k .same ∙ ap lone (lists-done img t l i h)); clean = k .clean }
+
+module _ (img : List ℕ) (t : Table) (env : List ℕ) where
   -- a rule: its rows collected, counted, searched, uncounted
-  pub searched : {rule name r : ℕ} {body : NodeList} {ws vs cs us zs : List ℕ} {x : Checked} → Listing img t (kindOf ruleDeclKind) rule 0 → Scratch img t ws cs → WordList img rule name body
+  pub searched : {rule name r : ℕ} {body : NodeList} {ws vs cs us zs : List ℕ} {x : Checked} → Listing img t env (kindOf ruleDeclKind) rule 0 → Scratch img t ws cs → WordList img rule name body
       → Appended (nodes img) (rowsOf img t body) 0 ws r vs → us ≡ claimAll (rights (readRows (nodes img) vs r 0)) cs → loneOf x ≡ under us (readRows (nodes img) vs r 0)
       → zs ≡ uncounted (rights (readRows (nodes img) vs r 0)) us → Searched (listsIn img t rule) cs x zs
   unfolding rowsAt
@@ -236,8 +251,8 @@ module _ (img : List ℕ) (t : Table) where
         clean = cleared ∙ ap₂ (λ (k : List Row) (ys : List ℕ). uncounted (rights k) ys) read by ∙ back-to-zeros (rights l) ∙ sym (s .zeros);
       }
     where
-      u : RuleRun img t rule body 0
-      u = ruleRun img t p q
+      u : RuleRun img t env rule body 0
+      u = ruleRun img t env p q
 
       l : List Row
       l = rowsOf img t body
@@ -251,27 +266,16 @@ module _ (img : List ℕ) (t : Table) where
       few : All (λ v. v < 2048) (rights l)
       few = let z = (sized img (p .is .accepted)) .fewNodes in All-map (λ c h. omega arith) (rights-low img t (s .symbols) (spotsSeq (body .node .0) (items img (body .node .0) (body .count) (body .first))))
 
-  -- a loop over declarations that found none yet
-  pub record ChecksLeft (l : NodeList) (i : ℕ) (ws vs cs us : List ℕ) : Type 0 where
-    pub within : i ≤ l .count
-    pub few : 0 + length (joined (listsLeft img t l i)) ≤ nodes img
-    pub same : lone (listsOf img t l) ≡ lone (listsLeft img t l i)
-    pub long : length vs ≡ length ws
-    pub clean : us ≡ cs
-
-  pub checks-start : {l : NodeList} {ws cs : List ℕ} → ListingAll img t l 0 → ChecksLeft l 0 ws ws cs cs
+  pub checks-start : {l : NodeList} {ws cs : List ℕ} → ListingAll img t env l 0 → ChecksLeft img t l 0 ws ws cs cs
   checks-start {l} p =
       let e = lists-all img t l in
       record { within = omega arith; few = subst (λ (k : List (List Row)). 0 + length (joined k) ≤ nodes img) e (p .few); same = ap lone e; long = refl; clean = refl }
 
-  pub checks-item : {i x : ℕ} {l : NodeList} {ws vs cs us : List ℕ} → ListingAll img t l 0 → ChecksLeft l i ws vs cs us → i < l .count → x ≡ field img (l .node .0) (l .first + i) → DeclItem img t l i x 0
-  checks-item p k h q = declItem img t p h q (k .few)
+  pub checks-item : {i x : ℕ} {l : NodeList} {ws vs cs us : List ℕ} → ListingAll img t env l 0 → ChecksLeft img t l i ws vs cs us → i < l .count → x ≡ field img (l .node .0) (l .first + i) → DeclItem img t env l i x 0
+  checks-item p k h q = declItem img t env p h q (k .few)
 
-  pub checks-scratch : {i : ℕ} {l : NodeList} {ws vs cs us : List ℕ} → Scratch img t ws cs → ChecksLeft l i ws vs cs us → Scratch img t vs us
-  checks-scratch s k = record { symbols = s .symbols; long = (let a = s .long in let b = k .long in omega arith); zeros = k .clean ∙ s .zeros }
-
-  pub checks-next : {i x : ℕ} {l : NodeList} {ws vs zs cs us os : List ℕ} {r : Checked} → ChecksLeft l i ws vs cs us → DeclItem img t l i x 0 → Searched (listsIn img t x) us r os → r ≡ Ok → length zs ≡ length vs
-      → ChecksLeft l (i + 1) ws zs cs os
+  pub checks-next : {i x : ℕ} {l : NodeList} {ws vs zs cs us os : List ℕ} {r : Checked} → ChecksLeft img t l i ws vs cs us → DeclItem img t env l i x 0 → Searched (listsIn img t x) us r os → r ≡ Ok → length zs ≡ length vs
+      → ChecksLeft img t l (i + 1) ws zs cs os
   checks-next {i} {x} {l} {r = r} k d f e long =
       record {
         within = (let h = d .within in omega arith);
@@ -284,13 +288,10 @@ module _ (img : List ℕ) (t : Table) where
       rest : List (List Row)
       rest = listsLeft img t l (i + 1)
 
-  pub checks-found : {i x : ℕ} {l : NodeList} {ws vs cs us os : List ℕ} {r : Checked} {a b : NodeId} → ChecksLeft l i ws vs cs us → DeclItem img t l i x 0 → Searched (listsIn img t x) us r os → r ≡ Lone a b
+  pub checks-found : {i x : ℕ} {l : NodeList} {ws vs cs us os : List ℕ} {r : Checked} {a b : NodeId} → ChecksLeft img t l i ws vs cs us → DeclItem img t env l i x 0 → Searched (listsIn img t x) us r os → r ≡ Lone a b
       → Searched (listsOf img t l) cs (Lone a b) os
   checks-found {i} {x} {l} {a = a} {b} k d f e =
       record {
         lone-is = sym (k .same ∙ ap lone (d .more) ∙ lone-hit (listsIn img t x) (listsLeft img t l (i + 1)) (row (a .0) (b .0)) (sym (f .lone-is) ∙ ap loneOf e));
         clean = f .clean ∙ k .clean;
       }
-
-  pub checks-end : {i : ℕ} {l : NodeList} {ws vs cs us : List ℕ} → ChecksLeft l i ws vs cs us → l .count ≤ i → Searched (listsOf img t l) cs Ok us
-  checks-end {i} {l} k h = record { lone-is = lone-none ∙ sym (k .same ∙ ap lone (lists-done img t l i h)); clean = k .clean }

@@ -119,23 +119,6 @@ module _ (img : List ℕ) (t : Table) where
       ∙ ap (λ (us : Trees). rowsByRule img t (rulesAll img unmeant us)) (case-kids img (outer decl) declKinds is (λ ts. refl) x q ∙ case-one img declKinds n x s)
       ∙ lists-one (treeAt img (field img n 1))
 
-  pub record Declared (k n d c : ℕ) : Type 0 where
-    pub low : d < n
-    pub listing : Listing img t (kindOf k) d c
-    pub whole : listsIn img t n ≡ listsIn img t d
-
-  declared : {n d c : ℕ} → Listing img t (kindOf declKind) n c → (x : ℕ) → x ≡ field img n 0 → d ≡ field img n 1 → eqb (getD declKinds x noChild) noChild ≡ false
-      → Declared (getD declKinds x noChild) n d c
-  unfolding kindOf
-  declared {n} {d} {c} p x q r s =
-      let h : Child img n (getD declKinds x noChild) d = case-child img (outer decl) declKinds (p .is) x d q r s in
-      let w : listsIn img t n ≡ listsIn img t d = decl-lists (p .is) x q s ∙ ap (listsIn img t) (sym r) in
-      record {
-        low = h .below;
-        listing = record { is = child-is img (p .is) h; sorted = p .sorted; few = subst (λ (l : List (List Row)). c + length (joined l) ≤ nodes img) w (p .few) };
-        whole = w;
-      }
-
   -- a type, pred, func or const, or a constructor
   signature-none : {fs : List Field} {n : ℕ} → Is img (kindBy (outer signature) fs) n → listsIn img t n ≡ []
   unfolding listsIn rules rowsByRule nodeOf
@@ -156,45 +139,6 @@ module _ (img : List ℕ) (t : Table) where
       ∙ ap (λ (us : Trees). rowsByRule img t (rulesAll img unmeant us)) (append-none (items img n (field img n 1) 2))
       ∙ ctors-none is (field img n 1) 2 ((row img is) .1 .0)
 
-  -- the case of a declaration: a rule, a model, or one without rules
-  abbrev pub DeclCase : ℕ → ℕ → Decl → Type 0
-  DeclCase n c (decl-of.Type i) = listsIn img t n ≡ []
-  DeclCase n c (decl-of.Pred i) = listsIn img t n ≡ []
-  DeclCase n c (decl-of.Func i) = listsIn img t n ≡ []
-  DeclCase n c (decl-of.Const i) = listsIn img t n ≡ []
-  DeclCase n c (decl-of.Rule i) = Declared ruleDeclKind n (i .0 .0) c
-  DeclCase n c (decl-of.Enum i) = listsIn img t n ≡ []
-  DeclCase n c (decl-of.Model i) = Declared modelDeclKind n (i .0 .0) c
-
-  pub decl-case : {n c : ℕ} {o s : Decl} → Listing img t (kindOf declKind) n c → o ≡ declAt img n → o ≡ s → DeclCase n c s
-  unfolding kindOf
-  decl-case {n} {c} {s = s} p q r = go s (decl-is img (p .is) q r)
-    where
-      go : (s : Decl) → DeclIs img n s → DeclCase n c s
-      go (decl-of.Type i) h = let d = declared p 0 (h .number) (h .child) refl in d .whole ∙ signature-none (d .listing .is)
-      go (decl-of.Pred i) h = let d = declared p 1 (h .number) (h .child) refl in d .whole ∙ signature-none (d .listing .is)
-      go (decl-of.Func i) h = let d = declared p 2 (h .number) (h .child) refl in d .whole ∙ signature-none (d .listing .is)
-      go (decl-of.Const i) h = let d = declared p 3 (h .number) (h .child) refl in d .whole ∙ signature-none (d .listing .is)
-      go (decl-of.Rule i) h = declared p 4 (h .number) (h .child) refl
-      go (decl-of.Enum i) h = let d = declared p 5 (h .number) (h .child) refl in d .whole ∙ enum-none (d .listing .is)
-      go (decl-of.Model i) h = declared p 6 (h .number) (h .child) refl
-
-  -- Type, Pred, Func, Const or Enum
-  abbrev others : List ℕ
-  others = 0 ∷ 1 ∷ 2 ∷ 3 ∷ 5 ∷ []
-
-  pub decl-none : {n c : ℕ} {o : Decl} → Listing img t (kindOf declKind) n c → o ≡ declAt img n → OneOf others (tagOf Decls.the-type o) → listsIn img t n ≡ []
-  decl-none {n} {c} {o} p q k = go o refl k
-    where
-      go : (s : Decl) → o ≡ s → OneOf others (tagOf Decls.the-type s) → listsIn img t n ≡ []
-      go (decl-of.Type i) r k = decl-case p q r
-      go (decl-of.Pred i) r k = decl-case p q r
-      go (decl-of.Func i) r k = decl-case p q r
-      go (decl-of.Const i) r k = decl-case p q r
-      go (decl-of.Rule i) r k = absurd (miss others 4 tt k)
-      go (decl-of.Enum i) r k = decl-case p q r
-      go (decl-of.Model i) r k = absurd (miss others 6 tt k)
-
   -- a rule: its statements ---------------------------------------------------------------------------------------------------
   -- statements do not depend on the node above
   items-owner : {kd : Kind} {n : ℕ} → Is img kd n → (c j : ℕ) → Items img n stmtKind c j → rowsFor img t (spotsSeq 0 (items img n c j)) ≡ rowsAt img t n c j
@@ -213,36 +157,7 @@ module _ (img : List ℕ) (t : Table) where
       ap (λ (u : Tree). rowsByRule img t (rules img unmeant u)) (tree-of img is)
       ∙ ap (λ (us : Trees). rowsFor img t (spotsSeq 0 us) ∷ []) (append-none (items img n (field img n 1) 2))
 
-  pub record RuleRun (n : ℕ) (l : NodeList) (c : ℕ) : Type 0 where
-    pub run : ReadyAll img t stmtKind l c
-    pub single : listsIn img t n ≡ rowsOf img t l ∷ []
-    pub whole : joined (listsIn img t n) ≡ rowsOf img t l
-
-  pub ruleRun : {n x c : ℕ} {l : NodeList} → Listing img t (kindOf ruleDeclKind) n c → WordList img n x l → RuleRun n l c
-  unfolding kindOf FormedFields ends next joined
-  ruleRun {n} {c = c} {l} p q =
-      record {
-        run = at-list img (λ m j k. ReadyRun img t stmtKind m j k c) (q .list)
-            (record {
-              run = run-tail img (p .is) refl refl;
-              room = record { sorted = p .sorted; fits = (let f = subst (λ (k : List Row). c + length k ≤ nodes img) w (p .few) in let z = (sized img (p .is .accepted)) .fewNodes in omega arith) };
-            });
-        single = at-list img (λ m j k. listsIn img t n ≡ rowsAt img t m k j ∷ []) (q .list) s;
-        whole = at-list img (λ m j k. joined (listsIn img t n) ≡ rowsAt img t m k j) (q .list) w;
-      }
-    where
-      s : listsIn img t n ≡ rowsAt img t n (field img n 1) 2 ∷ []
-      s = rule-lists (p .is) ∙ ap (λ (k : List Row). k ∷ []) (items-owner (p .is) (field img n 1) 2 ((row img (p .is)) .1 .0))
-
-      w : joined (listsIn img t n) ≡ rowsAt img t n (field img n 1) 2
-      w = ap joined s ∙ append-nil (rowsAt img t n (field img n 1) 2)
-
   -- a list of declarations ------------------------------------------------------------------------------------------------------
-  pub record ModelRun (n : ℕ) (l : NodeList) (c : ℕ) : Type 0 where
-    pub node : l .node .0 ≡ n
-    pub run : ListingAll img t l c
-    pub whole : listsIn img t n ≡ listsOf img t l
-
   model-lists : {n : ℕ} → Is img (kindOf modelDeclKind) n → listsIn img t n ≡ listsAt img t n (field img n 1) 2
   unfolding listsIn listsAt rules nodeOf kindOf allKids ordered next
   model-lists {n} is =
@@ -250,63 +165,10 @@ module _ (img : List ℕ) (t : Table) where
       ∙ free-all img t _ unmeant (append (items img n (field img n 1) 2) none)
       ∙ ap (λ (us : Trees). rowsByRule img t (rulesAll img unmeant us)) (append-none (items img n (field img n 1) 2))
 
-  pub modelRun : {n x c : ℕ} {l : NodeList} → Listing img t (kindOf modelDeclKind) n c → WordList img n x l → ModelRun n l c
-  unfolding kindOf FormedFields ends next
-  modelRun {n} {c = c} {l} p q =
-      let w = model-lists (p .is) in
-      record {
-        node = q .list .node;
-        run = at-list img (λ m j k. ListingRun img t m j k c) (q .list)
-            (record { run = run-tail img (p .is) refl refl; sorted = p .sorted; few = subst (λ (k : List (List Row)). c + length (joined k) ≤ nodes img) w (p .few) });
-        whole = at-list img (λ m j k. listsIn img t n ≡ listsAt img t m k j) (q .list) w;
-      }
-
-  -- the i-th declaration of a list, where d rows stand before
-  pub record DeclItem (l : NodeList) (i x d : ℕ) : Type 0 where
-    pub low : x < l .node .0
-    pub within : i < l .count
-    pub listing : Listing img t (kindOf declKind) x d
-    pub more : listsLeft l i ≡ listsIn img t x ++ listsLeft l (i + 1)
-
-  pub declItem : {i x c d : ℕ} {l : NodeList} → ListingAll img t l c → i < l .count → x ≡ field img (l .node .0) (l .first + i) → d + length (joined (listsLeft l i)) ≤ nodes img → DeclItem l i x d
-  declItem {i} {x} {d = d} {l} p h q f =
-      subst (λ (y : ℕ). DeclItem l i y d) (sym q)
-      (record {
-        low = o .0 .below;
-        within = h;
-        listing = record {
-          is = o .1;
-          sorted = p .sorted;
-          few = (let g = subst (λ (k : List Row). d + length k ≤ nodes img) (ap joined m ∙ joined-append (listsIn img t y) (listsLeft l (i + 1))) f in let a = length-append (joined (listsIn img t y)) (joined (listsLeft l (i + 1))) in omega arith);
-        };
-        more = m;
-      })
-    where
-      y : ℕ
-      y = field img (l .node .0) (l .first + i)
-
-      o : Child img (l .node .0) declKind y × Is img (kindOf declKind) y
-      o = run-item img (p .run) h refl
-
-      m : listsLeft l i ≡ listsIn img t y ++ listsLeft l (i + 1)
-      m = items-lists (l .node .0) (l .first) (l .count) i h
-
   -- the loop that collects the rows of a list of declarations: after i of them it stands at d
   pub record DeclsLeft (l : NodeList) (i c : ℕ) (ws : List ℕ) (d : ℕ) (us : List ℕ) : Type 0 where
     pub within : i ≤ l .count
     pub left : Left (nodes img) (joined (listsOf img t l)) (joined (listsLeft l i)) c ws d us
-
-  pub decls-start : {c : ℕ} {l : NodeList} {ws : List ℕ} → ListingAll img t l c → DeclsLeft l 0 c ws c ws
-  decls-start {l = l} p =
-      record { within = omega arith; left = left-start _ _ (ap joined (lists-all l)) (let f = p .few in let z = (sized img (p .run .accepted)) .fewNodes in omega arith) }
-
-  pub decls-item : {i x c d : ℕ} {l : NodeList} {ws us : List ℕ} → ListingAll img t l c → DeclsLeft l i c ws d us → i < l .count → x ≡ field img (l .node .0) (l .first + i) → DeclItem l i x d
-  decls-item p k h q = declItem p h q (let e = left-count (k .left) in let f = p .few in omega arith)
-
-  pub decls-next : {i x c d e : ℕ} {l : NodeList} {ws us vs : List ℕ} → DeclsLeft l i c ws d us → DeclItem l i x d → Appended (nodes img) (joined (listsIn img t x)) d us e vs → length vs ≡ length us
-      → DeclsLeft l (i + 1) c ws e vs
-  decls-next {i} {x} {l = l} k o a long =
-      record { within = (let h = o .within in omega arith); left = left-next (k .left) (ap joined (o .more) ∙ joined-append (listsIn img t x) (listsLeft l (i + 1))) a long }
 
   pub decls-end : {i c d : ℕ} {l : NodeList} {ws us : List ℕ} → DeclsLeft l i c ws d us → l .count ≤ i → Appended (nodes img) (joined (listsOf img t l)) c ws d us
   unfolding joined
@@ -320,17 +182,157 @@ module _ (img : List ℕ) (t : Table) where
       ∙ free-all img t _ unmeant (append (items img (last img) (field img (last img) 0) 1) none)
       ∙ ap (λ (us : Trees). rowsByRule img t (rulesAll img unmeant us)) (append-none (items img (last img) (field img (last img) 0) 1))
 
+-- what the collectors of declarations ask and give
+module _ (img : List ℕ) (t : Table) (env : List ℕ) where
+  pub record Declared (k n d c : ℕ) : Type 0 where
+    pub low : d < n
+    pub listing : Listing img t env (kindOf k) d c
+    pub whole : listsIn img t n ≡ listsIn img t d
+
+  declared : {n d c : ℕ} → Listing img t env (kindOf declKind) n c → (x : ℕ) → x ≡ field img n 0 → d ≡ field img n 1 → eqb (getD declKinds x noChild) noChild ≡ false
+      → Declared (getD declKinds x noChild) n d c
+  unfolding kindOf
+  declared {n} {d} {c} p x q r s =
+      let h : Child img n (getD declKinds x noChild) d = case-child img (outer decl) declKinds (p .is) x d q r s in
+      let w : listsIn img t n ≡ listsIn img t d = decl-lists img t (p .is) x q s ∙ ap (listsIn img t) (sym r) in
+      record {
+        low = h .below;
+        listing = record { is = child-is img (p .is) h; noted = p .noted; few = subst (λ (l : List (List Row)). c + length (joined l) ≤ nodes img) w (p .few) };
+        whole = w;
+      }
+
+  -- the case of a declaration: a rule, a model, or one without rules
+  abbrev pub DeclCase : ℕ → ℕ → Decl → Type 0
+  DeclCase n c (decl-of.Type i) = listsIn img t n ≡ []
+  DeclCase n c (decl-of.Pred i) = listsIn img t n ≡ []
+  DeclCase n c (decl-of.Func i) = listsIn img t n ≡ []
+  DeclCase n c (decl-of.Const i) = listsIn img t n ≡ []
+  DeclCase n c (decl-of.Rule i) = Declared ruleDeclKind n (i .0 .0) c
+  DeclCase n c (decl-of.Enum i) = listsIn img t n ≡ []
+  DeclCase n c (decl-of.Model i) = Declared modelDeclKind n (i .0 .0) c
+
+  pub decl-case : {n c : ℕ} {o s : Decl} → Listing img t env (kindOf declKind) n c → o ≡ declAt img n → o ≡ s → DeclCase n c s
+  unfolding kindOf
+  decl-case {n} {c} {s = s} p q r = go s (decl-is img (p .is) q r)
+    where
+      go : (s : Decl) → DeclIs img n s → DeclCase n c s
+      go (decl-of.Type i) h = let d = declared p 0 (h .number) (h .child) refl in d .whole ∙ signature-none img t (d .listing .is)
+      go (decl-of.Pred i) h = let d = declared p 1 (h .number) (h .child) refl in d .whole ∙ signature-none img t (d .listing .is)
+      go (decl-of.Func i) h = let d = declared p 2 (h .number) (h .child) refl in d .whole ∙ signature-none img t (d .listing .is)
+      go (decl-of.Const i) h = let d = declared p 3 (h .number) (h .child) refl in d .whole ∙ signature-none img t (d .listing .is)
+      go (decl-of.Rule i) h = declared p 4 (h .number) (h .child) refl
+      go (decl-of.Enum i) h = let d = declared p 5 (h .number) (h .child) refl in d .whole ∙ enum-none img t (d .listing .is)
+      go (decl-of.Model i) h = declared p 6 (h .number) (h .child) refl
+
+  -- Type, Pred, Func, Const or Enum
+  abbrev others : List ℕ
+  others = 0 ∷ 1 ∷ 2 ∷ 3 ∷ 5 ∷ []
+
+  pub decl-none : {n c : ℕ} {o : Decl} → Listing img t env (kindOf declKind) n c → o ≡ declAt img n → OneOf others (tagOf Decls.the-type o) → listsIn img t n ≡ []
+  decl-none {n} {c} {o} p q k = go o refl k
+    where
+      go : (s : Decl) → o ≡ s → OneOf others (tagOf Decls.the-type s) → listsIn img t n ≡ []
+      go (decl-of.Type i) r k = decl-case p q r
+      go (decl-of.Pred i) r k = decl-case p q r
+      go (decl-of.Func i) r k = decl-case p q r
+      go (decl-of.Const i) r k = decl-case p q r
+      go (decl-of.Rule i) r k = absurd (miss others 4 tt k)
+      go (decl-of.Enum i) r k = decl-case p q r
+      go (decl-of.Model i) r k = absurd (miss others 6 tt k)
+
+  pub record RuleRun (n : ℕ) (l : NodeList) (c : ℕ) : Type 0 where
+    pub run : ReadyAll img t env stmtKind l c
+    pub single : listsIn img t n ≡ rowsOf img t l ∷ []
+    pub whole : joined (listsIn img t n) ≡ rowsOf img t l
+
+  pub ruleRun : {n x c : ℕ} {l : NodeList} → Listing img t env (kindOf ruleDeclKind) n c → WordList img n x l → RuleRun n l c
+  unfolding kindOf FormedFields ends next joined
+  ruleRun {n} {c = c} {l} p q =
+      record {
+        run = at-list img (λ m j k. ReadyRun img t env stmtKind m j k c) (q .list)
+            (record {
+              run = run-tail img (p .is) refl refl;
+              room = record { noted = p .noted; fits = (let f = subst (λ (k : List Row). c + length k ≤ nodes img) w (p .few) in let z = (sized img (p .is .accepted)) .fewNodes in omega arith) };
+            });
+        single = at-list img (λ m j k. listsIn img t n ≡ rowsAt img t m k j ∷ []) (q .list) s;
+        whole = at-list img (λ m j k. joined (listsIn img t n) ≡ rowsAt img t m k j) (q .list) w;
+      }
+    where
+      s : listsIn img t n ≡ rowsAt img t n (field img n 1) 2 ∷ []
+      s = rule-lists img t (p .is) ∙ ap (λ (k : List Row). k ∷ []) (items-owner img t (p .is) (field img n 1) 2 ((row img (p .is)) .1 .0))
+
+      w : joined (listsIn img t n) ≡ rowsAt img t n (field img n 1) 2
+      w = ap joined s ∙ append-nil (rowsAt img t n (field img n 1) 2)
+
+  pub record ModelRun (n : ℕ) (l : NodeList) (c : ℕ) : Type 0 where
+    pub node : l .node .0 ≡ n
+    pub run : ListingAll img t env l c
+    pub whole : listsIn img t n ≡ listsOf img t l
+
+  pub modelRun : {n x c : ℕ} {l : NodeList} → Listing img t env (kindOf modelDeclKind) n c → WordList img n x l → ModelRun n l c
+  unfolding kindOf FormedFields ends next
+  modelRun {n} {c = c} {l} p q =
+      let w = model-lists img t (p .is) in
+      record {
+        node = q .list .node;
+        run = at-list img (λ m j k. ListingRun img t env m j k c) (q .list)
+            (record { run = run-tail img (p .is) refl refl; noted = p .noted; few = subst (λ (k : List (List Row)). c + length (joined k) ≤ nodes img) w (p .few) });
+        whole = at-list img (λ m j k. listsIn img t n ≡ listsAt img t m k j) (q .list) w;
+      }
+
+  -- the i-th declaration of a list, where d rows stand before
+  pub record DeclItem (l : NodeList) (i x d : ℕ) : Type 0 where
+    pub low : x < l .node .0
+    pub within : i < l .count
+    pub listing : Listing img t env (kindOf declKind) x d
+    pub more : listsLeft img t l i ≡ listsIn img t x ++ listsLeft img t l (i + 1)
+
+  pub declItem : {i x c d : ℕ} {l : NodeList} → ListingAll img t env l c → i < l .count → x ≡ field img (l .node .0) (l .first + i) → d + length (joined (listsLeft img t l i)) ≤ nodes img → DeclItem l i x d
+  declItem {i} {x} {d = d} {l} p h q f =
+      subst (λ (y : ℕ). DeclItem l i y d) (sym q)
+      (record {
+        low = o .0 .below;
+        within = h;
+        listing = record {
+          is = o .1;
+          noted = p .noted;
+          few = (let g = subst (λ (k : List Row). d + length k ≤ nodes img) (ap joined m ∙ joined-append (listsIn img t y) (listsLeft img t l (i + 1))) f in let a = length-append (joined (listsIn img t y)) (joined (listsLeft img t l (i + 1))) in omega arith);
+        };
+        more = m;
+      })
+    where
+      y : ℕ
+      y = field img (l .node .0) (l .first + i)
+
+      o : Child img (l .node .0) declKind y × Is img (kindOf declKind) y
+      o = run-item img (p .run) h refl
+
+      m : listsLeft img t l i ≡ listsIn img t y ++ listsLeft img t l (i + 1)
+      m = items-lists img t (l .node .0) (l .first) (l .count) i h
+
+  pub decls-start : {c : ℕ} {l : NodeList} {ws : List ℕ} → ListingAll img t env l c → DeclsLeft img t l 0 c ws c ws
+  decls-start {l = l} p =
+      record { within = omega arith; left = left-start _ _ (ap joined (lists-all img t l)) (let f = p .few in let z = (sized img (p .run .accepted)) .fewNodes in omega arith) }
+
+  pub decls-item : {i x c d : ℕ} {l : NodeList} {ws us : List ℕ} → ListingAll img t env l c → DeclsLeft img t l i c ws d us → i < l .count → x ≡ field img (l .node .0) (l .first + i) → DeclItem l i x d
+  decls-item p k h q = declItem p h q (let e = left-count (k .left) in let f = p .few in omega arith)
+
+  pub decls-next : {i x c d e : ℕ} {l : NodeList} {ws us vs : List ℕ} → DeclsLeft img t l i c ws d us → DeclItem l i x d → Appended (nodes img) (joined (listsIn img t x)) d us e vs → length vs ≡ length us
+      → DeclsLeft img t l (i + 1) c ws e vs
+  decls-next {i} {x} {l = l} k o a long =
+      record { within = (let h = o .within in omega arith); left = left-next (k .left) (ap joined (o .more) ∙ joined-append (listsIn img t x) (listsLeft img t l (i + 1))) a long }
+
   pub record ModuleRun (l : NodeList) : Type 0 where
-    pub run : ListingAll img t l 0
+    pub run : ListingAll img t env l 0
     pub by-rule : rowsByRule img t (moduleRules img) ≡ listsOf img t l
     pub whole : occurrenceRows img t ≡ joined (listsOf img t l)
 
-  pub moduleRun : {n : ℕ} {l : NodeList} → Whole img t → n ≡ last img → Listed img n 0 l → ModuleRun l
+  pub moduleRun : {n : ℕ} {l : NodeList} → Whole img t env → n ≡ last img → Listed img n 0 l → ModuleRun l
   unfolding kindOf FormedFields ends next occurrenceRows
   moduleRun {n} {l} p e r =
       record {
-        run = at-list img (λ m j k. ListingRun img t m j k 0) q
-            (record { run = run-list img (root-is img (p .accepted)) refl; sorted = p .sorted; few = subst (λ (k : List Row). 0 + length k ≤ nodes img) w (let f = p .few in omega arith) });
+        run = at-list img (λ m j k. ListingRun img t env m j k 0) q
+            (record { run = run-list img (root-is img (p .accepted)) refl; noted = p .noted; few = subst (λ (k : List Row). 0 + length k ≤ nodes img) w (let f = p .few in omega arith) });
         by-rule = at-list img (λ m j k. rowsByRule img t (moduleRules img) ≡ listsAt img t m k j) q b;
         whole = at-list img (λ m j k. occurrenceRows img t ≡ joined (listsAt img t m k j)) q w;
       }
@@ -339,7 +341,7 @@ module _ (img : List ℕ) (t : Table) where
       q = subst (λ (x : ℕ). Listed img x 0 l) e r
 
       b : rowsByRule img t (moduleRules img) ≡ listsAt img t (last img) (field img (last img) 0) 1
-      b = module-lists (p .accepted)
+      b = module-lists img t (p .accepted)
 
       w : occurrenceRows img t ≡ joined (listsAt img t (last img) (field img (last img) 0) 1)
       w = all-joined img t (moduleRules img) ∙ ap joined b

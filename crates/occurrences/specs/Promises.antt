@@ -7,7 +7,7 @@ use mathlib.Core.Option.{Option, none as nothing, some}
 use Prim.Native.Nat.{ℕ, _+_, _<_, _≤_, _^_}
 use lib.Dec.{leb}
 use lib.ListN.{length, getD, set, replicate}
-use Rattle.ast.specs.Image.{nodes}
+use Rattle.ast.specs.Image.{nodes, nameOf}
 use Rattle.ast.specs.Kinds.{Kind}
 use Rattle.ast.specs.Tree.{treeAt}
 use Rattle.ast.specs.Items.{items}
@@ -17,7 +17,10 @@ use Rattle.ast.specs.Promises.{bump, claimAll}
 use Rattle.ast.specs.Tests.{verdict}
 use Rattle.typed.specs.declared.nodes.NodeList.{NodeList}
 use Rattle.table.specs.Table.{Table}
-use Rattle.table.specs.Rising.{nodeAt, Sorted}
+use Rattle.table.specs.Rising.{nodeAt}
+use Rattle.environment.specs.Layout.{namesMost}
+use Rattle.environment.specs.Asked.{asked}
+use Rattle.environment.specs.Stands.{Noted}
 use Rattle.rows.specs.Rows.{Row, row, rowsLength}
 use Rattle.occurrences.specs.Spots.{Spot, spots, spotsSeq}
 use Rattle.ast.specs.Rules.{rules, rulesAll}
@@ -61,45 +64,51 @@ unfoldable pub joined : List (List Row) → List Row
 joined [] = []
 joined (l ∷ ls) = l ++ joined ls
 
--- the symbol rows stand by rising scope, and the count of rows fits a word with the rows l appended to the first c
-pub record Room (img : List ℕ) (t : Table) (l : List Row) (c : ℕ) : Type 0 where
-  pub sorted : Sorted (nodes img) (t .symbols) (t .words)
+-- the walk noted what names stand for, and the count of rows fits a word with the rows l appended to the first c
+pub record Room (img : List ℕ) (t : Table) (env : List ℕ) (l : List Row) (c : ℕ) : Type 0 where
+  pub noted : Noted img t env
   pub fits : c + length l < 2 ^ 32
 
+-- n is a Term or AppHead of case Ident, with the ident i: its name is asked for there
+pub record Asks (img : List ℕ) (n i : ℕ) : Type 0 where
+  pub low : n < nodes img
+  pub is : asked img n ≡ some (nameOf img i)
+  pub below : nameOf img i < namesMost
+
 -- what a collector asks: the node is of its kind, and there is room for the rows of its tree
-pub record Ready (img : List ℕ) (t : Table) (kd : Kind) (n c : ℕ) : Type 0 where
+pub record Ready (img : List ℕ) (t : Table) (env : List ℕ) (kd : Kind) (n c : ℕ) : Type 0 where
   pub is : Is img kd n
-  pub room : Room img t (rowsIn img t n) c
+  pub room : Room img t env (rowsIn img t n) c
 
 -- the same of a run of children
-pub record ReadyRun (img : List ℕ) (t : Table) (k n j count c : ℕ) : Type 0 where
+pub record ReadyRun (img : List ℕ) (t : Table) (env : List ℕ) (k n j count c : ℕ) : Type 0 where
   pub run : Run img k n j count
-  pub room : Room img t (rowsAt img t n count j) c
+  pub room : Room img t env (rowsAt img t n count j) c
 
 -- of the nodes of a list
-abbrev pub ReadyAll : List ℕ → Table → ℕ → NodeList → ℕ → Type 0
-ReadyAll img t k l c = ReadyRun img t k (l .node .0) (l .first) (l .count) c
+abbrev pub ReadyAll : List ℕ → Table → List ℕ → ℕ → NodeList → ℕ → Type 0
+ReadyAll img t env k l c = ReadyRun img t env k (l .node .0) (l .first) (l .count) c
 
 -- what the collector of a declaration asks: room for the rows of its rules in an array of N words, after the first c
-pub record Listing (img : List ℕ) (t : Table) (kd : Kind) (n c : ℕ) : Type 0 where
+pub record Listing (img : List ℕ) (t : Table) (env : List ℕ) (kd : Kind) (n c : ℕ) : Type 0 where
   pub is : Is img kd n
-  pub sorted : Sorted (nodes img) (t .symbols) (t .words)
+  pub noted : Noted img t env
   pub few : c + length (joined (listsIn img t n)) ≤ nodes img
 
 -- the same of a run of declarations
-pub record ListingRun (img : List ℕ) (t : Table) (n j count c : ℕ) : Type 0 where
+pub record ListingRun (img : List ℕ) (t : Table) (env : List ℕ) (n j count c : ℕ) : Type 0 where
   pub run : Run img declKind n j count
-  pub sorted : Sorted (nodes img) (t .symbols) (t .words)
+  pub noted : Noted img t env
   pub few : c + length (joined (listsAt img t n count j)) ≤ nodes img
 
 -- of the declarations of a list
-abbrev pub ListingAll : List ℕ → Table → NodeList → ℕ → Type 0
-ListingAll img t l c = ListingRun img t (l .node .0) (l .first) (l .count) c
+abbrev pub ListingAll : List ℕ → Table → List ℕ → NodeList → ℕ → Type 0
+ListingAll img t env l c = ListingRun img t env (l .node .0) (l .first) (l .count) c
 
 -- the same of the whole module
-pub record Whole (img : List ℕ) (t : Table) : Type 0 where
+pub record Whole (img : List ℕ) (t : Table) (env : List ℕ) : Type 0 where
   pub accepted : verdict img ≡ 0
-  pub sorted : Sorted (nodes img) (t .symbols) (t .words)
+  pub noted : Noted img t env
   pub few : length (occurrenceRows img t) ≤ nodes img
 
 -- the first row whose binding is counted under two times

@@ -13,7 +13,7 @@ ghost use Rattle.scopes.specs.Answers.{rowedAnswer};
 ghost use Rattle.occurrences.specs.Answers.{onceAnswer};
 ghost use Rattle.occurrences.specs.Occurrences as «occurrences-spec»;
 ghost use Rattle.occurrences.specs.Occurrences.{occurrenceRows, lone, rowsByRule};
-ghost use Rattle.occurrences.specs.Promises.{identRows, rowsIn, rowsOf, Room, Ready, ReadyAll, joined, listsIn, listsOf, Listing, ListingAll, Whole, Nodes, under, recount, recounted, loneOf, Scratch, Searched};
+ghost use Rattle.occurrences.specs.Promises.{identRows, rowsIn, rowsOf, Room, Asks, Ready, ReadyAll, joined, listsIn, listsOf, Listing, ListingAll, Whole, Nodes, under, recount, recounted, loneOf, Scratch, Searched};
 use ast::NodeId;
 use scopes::Declared;
 use scopes::Rowed;
@@ -37,8 +37,9 @@ pub fn check_occurrences(image: &[u8], table: &mut [u32]) -> Once
     if code != 0 {
         return Once::Refused(code);
     }
-    match scopes::resolve_into(image, table) {
-        Declared::Done(w) => match check_module(image, table, w.symbols) {
+    let mut env = [0u32; environment::WORDS];
+    match scopes::resolve_into(image, table, &mut env) {
+        Declared::Done(w) => match check_module(image, table, w.symbols, &env) {
             Checked::Ok => Once::Ok,
             Checked::Lone(node, binding) => Once::Lone(node, binding),
         },
@@ -53,32 +54,33 @@ pub enum Checked {
 }
 
 // Works in local arrays: one for the rows of a rule, one for the counts of its bindings.
-fn check_module(image: &[u8], table: &[u32], symbols: u32) -> Checked
-    requires { ⌜ (Whole (now image) (sought (now table) symbols)) × (Nodes (now image) (sought (now table) symbols)) ⌝ }
+fn check_module(image: &[u8], table: &[u32], symbols: u32, env: &[u32]) -> Checked
+    requires { ⌜ (Whole (now image) (sought (now table) symbols) (now env)) × (Nodes (now image) (sought (now table) symbols)) ⌝ }
     ensures { λ r. ⌜ loneOf r ≡ lone (rowsByRule (now (image .entry)) (sought (now (table .entry)) symbols) (moduleRules (now (image .entry)))) ⌝ }
 {
     let module = ModuleId(NodeId(ast::node_count(image) - 1));
     let Module { decls } = typed::module(image, module);
     let mut rows = [0u32; 4097];
     let mut counts = [0u32; 2048];
-    check_decls(image, table, symbols, &mut rows, &mut counts, decls)
+    check_decls(image, table, symbols, env, &mut rows, &mut counts, decls)
 }
 
 fn check_decls(
     image: &[u8],
     table: &[u32],
     symbols: u32,
+    env: &[u32],
     rows: &mut [u32],
     counts: &mut [u32],
     decls: DeclIds,
 ) -> Checked
-    requires { ⌜ (ListingAll (now image) (sought (now table) symbols) (decls .0) 0) × (Scratch (now image) (sought (now table) symbols) (now rows) (now counts)) ⌝ }
+    requires { ⌜ (ListingAll (now image) (sought (now table) symbols) (now env) (decls .0) 0) × (Scratch (now image) (sought (now table) symbols) (now rows) (now counts)) ⌝ }
     ensures { λ r. ⌜ Searched (listsOf (now (image .entry)) (sought (now (table .entry)) symbols) (decls .0)) (now (counts .entry)) r (now (counts .exit)) ⌝ }
 {
     let mut i = 0;
     while i < decls.0.count {
         let decl = typed::nth_decl(image, decls, i);
-        match check_decl(image, table, symbols, rows, counts, decl) {
+        match check_decl(image, table, symbols, env, rows, counts, decl) {
             Checked::Ok => {}
             Checked::Lone(node, binding) => {
                 return Checked::Lone(node, binding);
@@ -93,20 +95,21 @@ fn check_decl(
     image: &[u8],
     table: &[u32],
     symbols: u32,
+    env: &[u32],
     rows: &mut [u32],
     counts: &mut [u32],
     decl: DeclId,
 ) -> Checked
-    requires { ⌜ (Listing (now image) (sought (now table) symbols) (kindOf declKind) (decl .0 .0) 0) × (Scratch (now image) (sought (now table) symbols) (now rows) (now counts)) ⌝ }
+    requires { ⌜ (Listing (now image) (sought (now table) symbols) (now env) (kindOf declKind) (decl .0 .0) 0) × (Scratch (now image) (sought (now table) symbols) (now rows) (now counts)) ⌝ }
     ensures { λ r. ⌜ Searched (listsIn (now (image .entry)) (sought (now (table .entry)) symbols) (decl .0 .0)) (now (counts .entry)) r (now (counts .exit)) ⌝ }
 {
     match typed::decl(image, decl) {
         Decl::Type(_) | Decl::Pred(_) | Decl::Func(_) | Decl::Const(_) | Decl::Enum(_) =>
             Checked::Ok,
-        Decl::Rule(id) => check_rule(image, table, symbols, rows, counts, id),
+        Decl::Rule(id) => check_rule(image, table, symbols, env, rows, counts, id),
         Decl::Model(id) => {
             let ModelDecl { body, .. } = typed::model_decl(image, id);
-            check_decls(image, table, symbols, rows, counts, body)
+            check_decls(image, table, symbols, env, rows, counts, body)
         }
     }
 }
@@ -117,15 +120,16 @@ fn check_rule(
     image: &[u8],
     table: &[u32],
     symbols: u32,
+    env: &[u32],
     rows: &mut [u32],
     counts: &mut [u32],
     rule: RuleDeclId,
 ) -> Checked
-    requires { ⌜ (Listing (now image) (sought (now table) symbols) (kindOf ruleDeclKind) (rule .0 .0) 0) × (Scratch (now image) (sought (now table) symbols) (now rows) (now counts)) ⌝ }
+    requires { ⌜ (Listing (now image) (sought (now table) symbols) (now env) (kindOf ruleDeclKind) (rule .0 .0) 0) × (Scratch (now image) (sought (now table) symbols) (now rows) (now counts)) ⌝ }
     ensures { λ r. ⌜ Searched (listsIn (now (image .entry)) (sought (now (table .entry)) symbols) (rule .0 .0)) (now (counts .entry)) r (now (counts .exit)) ⌝ }
 {
     let RuleDecl { body, .. } = typed::rule_decl(image, rule);
-    let written = collect_stmts(image, table, symbols, rows, 0, body);
+    let written = collect_stmts(image, table, symbols, env, rows, 0, body);
     count_bindings(image, rows, written, counts, true);
     let found = first_lone(image, rows, written, counts);
     count_bindings(image, rows, written, counts, false);
@@ -136,18 +140,19 @@ fn collect_stmts(
     image: &[u8],
     table: &[u32],
     symbols: u32,
+    env: &[u32],
     rows: &mut [u32],
     written: u32,
     stmts: StmtIds,
 ) -> u32
-    requires { ⌜ ReadyAll (now image) (sought (now table) symbols) stmtKind (stmts .0) written ⌝ }
+    requires { ⌜ ReadyAll (now image) (sought (now table) symbols) (now env) stmtKind (stmts .0) written ⌝ }
     ensures { λ r. ⌜ Appended («image-spec».nodes (now (image .entry))) (rowsOf (now (image .entry)) (sought (now (table .entry)) symbols) (stmts .0)) written (now (rows .entry)) r (now (rows .exit)) ⌝ }
 {
     let mut i = 0;
     let mut after = written;
     while i < stmts.0.count {
         let stmt = typed::nth_stmt(image, stmts, i);
-        after = collect_stmt(image, table, symbols, rows, after, stmt);
+        after = collect_stmt(image, table, symbols, env, rows, after, stmt);
         i += 1;
     }
     after
@@ -202,24 +207,25 @@ fn collect_stmt(
     image: &[u8],
     table: &[u32],
     symbols: u32,
+    env: &[u32],
     rows: &mut [u32],
     written: u32,
     stmt: StmtId,
 ) -> u32
-    requires { ⌜ Ready (now image) (sought (now table) symbols) (kindOf stmtKind) (stmt .0 .0) written ⌝ }
+    requires { ⌜ Ready (now image) (sought (now table) symbols) (now env) (kindOf stmtKind) (stmt .0 .0) written ⌝ }
     ensures { λ r. ⌜ Appended («image-spec».nodes (now (image .entry))) (rowsIn (now (image .entry)) (sought (now (table .entry)) symbols) (stmt .0 .0)) written (now (rows .entry)) r (now (rows .exit)) ⌝ }
 {
     match typed::stmt(image, stmt) {
         Stmt::If(id) => {
             let IfStmt { atom } = typed::if_stmt(image, id);
-            collect_if_atom(image, table, symbols, rows, written, atom)
+            collect_if_atom(image, table, symbols, env, rows, written, atom)
         }
         Stmt::Then(id) => {
             let ThenStmt { atom } = typed::then_stmt(image, id);
-            collect_then_atom(image, table, symbols, rows, written, atom)
+            collect_then_atom(image, table, symbols, env, rows, written, atom)
         }
-        Stmt::Branch(id) => collect_branch(image, table, symbols, rows, written, id),
-        Stmt::Match(id) => collect_match(image, table, symbols, rows, written, id),
+        Stmt::Branch(id) => collect_branch(image, table, symbols, env, rows, written, id),
+        Stmt::Match(id) => collect_match(image, table, symbols, env, rows, written, id),
     }
 }
 
@@ -227,11 +233,12 @@ fn collect_branch(
     image: &[u8],
     table: &[u32],
     symbols: u32,
+    env: &[u32],
     rows: &mut [u32],
     written: u32,
     id: BranchStmtId,
 ) -> u32
-    requires { ⌜ Ready (now image) (sought (now table) symbols) (kindOf branchStmtKind) (id .0 .0) written ⌝ }
+    requires { ⌜ Ready (now image) (sought (now table) symbols) (now env) (kindOf branchStmtKind) (id .0 .0) written ⌝ }
     ensures { λ r. ⌜ Appended («image-spec».nodes (now (image .entry))) (rowsIn (now (image .entry)) (sought (now (table .entry)) symbols) (id .0 .0)) written (now (rows .entry)) r (now (rows .exit)) ⌝ }
 {
     let BranchStmt { blocks } = typed::branch_stmt(image, id);
@@ -240,7 +247,7 @@ fn collect_branch(
     let mut after = written;
     while i < blocks.0.count {
         let block = typed::block(image, blocks, place);
-        after = collect_stmts(image, table, symbols, rows, after, block);
+        after = collect_stmts(image, table, symbols, env, rows, after, block);
         place = block.0.first + block.0.count;
         i += 1;
     }
@@ -251,19 +258,20 @@ fn collect_match(
     image: &[u8],
     table: &[u32],
     symbols: u32,
+    env: &[u32],
     rows: &mut [u32],
     written: u32,
     id: MatchStmtId,
 ) -> u32
-    requires { ⌜ Ready (now image) (sought (now table) symbols) (kindOf matchStmtKind) (id .0 .0) written ⌝ }
+    requires { ⌜ Ready (now image) (sought (now table) symbols) (now env) (kindOf matchStmtKind) (id .0 .0) written ⌝ }
     ensures { λ r. ⌜ Appended («image-spec».nodes (now (image .entry))) (rowsIn (now (image .entry)) (sought (now (table .entry)) symbols) (id .0 .0)) written (now (rows .entry)) r (now (rows .exit)) ⌝ }
 {
     let MatchStmt { term, cases } = typed::match_stmt(image, id);
-    let mut after = collect_term(image, table, symbols, rows, written, term);
+    let mut after = collect_term(image, table, symbols, env, rows, written, term);
     let mut i = 0;
     while i < cases.0.count {
         let case = typed::nth_case(image, cases, i);
-        after = collect_match_case(image, table, symbols, rows, after, case);
+        after = collect_match_case(image, table, symbols, env, rows, after, case);
         i += 1;
     }
     after
@@ -273,48 +281,50 @@ fn collect_match_case(
     image: &[u8],
     table: &[u32],
     symbols: u32,
+    env: &[u32],
     rows: &mut [u32],
     written: u32,
     case: MatchCaseId,
 ) -> u32
-    requires { ⌜ Ready (now image) (sought (now table) symbols) (kindOf matchCaseKind) (case .0 .0) written ⌝ }
+    requires { ⌜ Ready (now image) (sought (now table) symbols) (now env) (kindOf matchCaseKind) (case .0 .0) written ⌝ }
     ensures { λ r. ⌜ Appended («image-spec».nodes (now (image .entry))) (rowsIn (now (image .entry)) (sought (now (table .entry)) symbols) (case .0 .0)) written (now (rows .entry)) r (now (rows .exit)) ⌝ }
 {
     let MatchCase { pattern, body } = typed::match_case(image, case);
-    let after_pattern = collect_term(image, table, symbols, rows, written, pattern);
-    collect_stmts(image, table, symbols, rows, after_pattern, body)
+    let after_pattern = collect_term(image, table, symbols, env, rows, written, pattern);
+    collect_stmts(image, table, symbols, env, rows, after_pattern, body)
 }
 
 fn collect_if_atom(
     image: &[u8],
     table: &[u32],
     symbols: u32,
+    env: &[u32],
     rows: &mut [u32],
     written: u32,
     atom: IfAtomId,
 ) -> u32
-    requires { ⌜ Ready (now image) (sought (now table) symbols) (kindOf ifAtomKind) (atom .0 .0) written ⌝ }
+    requires { ⌜ Ready (now image) (sought (now table) symbols) (now env) (kindOf ifAtomKind) (atom .0 .0) written ⌝ }
     ensures { λ r. ⌜ Appended («image-spec».nodes (now (image .entry))) (rowsIn (now (image .entry)) (sought (now (table .entry)) symbols) (atom .0 .0)) written (now (rows .entry)) r (now (rows .exit)) ⌝ }
 {
     match typed::if_atom(image, atom) {
         IfAtom::Equal(id) => {
             let EqualAtom { lhs, rhs } = typed::equal_atom(image, id);
-            let after_lhs = collect_term(image, table, symbols, rows, written, lhs);
-            collect_term(image, table, symbols, rows, after_lhs, rhs)
+            let after_lhs = collect_term(image, table, symbols, env, rows, written, lhs);
+            collect_term(image, table, symbols, env, rows, after_lhs, rhs)
         }
         IfAtom::Defined(id) => {
             let DefinedIfAtom { term } = typed::defined_if_atom(image, id);
-            collect_term(image, table, symbols, rows, written, term)
+            collect_term(image, table, symbols, env, rows, written, term)
         }
         IfAtom::Pred(id) => {
             let PredAtom { pred, args } = typed::pred_atom(image, id);
-            let after_pred = collect_pred_expr(image, table, symbols, rows, written, pred);
-            collect_term_list(image, table, symbols, rows, after_pred, args)
+            let after_pred = collect_pred_expr(image, table, symbols, env, rows, written, pred);
+            collect_term_list(image, table, symbols, env, rows, after_pred, args)
         }
         IfAtom::Var(id) => {
             let VarIfAtom { term, typ } = typed::var_if_atom(image, id);
-            let after_typ = collect_type_expr(image, table, symbols, rows, written, typ);
-            collect_term(image, table, symbols, rows, after_typ, term)
+            let after_typ = collect_type_expr(image, table, symbols, env, rows, written, typ);
+            collect_term(image, table, symbols, env, rows, after_typ, term)
         }
     }
 }
@@ -323,33 +333,34 @@ fn collect_then_atom(
     image: &[u8],
     table: &[u32],
     symbols: u32,
+    env: &[u32],
     rows: &mut [u32],
     written: u32,
     atom: ThenAtomId,
 ) -> u32
-    requires { ⌜ Ready (now image) (sought (now table) symbols) (kindOf thenAtomKind) (atom .0 .0) written ⌝ }
+    requires { ⌜ Ready (now image) (sought (now table) symbols) (now env) (kindOf thenAtomKind) (atom .0 .0) written ⌝ }
     ensures { λ r. ⌜ Appended («image-spec».nodes (now (image .entry))) (rowsIn (now (image .entry)) (sought (now (table .entry)) symbols) (atom .0 .0)) written (now (rows .entry)) r (now (rows .exit)) ⌝ }
 {
     match typed::then_atom(image, atom) {
         ThenAtom::Equal(id) => {
             let EqualAtom { lhs, rhs } = typed::equal_atom(image, id);
-            let after_lhs = collect_term(image, table, symbols, rows, written, lhs);
-            collect_term(image, table, symbols, rows, after_lhs, rhs)
+            let after_lhs = collect_term(image, table, symbols, env, rows, written, lhs);
+            collect_term(image, table, symbols, env, rows, after_lhs, rhs)
         }
         ThenAtom::Defined(id) => {
             let DefinedThenAtom { var, term } = typed::defined_then_atom(image, id);
             match var {
                 OptTermId::Given(var) => {
-                    let after_var = collect_term(image, table, symbols, rows, written, var);
-                    collect_term(image, table, symbols, rows, after_var, term)
+                    let after_var = collect_term(image, table, symbols, env, rows, written, var);
+                    collect_term(image, table, symbols, env, rows, after_var, term)
                 }
-                OptTermId::Absent => collect_term(image, table, symbols, rows, written, term),
+                OptTermId::Absent => collect_term(image, table, symbols, env, rows, written, term),
             }
         }
         ThenAtom::Pred(id) => {
             let PredAtom { pred, args } = typed::pred_atom(image, id);
-            let after_pred = collect_pred_expr(image, table, symbols, rows, written, pred);
-            collect_term_list(image, table, symbols, rows, after_pred, args)
+            let after_pred = collect_pred_expr(image, table, symbols, env, rows, written, pred);
+            collect_term_list(image, table, symbols, env, rows, after_pred, args)
         }
     }
 }
@@ -358,34 +369,35 @@ fn collect_term(
     image: &[u8],
     table: &[u32],
     symbols: u32,
+    env: &[u32],
     rows: &mut [u32],
     written: u32,
     term: TermId,
 ) -> u32
-    requires { ⌜ Ready (now image) (sought (now table) symbols) (kindOf termKind) (term .0 .0) written ⌝ }
+    requires { ⌜ Ready (now image) (sought (now table) symbols) (now env) (kindOf termKind) (term .0 .0) written ⌝ }
     ensures { λ r. ⌜ Appended («image-spec».nodes (now (image .entry))) (rowsIn (now (image .entry)) (sought (now (table .entry)) symbols) (term .0 .0)) written (now (rows .entry)) r (now (rows .exit)) ⌝ }
 {
     match typed::term(image, term) {
-        Term::Ident(id) => collect_ident(image, table, symbols, rows, written, term.0, id),
+        Term::Ident(id) => collect_ident(image, table, symbols, env, rows, written, term.0, id),
         Term::Wildcard => written,
         Term::App(id) => {
             let AppTerm { head, args } = typed::app_term(image, id);
-            let after_head = collect_app_head(image, table, symbols, rows, written, head);
-            collect_term_list(image, table, symbols, rows, after_head, args)
+            let after_head = collect_app_head(image, table, symbols, env, rows, written, head);
+            collect_term_list(image, table, symbols, env, rows, after_head, args)
         }
         Term::Member(id) => {
             let TermMember { term, .. } = typed::term_member(image, id);
-            collect_term(image, table, symbols, rows, written, term)
+            collect_term(image, table, symbols, env, rows, written, term)
         }
         // in one arm, because a nest of all three is then walked without a wrong guess
         Term::Dom(_) | Term::Cod(_) | Term::Id(_) => {
             let arg = typed::argument(image, term);
-            collect_term(image, table, symbols, rows, written, arg)
+            collect_term(image, table, symbols, env, rows, written, arg)
         }
         Term::Comp(id) => {
             let CompTerm { first, second } = typed::comp_term(image, id);
-            let after_first = collect_term(image, table, symbols, rows, written, first);
-            collect_term(image, table, symbols, rows, after_first, second)
+            let after_first = collect_term(image, table, symbols, env, rows, written, first);
+            collect_term(image, table, symbols, env, rows, after_first, second)
         }
     }
 }
@@ -395,15 +407,16 @@ fn collect_ident(
     image: &[u8],
     table: &[u32],
     symbols: u32,
+    env: &[u32],
     rows: &mut [u32],
     written: u32,
     node: NodeId,
     id: IdentTermId,
 ) -> u32
-    requires { ⌜ Room (now image) (sought (now table) symbols) (identRows (now image) (sought (now table) symbols) (node .0) (id .0 .0)) written ⌝ }
+    requires { ⌜ (Room (now image) (sought (now table) symbols) (now env) (identRows (now image) (sought (now table) symbols) (node .0) (id .0 .0)) written) × (Asks (now image) (node .0) (id .0 .0)) ⌝ }
     ensures { λ r. ⌜ Appended («image-spec».nodes (now (image .entry))) (identRows (now (image .entry)) (sought (now (table .entry)) symbols) (node .0) (id .0 .0)) written (now (rows .entry)) r (now (rows .exit)) ⌝ }
 {
-    let found = table::at_exit(image, table, symbols, node, id.0);
+    let found = environment::at_exit(image, table, symbols, env, node, id.0);
     if !table::is_var(image, found) {
         return written;
     }
@@ -420,20 +433,21 @@ fn collect_app_head(
     image: &[u8],
     table: &[u32],
     symbols: u32,
+    env: &[u32],
     rows: &mut [u32],
     written: u32,
     head: AppHeadId,
 ) -> u32
-    requires { ⌜ Ready (now image) (sought (now table) symbols) (kindOf appHeadKind) (head .0 .0) written ⌝ }
+    requires { ⌜ Ready (now image) (sought (now table) symbols) (now env) (kindOf appHeadKind) (head .0 .0) written ⌝ }
     ensures { λ r. ⌜ Appended («image-spec».nodes (now (image .entry))) (rowsIn (now (image .entry)) (sought (now (table .entry)) symbols) (head .0 .0)) written (now (rows .entry)) r (now (rows .exit)) ⌝ }
 {
     match typed::app_head(image, head) {
-        AppHead::Ident(id) => collect_ident(image, table, symbols, rows, written, head.0, id),
+        AppHead::Ident(id) => collect_ident(image, table, symbols, env, rows, written, head.0, id),
         AppHead::Member(id) => {
             let AppHeadMember { receiver, names: _ } = typed::app_head_member(image, id);
-            collect_term(image, table, symbols, rows, written, receiver)
+            collect_term(image, table, symbols, env, rows, written, receiver)
         }
-        AppHead::Term(term) => collect_term(image, table, symbols, rows, written, term),
+        AppHead::Term(term) => collect_term(image, table, symbols, env, rows, written, term),
     }
 }
 
@@ -441,11 +455,12 @@ fn collect_term_list(
     image: &[u8],
     table: &[u32],
     symbols: u32,
+    env: &[u32],
     rows: &mut [u32],
     written: u32,
     list: TermListId,
 ) -> u32
-    requires { ⌜ Ready (now image) (sought (now table) symbols) (kindOf termListKind) (list .0 .0) written ⌝ }
+    requires { ⌜ Ready (now image) (sought (now table) symbols) (now env) (kindOf termListKind) (list .0 .0) written ⌝ }
     ensures { λ r. ⌜ Appended («image-spec».nodes (now (image .entry))) (rowsIn (now (image .entry)) (sought (now (table .entry)) symbols) (list .0 .0)) written (now (rows .entry)) r (now (rows .exit)) ⌝ }
 {
     let TermList { terms } = typed::term_list(image, list);
@@ -453,7 +468,7 @@ fn collect_term_list(
     let mut after = written;
     while i < terms.0.count {
         let term = typed::nth_term(image, terms, i);
-        after = collect_term(image, table, symbols, rows, after, term);
+        after = collect_term(image, table, symbols, env, rows, after, term);
         i += 1;
     }
     after
@@ -463,18 +478,19 @@ fn collect_type_expr(
     image: &[u8],
     table: &[u32],
     symbols: u32,
+    env: &[u32],
     rows: &mut [u32],
     written: u32,
     typ: TypeExprId,
 ) -> u32
-    requires { ⌜ Ready (now image) (sought (now table) symbols) (kindOf typeExprKind) (typ .0 .0) written ⌝ }
+    requires { ⌜ Ready (now image) (sought (now table) symbols) (now env) (kindOf typeExprKind) (typ .0 .0) written ⌝ }
     ensures { λ r. ⌜ Appended («image-spec».nodes (now (image .entry))) (rowsIn (now (image .entry)) (sought (now (table .entry)) symbols) (typ .0 .0)) written (now (rows .entry)) r (now (rows .exit)) ⌝ }
 {
     match typed::type_expr(image, typ) {
         TypeExpr::Ambient(_) | TypeExpr::Mor(_) => written,
         TypeExpr::Member(id) => {
             let TermMember { term, .. } = typed::term_member(image, id);
-            collect_term(image, table, symbols, rows, written, term)
+            collect_term(image, table, symbols, env, rows, written, term)
         }
     }
 }
@@ -483,18 +499,19 @@ fn collect_pred_expr(
     image: &[u8],
     table: &[u32],
     symbols: u32,
+    env: &[u32],
     rows: &mut [u32],
     written: u32,
     pred: PredExprId,
 ) -> u32
-    requires { ⌜ Ready (now image) (sought (now table) symbols) (kindOf predExprKind) (pred .0 .0) written ⌝ }
+    requires { ⌜ Ready (now image) (sought (now table) symbols) (now env) (kindOf predExprKind) (pred .0 .0) written ⌝ }
     ensures { λ r. ⌜ Appended («image-spec».nodes (now (image .entry))) (rowsIn (now (image .entry)) (sought (now (table .entry)) symbols) (pred .0 .0)) written (now (rows .entry)) r (now (rows .exit)) ⌝ }
 {
     match typed::pred_expr(image, pred) {
         PredExpr::Ambient(_) => written,
         PredExpr::Member(id) => {
             let TermMember { term, .. } = typed::term_member(image, id);
-            collect_term(image, table, symbols, rows, written, term)
+            collect_term(image, table, symbols, env, rows, written, term)
         }
     }
 }
@@ -507,48 +524,50 @@ pub fn occurrences(image: &[u8], table: &mut [u32], rows: &mut [u32]) -> Rowed
     if code != 0 {
         return Rowed::Refused(code);
     }
-    match scopes::resolve_into(image, table) {
-        Declared::Done(w) => Rowed::Rows(write_rows(image, table, w.symbols, rows)),
+    let mut env = [0u32; environment::WORDS];
+    match scopes::resolve_into(image, table, &mut env) {
+        Declared::Done(w) => Rowed::Rows(write_rows(image, table, w.symbols, &env, rows)),
         Declared::Twice(name, first, second) => Rowed::Twice(name, first, second),
     }
 }
 
 // The rows of all rules in the lent words: a count, then two arrays of N words, unused places 0.
-fn write_rows(image: &[u8], table: &[u32], symbols: u32, rows: &mut [u32]) -> u32
-    requires { ⌜ (Whole (now image) (sought (now table) symbols)) × (rowsLength («image-spec».nodes (now image)) ≤ length (now rows)) ⌝ }
+fn write_rows(image: &[u8], table: &[u32], symbols: u32, env: &[u32], rows: &mut [u32]) -> u32
+    requires { ⌜ (Whole (now image) (sought (now table) symbols) (now env)) × (rowsLength («image-spec».nodes (now image)) ≤ length (now rows)) ⌝ }
     ensures { λ r. ⌜ Wrote («image-spec».nodes (now (image .entry))) (occurrenceRows (now (image .entry)) (sought (now (table .entry)) symbols)) (now (rows .entry)) r (now (rows .exit)) ⌝ }
 {
     rows::begin(rows, ast::node_count(image));
-    let written = collect_module(image, table, symbols, rows);
+    let written = collect_module(image, table, symbols, env, rows);
     rows::finish(rows, written)
 }
 
 // The rows of all rules, in the list's order.
-fn collect_module(image: &[u8], table: &[u32], symbols: u32, rows: &mut [u32]) -> u32
-    requires { ⌜ Whole (now image) (sought (now table) symbols) ⌝ }
+fn collect_module(image: &[u8], table: &[u32], symbols: u32, env: &[u32], rows: &mut [u32]) -> u32
+    requires { ⌜ Whole (now image) (sought (now table) symbols) (now env) ⌝ }
     ensures { λ r. ⌜ Appended («image-spec».nodes (now (image .entry))) (occurrenceRows (now (image .entry)) (sought (now (table .entry)) symbols)) 0 (now (rows .entry)) r (now (rows .exit)) ⌝ }
 {
     let module = ModuleId(NodeId(ast::node_count(image) - 1));
     let Module { decls } = typed::module(image, module);
-    collect_decls(image, table, symbols, rows, 0, decls)
+    collect_decls(image, table, symbols, env, rows, 0, decls)
 }
 
 fn collect_decls(
     image: &[u8],
     table: &[u32],
     symbols: u32,
+    env: &[u32],
     rows: &mut [u32],
     written: u32,
     decls: DeclIds,
 ) -> u32
-    requires { ⌜ ListingAll (now image) (sought (now table) symbols) (decls .0) written ⌝ }
+    requires { ⌜ ListingAll (now image) (sought (now table) symbols) (now env) (decls .0) written ⌝ }
     ensures { λ r. ⌜ Appended («image-spec».nodes (now (image .entry))) (joined (listsOf (now (image .entry)) (sought (now (table .entry)) symbols) (decls .0))) written (now (rows .entry)) r (now (rows .exit)) ⌝ }
 {
     let mut i = 0;
     let mut after = written;
     while i < decls.0.count {
         let decl = typed::nth_decl(image, decls, i);
-        after = collect_decl(image, table, symbols, rows, after, decl);
+        after = collect_decl(image, table, symbols, env, rows, after, decl);
         i += 1;
     }
     after
@@ -558,22 +577,23 @@ fn collect_decl(
     image: &[u8],
     table: &[u32],
     symbols: u32,
+    env: &[u32],
     rows: &mut [u32],
     written: u32,
     decl: DeclId,
 ) -> u32
-    requires { ⌜ Listing (now image) (sought (now table) symbols) (kindOf declKind) (decl .0 .0) written ⌝ }
+    requires { ⌜ Listing (now image) (sought (now table) symbols) (now env) (kindOf declKind) (decl .0 .0) written ⌝ }
     ensures { λ r. ⌜ Appended («image-spec».nodes (now (image .entry))) (joined (listsIn (now (image .entry)) (sought (now (table .entry)) symbols) (decl .0 .0))) written (now (rows .entry)) r (now (rows .exit)) ⌝ }
 {
     match typed::decl(image, decl) {
         Decl::Type(_) | Decl::Pred(_) | Decl::Func(_) | Decl::Const(_) | Decl::Enum(_) => written,
         Decl::Rule(id) => {
             let RuleDecl { body, .. } = typed::rule_decl(image, id);
-            collect_stmts(image, table, symbols, rows, written, body)
+            collect_stmts(image, table, symbols, env, rows, written, body)
         }
         Decl::Model(id) => {
             let ModelDecl { body, .. } = typed::model_decl(image, id);
-            collect_decls(image, table, symbols, rows, written, body)
+            collect_decls(image, table, symbols, env, rows, written, body)
         }
     }
 }

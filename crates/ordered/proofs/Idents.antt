@@ -95,7 +95,7 @@ module _ (img : List ℕ) where
   member-ends {d = d} {e} {f} p q q2 a w w2 =
       let o = memberOf img p q q2 in
       ends-left (e .scope) (p .is .below) (quiet img refl (p .is)) (o .whole) w2
-      (ends-left (f .scope) (o .second .below) (ident-quiet (o .second)) (ap (λ (v : Walked). marked img d (v .scope) v) (sym (a .same)) ) w (record { same = refl; stands = a .stands }))
+      (ends-left (f .scope) (o .second .below) (ident-quiet (o .second)) (ap (λ (v : Walked). marked img d (v .scope) v) (sym (a .same))) w (record { same = refl; stands = a .stands }))
 
   pub head-member-ends : {n c : ℕ} {l : NodeList} {e f g h : Walked} {env : List ℕ} → Ready img (kindOf 16) n e → WordList img n c l → Ends img (over img c e) f env
       → g ≡ overAll img names l f → h ≡ unmarked img n g → Ends img (over img n e) h env

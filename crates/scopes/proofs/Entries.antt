@@ -281,6 +281,10 @@ module _ (img : List ℕ) where
       let is : Is img (kindBy (outer signature) ((kindOf (kindAt img n)) .fields)) n = record { accepted = s .accepted; below = s .below; kind = ap (λ (c : Class). kindBy c ((kindOf (kindAt img n)) .fields)) (s .class) } in
       subst (λ (u : Tree). (enter img u e ≡ enterName img n (marked img n (e .scope) e)) × (ent u ≡ 1)) (sym (tree-of img is)) (and-nothing img (enterName img n (marked img n (e .scope) e)), refl)
 
+  pub sig-enters : {n : ℕ} (e : Walked) {f : Walked} {us en vs : List ℕ} {r : Declared} → Signature img n → f ≡ marked img n (e .scope) e → Enters img (enterName img n f) (f .table .words) r us en vs
+      → Enters img (enter img (treeAt img n) e) (e .table .words) r us en vs
+  sig-enters {n} e s q h = enters-as (ap (enterName img n) q ∙ sym ((sig-enter e s) .0)) (past-marked n (e .scope) e q (s .below)) h
+
   pub model-enter : {n : ℕ} (e : Walked) → Is img (kindOf modelDeclKind) n → (enter img (treeAt img n) e ≡ enterName img n e) × (ent (treeAt img n) ≡ 1)
   unfolding enter declared recorded enterNames markAll nodeOf kindOf
   model-enter {n} e is = subst (λ (u : Tree). (enter img u e ≡ enterName img n e) × (ent u ≡ 1)) (sym (tree-of img is)) (and-nothing img (enterName img n e), refl)
@@ -307,6 +311,10 @@ module _ (img : List ℕ) where
         r .0 ∙ ap (λ (y : ℕ). enterNames img (ruleNode (ruleShape n y) n) (marked img n (e .scope) e)) (sym q) ∙ and-nothing img (enterName img n (marked img n (e .scope) e)),
         ap length (r .1 ∙ ap (λ (y : ℕ). ruleNode (ruleShape n y) n) (sym q)),
       )
+
+  pub rule-enters : {n x : ℕ} (e : Walked) {f : Walked} {us en vs : List ℕ} {r : Declared} → Is img (kindOf ruleDeclKind) n → suc x ≡ field img n 0 → f ≡ marked img n (e .scope) e
+      → Enters img (enterName img n f) (f .table .words) r us en vs → Enters img (enter img (treeAt img n) e) (e .table .words) r us en vs
+  rule-enters {n} e is w q h = enters-as (ap (enterName img n) q ∙ sym ((rule-named e is w) .0)) (past-marked n (e .scope) e q (is .below)) h
 
   pub rule-entering : {seen env : List ℕ} {n x : ℕ} {e : Walked} → Is img (kindOf ruleDeclKind) n → suc x ≡ field img n 0 → Entering img seen env (ent (treeAt img n)) e → Entering img seen env 1 e
   rule-entering {e = e} is q p = entering-less (let z = (rule-named e is q) .1 in omega arith) p

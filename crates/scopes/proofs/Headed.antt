@@ -1,5 +1,5 @@
--- The table with its three counts in front: lookups, entries and exits are as before, so is the order of its rows, and what was noted
--- tells the same; and what a call finds in it.
+-- The table with its three counts in front: lookups, entries and exits are as before, and what was noted tells the same; and what a
+-- call finds in it.
 use mathlib.Core.Path.{_≡_, refl, sym, ap, subst, _∙_}
 use mathlib.Core.List.{List}
 use mathlib.Core.Option.{some}
@@ -8,7 +8,7 @@ use native.Mathlib.Omega.{arith}
 use Rattle.ast.specs.Image.{nodes}
 use Rattle.ast.specs.Tests.{verdict}
 use Rattle.table.specs.Layout.{entryPlace, exitPlace, parentPlace, scopePlace, nodePlace}
-use Rattle.table.specs.Rising.{nodeAt, Sorted}
+use Rattle.table.specs.Rising.{nodeAt}
 use Rattle.table.specs.State.{Walked}
 use Rattle.table.specs.Table.{Table, find, lookup, entryAt, exitAt}
 use Rattle.table.specs.Values.{tableOf}
@@ -23,7 +23,7 @@ use Rattle.scopes.specs.declared.Declared.{Declared}
 use Rattle.scopes.specs.declared.Declared.the-variants.{Done}
 use Rattle.scopes.proofs.Calls.{Went, went}
 use Rattle.scopes.proofs.Namings.{symbol-below}
-use Rattle.scopes.proofs.Resolving.{table-accepted, walked-ended, headed-word, headed-length}
+use Rattle.scopes.proofs.Resolving.{table-accepted, walked-ended, headed-word}
 use Rattle.table.proofs.Agreed.{lookup-agree}
 
 module _ (img : List ℕ) (t : Table) where
@@ -59,22 +59,9 @@ module _ (img : List ℕ) (t : Table) where
         exits = λ n x l a p. subst (λ (s : ℕ). Tells img (counted img t) (notedExit env n) (lookup img (counted img t) s x)) (headed-exit n) (headed-tells (exitAt img (t .words) n) x (h .exits n x l a (let z = headed-exit n in omega arith)));
       }
 
-  pub headed-sorted : Sorted (nodes img) (t .symbols) (t .words) → Sorted (nodes img) (t .symbols) (headed img t)
-  headed-sorted s =
-      record {
-        within = s .within;
-        long = (let a = headed-length img t in let b = s .long in omega arith);
-        rises = λ i j l k.
-            let a = headed-word img t (scopePlace (nodes img) i) (omega arith) in
-            let b = headed-word img t (scopePlace (nodes img) j) (omega arith) in
-            let c = s .rises i j l k in
-            omega arith;
-      }
-
 -- what a call finds in a table that it has filled
 pub record FilledTable (img : List ℕ) (t : Table) : Type 0 where
   pub accepted : verdict img ≡ 0
-  pub rising : Sorted (nodes img) (t .symbols) (t .words)
   pub symbols : (j : ℕ) → j < t .symbols → nodeAt (nodes img) (t .words) j < nodes img
 
 module _ (img tab : List ℕ) (passes : testTable img tab ≡ 0) where
@@ -83,7 +70,6 @@ module _ (img tab : List ℕ) (passes : testTable img tab ≡ 0) where
       let d = walked-ended img tab passes e h in
       record {
         accepted = table-accepted img tab passes;
-        rising = headed-sorted img (e .table) (d .kept .rising);
         symbols = λ j l. let a = headed-word img (e .table) (nodePlace (nodes img) j) (omega arith) in let b = symbol-below img _ (d .good .symbols j l) in omega arith;
       }
 

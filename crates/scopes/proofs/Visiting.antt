@@ -24,7 +24,7 @@ use Rattle.table.specs.declared.Walked.{Walked as InCode}
 use Rattle.ast.specs.declared.NodeId.{NodeId}
 use Rattle.environment.specs.Stands.{Stands, Opens, Path}
 use Rattle.ordered.specs.Walk.{occurs, walk, walkSeq}
-use Rattle.ordered.specs.Promises.{over, inside, rest, Room, Ready, ReadyRun}
+use Rattle.ordered.specs.Promises.{over, inside, rest, Ends, Room, Ready, ReadyRun}
 use Rattle.ordered.proofs.Paths.{seq-path}
 use Rattle.table.proofs.Kept.{past}
 use Rattle.ordered.proofs.Lists.{rest-start}
@@ -109,6 +109,9 @@ module _ (img : List ℕ) where
       let w = sig-one-in e (p .is) in
       subst (λ (x : ℕ). SigOne k n x e) (sym q) (record { first = record { is = child-is img (p .is) h; room = subst (Room img) w (p .room) }; inner = w })
 
+  pub sig-one-walked : {k n d : ℕ} {e f : Walked} → Inside img (kindBy (outer signature) (name ∷ child k ∷ [])) n e → d ≡ field img n 1 → f ≡ over img d e → f ≡ inside img occurs n e
+  sig-one-walked p q h = h ∙ sym ((sigOne p q) .inner)
+
   pub record SigTwo (n c d : ℕ) (e : Walked) : Type 0 where
     pub first : Ready img (kindOf argDeclListKind) c e
     pub second : Ready img (kindOf typeExprKind) d (over img c e)
@@ -147,6 +150,10 @@ module _ (img : List ℕ) where
       at-list img (RuleRun n e) a
       (record { run = record { run = run-tail img (p .is) refl refl; room = subst (Room img) w (p .room) }; inner = w })
 
+  -- what was walked and put back
+  pub put-ends : (n : ℕ) (e : Walked) {f g : Walked} {env : List ℕ} → (g ≡ back img (e .scope) f) × Stands img g env → f ≡ inside img occurs n e → Ends img (back img (e .scope) (inside img occurs n e)) g env
+  put-ends n e (q, s) h = record { same = q ∙ ap (back img (e .scope)) h; stands = s }
+
   -- the walk back in the scope of `current`
   pub dropped-is : (r current after : InCode) (ws : List ℕ) → (r .scope ≡ current .scope) × (r .scopes ≡ after .scopes) × (r .symbols ≡ after .symbols)
       → walkedOf r ws ≡ back img (current .scope .0) (walkedOf after ws)
@@ -166,6 +173,10 @@ module _ (img : List ℕ) where
       let u = p .scopes in
       let v = p .symbols in
       record { same = q; stands = stands-done s q; passed = t .passed (record { scopes = omega arith; symbols = omega arith }) }
+
+  pub ended-visits : (n : ℕ) {e f : Walked} {env vs : List ℕ} (w : InCode) → Fits img (size (treeAt img n)) (vis (treeAt img n)) e → visit img (treeAt img n) e ≡ done f → Ends img f (walkedOf w vs) env
+      → Visits img (visit img (treeAt img n) e) (e .table .words) (Done w) env vs
+  ended-visits n w p q h = done-visits n w p (ap done (h .same) ∙ sym q) (h .stands)
 
   -- the same, told of another declaration, and from an earlier table
   pub visits-from : {l k : Listed} {us ws env vs : List ℕ} {r : Declared} → l ≡ k → drop (tableLength (nodes img)) us ≡ drop (tableLength (nodes img)) ws

@@ -56,8 +56,8 @@ use Rattle.typed.proofs.nth_term.Reads as nth-term-reads
 use Rattle.typed.proofs.term.Reads as term-reads
 use Rattle.typed.proofs.term_list.Reads as term-list-reads
 use Rattle.typed.proofs.term_member.Reads as term-member-reads
-use Rattle.ordered.proofs.+walk_app_head+walk_app_head_member+walk_app_term+walk_one_term+walk_term+walk_term_list+walk_term_member+walk_terms+walk_two_terms.{ statement, }
-use Rattle.ordered.proofs.+walk_app_head+walk_app_head_member+walk_app_term+walk_one_term+walk_term+walk_term_list+walk_term_member+walk_terms+walk_two_terms.Tie.{ close, }
+use Rattle.ordered.proofs.+walk_app_head+walk_app_head_member+walk_app_term+walk_one_term+walk_term+walk_term_list+walk_term_member+walk_terms+walk_two_terms.{statement}
+use Rattle.ordered.proofs.+walk_app_head+walk_app_head_member+walk_app_term+walk_one_term+walk_term+walk_term_list+walk_term_member+walk_terms+walk_two_terms.Tie.{close}
 
 abbrev μ-walk-app-head : Measures 3 walk-app-head-kinds.ps ℕ
 μ-walk-app-head κs a = 2 * a .1 .1 .1 .1 .0 .0 .0 + 1

@@ -1,14 +1,13 @@
-use mathlib.Core.Path.{_≡_, refl, sym, ap, _∙_}
+use mathlib.Core.Path.{_≡_, refl, sym, _∙_}
 use native.Mathlib.Omega.{arith}
 use Prim.Native.Nat.{ℕ, _+_, _*_, _-_, _<_}
 use lib.ListN.{length}
 use borrow.Author.Needs.{needs}
 use Rattle.ast.specs.Kinds.{kindOf}
 use Rattle.table.specs.Values.{walkedOf}
-use Rattle.scopes.specs.Walk.{done}
 use Rattle.scopes.proofs.Decls.{decl-case}
 use Rattle.scopes.proofs.Entries.{decl-visited}
-use Rattle.scopes.proofs.Visiting.{VisitLeft, visit-begin, visitItem, visit-ended, decl-fits, sig-inside, rule-inside, type-visit, sig-visit, rule-visit, done-visits, visits-as, list-enter, listVisit, list-stop, dropped-is}
+use Rattle.scopes.proofs.Visiting.{VisitLeft, visit-begin, visitItem, visit-ended, decl-fits, sig-inside, rule-inside, type-visit, sig-visit, rule-visit, done-visits, ended-visits, visits-as, list-enter, listVisit, list-stop, dropped-is}
 use Rattle.scopes.proofs.Models.{model-room, modelVisit, opened-is}
 use borrow.Fn.Kinds.{In}
 use borrow.Fn.PlainCycle.{Measures, is, falls, and}
@@ -160,7 +159,7 @@ visit-decl-same-length-2 t c = search needs
 
 visit-decl-returns-2 : (t : ℕ) → visit-decl-lts.Need-returns-2 (visit-decl-claims t) (visit-decl-at t) visit-decl.Post
 unfolding kindOf
-visit-decl-returns-2 t c = let o = decl-case _ (c .before .before .before .before .before .before .before .before .before .before .before .before .before .before .before .pre .1 .0 .is) (c .before .before .before .before .before .before .before .before .before .before .decl .ensures) _ (c .before .before .before .before .before .before .before .before .id .given .1) in done-visits _ _ _ (c .before .before .before .before .before .before .before .before .before .before .before .before .before .before .before .pre .1 .0 .fits) (ap done (c .before .before .before .before .visit-pred-decl .ensures .same) ∙ sym (decl-visited _ o _ ∙ sig-visit _ _ (o .is))) (c .before .before .before .before .visit-pred-decl .ensures .stands)
+visit-decl-returns-2 t c = let o = decl-case _ (c .before .before .before .before .before .before .before .before .before .before .before .before .before .before .before .pre .1 .0 .is) (c .before .before .before .before .before .before .before .before .before .before .decl .ensures) _ (c .before .before .before .before .before .before .before .before .id .given .1) in ended-visits _ _ _ (c .before .before .before .before .before .before .before .before .before .before .before .before .before .before .before .pre .1 .0 .fits) (decl-visited _ o _ ∙ sig-visit _ _ (o .is)) (c .before .before .before .before .visit-pred-decl .ensures)
 
 visit-decl-same-length-3 : (t : ℕ) → visit-decl-lts.Need-same-length-3 (visit-decl-claims t) (visit-decl-at t) visit-decl.Post
 visit-decl-same-length-3 t c = search needs
@@ -170,7 +169,7 @@ visit-decl-same-length-4 t c = search needs
 
 visit-decl-returns-3 : (t : ℕ) → visit-decl-lts.Need-returns-3 (visit-decl-claims t) (visit-decl-at t) visit-decl.Post
 unfolding kindOf
-visit-decl-returns-3 t c = let o = decl-case _ (c .before .before .before .before .before .before .before .before .before .before .before .before .before .before .before .pre .1 .0 .is) (c .before .before .before .before .before .before .before .before .before .before .decl .ensures) _ (c .before .before .before .before .before .before .before .before .id2 .given .1) in done-visits _ _ _ (c .before .before .before .before .before .before .before .before .before .before .before .before .before .before .before .pre .1 .0 .fits) (ap done (c .before .before .before .before .visit-func-decl .ensures .same) ∙ sym (decl-visited _ o _ ∙ sig-visit _ _ (o .is))) (c .before .before .before .before .visit-func-decl .ensures .stands)
+visit-decl-returns-3 t c = let o = decl-case _ (c .before .before .before .before .before .before .before .before .before .before .before .before .before .before .before .pre .1 .0 .is) (c .before .before .before .before .before .before .before .before .before .before .decl .ensures) _ (c .before .before .before .before .before .before .before .before .id2 .given .1) in ended-visits _ _ _ (c .before .before .before .before .before .before .before .before .before .before .before .before .before .before .before .pre .1 .0 .fits) (decl-visited _ o _ ∙ sig-visit _ _ (o .is)) (c .before .before .before .before .visit-func-decl .ensures)
 
 visit-decl-same-length-5 : (t : ℕ) → visit-decl-lts.Need-same-length-5 (visit-decl-claims t) (visit-decl-at t) visit-decl.Post
 visit-decl-same-length-5 t c = search needs
@@ -180,7 +179,7 @@ visit-decl-same-length-6 t c = search needs
 
 visit-decl-returns-4 : (t : ℕ) → visit-decl-lts.Need-returns-4 (visit-decl-claims t) (visit-decl-at t) visit-decl.Post
 unfolding kindOf
-visit-decl-returns-4 t c = let o = decl-case _ (c .before .before .before .before .before .before .before .before .before .before .before .before .before .before .before .pre .1 .0 .is) (c .before .before .before .before .before .before .before .before .before .before .decl .ensures) _ (c .before .before .before .before .before .before .before .before .id3 .given .1) in done-visits _ _ _ (c .before .before .before .before .before .before .before .before .before .before .before .before .before .before .before .pre .1 .0 .fits) (ap done (c .before .before .before .before .visit-const-decl .ensures .same) ∙ sym (decl-visited _ o _ ∙ sig-visit _ _ (o .is))) (c .before .before .before .before .visit-const-decl .ensures .stands)
+visit-decl-returns-4 t c = let o = decl-case _ (c .before .before .before .before .before .before .before .before .before .before .before .before .before .before .before .pre .1 .0 .is) (c .before .before .before .before .before .before .before .before .before .before .decl .ensures) _ (c .before .before .before .before .before .before .before .before .id3 .given .1) in ended-visits _ _ _ (c .before .before .before .before .before .before .before .before .before .before .before .before .before .before .before .pre .1 .0 .fits) (decl-visited _ o _ ∙ sig-visit _ _ (o .is)) (c .before .before .before .before .visit-const-decl .ensures)
 
 visit-decl-same-length-7 : (t : ℕ) → visit-decl-lts.Need-same-length-7 (visit-decl-claims t) (visit-decl-at t) visit-decl.Post
 visit-decl-same-length-7 t c = search needs
@@ -189,7 +188,7 @@ visit-decl-same-length-8 : (t : ℕ) → visit-decl-lts.Need-same-length-8 (visi
 visit-decl-same-length-8 t c = search needs
 
 visit-decl-returns-5 : (t : ℕ) → visit-decl-lts.Need-returns-5 (visit-decl-claims t) (visit-decl-at t) visit-decl.Post
-visit-decl-returns-5 t c = let o = decl-case _ (c .before .before .before .before .before .before .before .before .before .before .before .before .before .before .before .pre .1 .0 .is) (c .before .before .before .before .before .before .before .before .before .before .decl .ensures) _ (c .before .before .before .before .before .before .before .before .id4 .given .1) in done-visits _ _ _ (c .before .before .before .before .before .before .before .before .before .before .before .before .before .before .before .pre .1 .0 .fits) (ap done (c .before .before .before .before .visit-rule-decl .ensures .same) ∙ sym (decl-visited _ o _ ∙ rule-visit _ _ (o .is))) (c .before .before .before .before .visit-rule-decl .ensures .stands)
+visit-decl-returns-5 t c = let o = decl-case _ (c .before .before .before .before .before .before .before .before .before .before .before .before .before .before .before .pre .1 .0 .is) (c .before .before .before .before .before .before .before .before .before .before .decl .ensures) _ (c .before .before .before .before .before .before .before .before .id4 .given .1) in ended-visits _ _ _ (c .before .before .before .before .before .before .before .before .before .before .before .before .before .before .before .pre .1 .0 .fits) (decl-visited _ o _ ∙ rule-visit _ _ (o .is)) (c .before .before .before .before .visit-rule-decl .ensures)
 
 visit-decl-same-length-9 : (t : ℕ) → visit-decl-lts.Need-same-length-9 (visit-decl-claims t) (visit-decl-at t) visit-decl.Post
 visit-decl-same-length-9 t c = search needs
@@ -198,7 +197,7 @@ visit-decl-same-length-10 : (t : ℕ) → visit-decl-lts.Need-same-length-10 (vi
 visit-decl-same-length-10 t c = search needs
 
 visit-decl-returns-6 : (t : ℕ) → visit-decl-lts.Need-returns-6 (visit-decl-claims t) (visit-decl-at t) visit-decl.Post
-visit-decl-returns-6 t c = let o = decl-case _ (c .before .before .before .before .before .before .before .before .before .before .before .before .before .before .before .pre .1 .0 .is) (c .before .before .before .before .before .before .before .before .before .before .decl .ensures) _ (c .before .before .before .before .before .before .before .before .id5 .given .1) in done-visits _ _ _ (c .before .before .before .before .before .before .before .before .before .before .before .before .before .before .before .pre .1 .0 .fits) (c .before .before .before .before .visit-enum-decl .ensures .0 ∙ sym (decl-visited _ o _)) (c .before .before .before .before .visit-enum-decl .ensures .1)
+visit-decl-returns-6 t c = let o = decl-case _ (c .before .before .before .before .before .before .before .before .before .before .before .before .before .before .before .pre .1 .0 .is) (c .before .before .before .before .before .before .before .before .before .before .decl .ensures) _ (c .before .before .before .before .before .before .before .before .id5 .given .1) in visits-as _ (sym (decl-visited _ o _)) (done-visits _ _ _ (decl-fits _ o (c .before .before .before .before .before .before .before .before .before .before .before .before .before .before .before .pre .1 .0 .fits)) (c .before .before .before .before .visit-enum-decl .ensures .0) (c .before .before .before .before .visit-enum-decl .ensures .1))
 
 visit-decl-same-length-11 : (t : ℕ) → visit-decl-lts.Need-same-length-11 (visit-decl-claims t) (visit-decl-at t) visit-decl.Post
 visit-decl-same-length-11 t c = search needs

@@ -1,7 +1,6 @@
 use mathlib.Core.Path.{sym, ap, _∙_}
 use Rattle.typed.specs.Nodes.{nameWord}
-use Rattle.scopes.specs.Walk.{enterName}
-use Rattle.scopes.proofs.Entries.{rule-quiet, entering-marked, past-marked, enters-as, rule-passes, rule-named, rule-entering, rule-name}
+use Rattle.scopes.proofs.Entries.{rule-quiet, entering-marked, rule-passes, rule-enters, rule-entering, rule-name}
 use borrow.Author.Needs.{needs}
 use Rattle.scopes.proofs.enter_rule.Statement.{statement}
 use Rattle.scopes.proofs.enter_rule.Tie as tie
@@ -31,7 +30,7 @@ same-length-3 : tie.Need-same-length-3
 same-length-3 c = search needs
 
 returns : tie.Need-returns
-returns c = let w = sym (ap nameWord (c .before .before .before .before .before .before .before .before .before .before .before .name .given .1)) ∙ c .before .before .before .before .before .before .before .before .before .before .before .before .before .rule-decl .ensures .first in enters-as _ (ap (enterName _ _) (c .before .before .before .before .before .before .before .before .before .before .before .before .before .before .before .before .insert-unordered .ensures) ∙ sym ((rule-named _ _ (c .before .before .before .before .before .before .before .before .before .before .before .before .before .before .before .before .before .before .before .before .before .before .pre .0) w) .0)) (past-marked _ _ _ _ (c .before .before .before .before .before .before .before .before .before .before .before .before .before .before .before .before .insert-unordered .ensures) (c .before .before .before .before .before .before .before .before .before .before .before .before .before .before .before .before .before .before .before .before .before .before .pre .0 .below)) (c .before .before .before .before .before .before .insert-decl-symbol .ensures)
+returns c = rule-enters _ _ (c .before .before .before .before .before .before .before .before .before .before .before .before .before .before .before .before .before .before .before .before .before .before .pre .0) (sym (ap nameWord (c .before .before .before .before .before .before .before .before .before .before .before .name .given .1)) ∙ c .before .before .before .before .before .before .before .before .before .before .before .before .before .rule-decl .ensures .first) (c .before .before .before .before .before .before .before .before .before .before .before .before .before .before .before .before .insert-unordered .ensures) (c .before .before .before .before .before .before .insert-decl-symbol .ensures)
 
 same-length-4 : tie.Need-same-length-4
 same-length-4 c = search needs

@@ -1,6 +1,4 @@
-use mathlib.Core.Path.{sym, ap, _∙_}
-use Rattle.scopes.specs.Walk.{enterName}
-use Rattle.scopes.proofs.Entries.{sig-quiet, entering-marked, past-marked, enters-as, sig-enter}
+use Rattle.scopes.proofs.Entries.{sig-quiet, entering-marked, sig-enters}
 use borrow.Author.Needs.{needs}
 use Rattle.scopes.proofs.enter_signature.Statement.{statement}
 use Rattle.scopes.proofs.enter_signature.Tie as tie
@@ -21,7 +19,7 @@ same-length-3 : tie.Need-same-length-3
 same-length-3 c = search needs
 
 returns : tie.Need-returns
-returns c = enters-as _ (ap (enterName _ _) (c .before .before .before .before .before .before .before .before .before .before .before .before .insert-unordered .ensures) ∙ sym ((sig-enter _ _ (c .before .before .before .before .before .before .before .before .before .before .before .before .before .before .before .before .before .before .pre .0)) .0)) (past-marked _ _ _ _ (c .before .before .before .before .before .before .before .before .before .before .before .before .insert-unordered .ensures) (c .before .before .before .before .before .before .before .before .before .before .before .before .before .before .before .before .before .before .pre .0 .below)) (c .before .before .before .before .before .before .insert-decl-symbol .ensures)
+returns c = sig-enters _ _ (c .before .before .before .before .before .before .before .before .before .before .before .before .before .before .before .before .before .before .pre .0) (c .before .before .before .before .before .before .before .before .before .before .before .before .insert-unordered .ensures) (c .before .before .before .before .before .before .insert-decl-symbol .ensures)
 
 pub enter-signature-spec : {M : Type 1} → statement M
 enter-signature-spec =

@@ -1,6 +1,4 @@
-use mathlib.Core.Path.{sym, ap, _∙_}
-use Rattle.table.specs.State.{back}
-use Rattle.scopes.proofs.Visiting.{sigOne, inside-path}
+use Rattle.scopes.proofs.Visiting.{sigOne, sig-one-walked, inside-path, put-ends}
 use borrow.Author.Needs.{needs}
 use Rattle.scopes.proofs.visit_const_decl.Statement.{statement}
 use Rattle.scopes.proofs.visit_const_decl.Tie as tie
@@ -12,7 +10,7 @@ walk-type-expr-requires : tie.Need-walk-type-expr-requires
 walk-type-expr-requires c κs = ((sigOne _ (c .before .before .before .before .before .before .before .pre .0) (c .before .before .before .const-decl .ensures .second)) .first, c .before .before .before .before .before .before .before .pre .1)
 
 put-back-requires : tie.Need-put-back-requires
-put-back-requires c κs = (c .before .before .before .before .before .before .walk-type-expr .ensures .stands, inside-path _ (c .before .before .before .before .before .before .before .before .before .before .before .before .before .before .pre .0) (c .before .before .before .before .before .before .before .before .before .before .before .before .before .before .pre .1) (c .before .before .before .before .before .before .walk-type-expr .ensures .same ∙ sym ((sigOne _ (c .before .before .before .before .before .before .before .before .before .before .before .before .before .before .pre .0) (c .before .before .before .before .before .before .before .before .before .before .const-decl .ensures .second)) .inner)))
+put-back-requires c κs = (c .before .before .before .before .before .before .walk-type-expr .ensures .stands, inside-path _ (c .before .before .before .before .before .before .before .before .before .before .before .before .before .before .pre .0) (c .before .before .before .before .before .before .before .before .before .before .before .before .before .before .pre .1) (sig-one-walked _ (c .before .before .before .before .before .before .before .before .before .before .before .before .before .before .pre .0) (c .before .before .before .before .before .before .before .before .before .before .const-decl .ensures .second) (c .before .before .before .before .before .before .walk-type-expr .ensures .same)))
 
 same-length : tie.Need-same-length
 same-length c = search needs
@@ -21,7 +19,7 @@ same-length-2 : tie.Need-same-length-2
 same-length-2 c = search needs
 
 returns : tie.Need-returns
-returns c = record { same = c .before .before .put-back .ensures .0 ∙ ap (back (c .before .before .before .before .before .before .before .before .before .before .before .before .before .before .before .before .before .args .image .now) _) (c .before .before .before .before .before .before .before .before .before .walk-type-expr .ensures .same ∙ sym ((sigOne _ (c .before .before .before .before .before .before .before .before .before .before .before .before .before .before .before .before .before .pre .0) (c .before .before .before .before .before .before .before .before .before .before .before .before .before .const-decl .ensures .second)) .inner)); stands = c .before .before .put-back .ensures .1 }
+returns c = put-ends _ _ _ (c .before .before .put-back .ensures) (sig-one-walked _ (c .before .before .before .before .before .before .before .before .before .before .before .before .before .before .before .before .before .pre .0) (c .before .before .before .before .before .before .before .before .before .before .before .before .before .const-decl .ensures .second) (c .before .before .before .before .before .before .before .before .before .walk-type-expr .ensures .same))
 
 pub visit-const-decl-spec : {M : Type 1} → statement M
 visit-const-decl-spec =

@@ -1,12 +1,10 @@
-use mathlib.Core.Path.{_≡_, refl, sym, ap, _∙_}
+use mathlib.Core.Path.{_≡_, refl, sym, _∙_}
 use native.Mathlib.Omega.{arith}
 use Prim.Native.Nat.{_-_}
 use lib.ListN.{length}
 use Rattle.ast.specs.Kinds.{kindOf}
-use Rattle.table.specs.State.{back}
 use Rattle.table.specs.Values.{walkedOf}
-use Rattle.scopes.specs.Walk.{done}
-use Rattle.scopes.proofs.Visiting.{VisitLeft, visit-begin, visitItem, enumVisit, sig-inside, sig-visit, sigOne, inside-path, done-visits, visit-ended}
+use Rattle.scopes.proofs.Visiting.{VisitLeft, visit-begin, visitItem, enumVisit, sig-inside, sig-visit, sigOne, sig-one-walked, inside-path, put-ends, ended-visits, visit-ended}
 use Rattle.scopes.proofs.visit_enum_decl.Statement.{statement}
 use Rattle.scopes.proofs.visit_enum_decl.Tie as tie
 use borrow.Author.Needs.{needs}
@@ -35,7 +33,7 @@ walk-arg-decl-list-requires c κs = let o = visitItem _ ((enumVisit _ (c .before
 
 put-back-requires : tie.Need-put-back-requires Inv-loop μ-loop
 unfolding kindOf
-put-back-requires c κs = let o = visitItem _ ((enumVisit _ (c .before .before .before .before .before .before .before .before .before .before .before .before .before .before .before .before .before .before .before .before .before .pre .0) (c .before .before .before .before .before .before .before .before .before .before .before .before .before .before .before .before .before .enum-decl .ensures .list)) .run) (c .before .before .before .before .before .before .before .before .before .before .before .before .before .before .before .loop .inv .1) (c .before .before .before .before .before .before .before .before .before .before .before .before .before .if1 .taken) (c .before .before .before .before .before .before .before .before .before .before .before .before .nth-ctor .ensures) in let p = sig-inside _ (o .ready .is) (o .ready .fits) in (c .before .before .before .before .before .before .before .walk-arg-decl-list .ensures .stands, inside-path _ p (c .before .before .before .before .before .before .before .before .before .before .before .before .before .before .before .loop .inv .1 .stands) (c .before .before .before .before .before .before .before .walk-arg-decl-list .ensures .same ∙ sym ((sigOne _ p (c .before .before .before .before .before .before .before .before .before .before .before .ctor-decl .ensures .second)) .inner)))
+put-back-requires c κs = let o = visitItem _ ((enumVisit _ (c .before .before .before .before .before .before .before .before .before .before .before .before .before .before .before .before .before .before .before .before .before .pre .0) (c .before .before .before .before .before .before .before .before .before .before .before .before .before .before .before .before .before .enum-decl .ensures .list)) .run) (c .before .before .before .before .before .before .before .before .before .before .before .before .before .before .before .loop .inv .1) (c .before .before .before .before .before .before .before .before .before .before .before .before .before .if1 .taken) (c .before .before .before .before .before .before .before .before .before .before .before .before .nth-ctor .ensures) in let p = sig-inside _ (o .ready .is) (o .ready .fits) in (c .before .before .before .before .before .before .before .walk-arg-decl-list .ensures .stands, inside-path _ p (c .before .before .before .before .before .before .before .before .before .before .before .before .before .before .before .loop .inv .1 .stands) (sig-one-walked _ p (c .before .before .before .before .before .before .before .before .before .before .before .ctor-decl .ensures .second) (c .before .before .before .before .before .before .before .walk-arg-decl-list .ensures .same)))
 
 add-i : tie.Need-add-i Inv-loop μ-loop
 add-i c = let b = (enumVisit _ (c .before .before .before .before .before .before .before .before .before .before .before .before .before .before .before .before .before .before .before .before .before .before .before .before .pre .0) (c .before .before .before .before .before .before .before .before .before .before .before .before .before .before .before .before .before .before .before .before .enum-decl .ensures .list)) .run .run .short in let t = c .before .before .before .before .before .before .before .before .before .before .before .before .before .before .before .before .if1 .taken in omega arith
@@ -45,7 +43,7 @@ loop-less c = search needs
 
 loop-again : tie.Need-loop-again Inv-loop μ-loop
 unfolding kindOf
-loop-again c = let o = visitItem _ ((enumVisit _ (c .before .before .before .before .before .before .before .before .before .before .before .before .before .before .before .before .before .before .before .before .before .before .before .before .pre .0) (c .before .before .before .before .before .before .before .before .before .before .before .before .before .before .before .before .before .before .before .before .enum-decl .ensures .list)) .run) (c .before .before .before .before .before .before .before .before .before .before .before .before .before .before .before .before .before .before .loop .inv .1) (c .before .before .before .before .before .before .before .before .before .before .before .before .before .before .before .before .if1 .taken) (c .before .before .before .before .before .before .before .before .before .before .before .before .before .before .before .nth-ctor .ensures) in let p = sig-inside _ (o .ready .is) (o .ready .fits) in (c .before .before .put-back .kept .1 .1 .0 ∙ c .before .before .before .before .before .before .before .before .before .before .walk-arg-decl-list .kept .1 .1 .0 ∙ c .before .before .before .before .before .before .before .before .before .before .before .before .before .before .before .before .before .before .loop .inv .0, o .more _ refl (done-visits _ _ _ (o .ready .fits) (ap done (c .before .before .put-back .ensures .0 ∙ ap (back (c .before .before .before .before .before .before .before .before .before .before .before .before .before .before .before .before .before .before .before .before .before .before .before .before .args .image .now) _) (c .before .before .before .before .before .before .before .before .before .before .walk-arg-decl-list .ensures .same ∙ sym ((sigOne _ p (c .before .before .before .before .before .before .before .before .before .before .before .before .before .before .ctor-decl .ensures .second)) .inner))) ∙ sym (sig-visit _ _ (o .ready .is))) (c .before .before .put-back .ensures .1)))
+loop-again c = let o = visitItem _ ((enumVisit _ (c .before .before .before .before .before .before .before .before .before .before .before .before .before .before .before .before .before .before .before .before .before .before .before .before .pre .0) (c .before .before .before .before .before .before .before .before .before .before .before .before .before .before .before .before .before .before .before .before .enum-decl .ensures .list)) .run) (c .before .before .before .before .before .before .before .before .before .before .before .before .before .before .before .before .before .before .loop .inv .1) (c .before .before .before .before .before .before .before .before .before .before .before .before .before .before .before .before .if1 .taken) (c .before .before .before .before .before .before .before .before .before .before .before .before .before .before .before .nth-ctor .ensures) in let p = sig-inside _ (o .ready .is) (o .ready .fits) in (c .before .before .put-back .kept .1 .1 .0 ∙ c .before .before .before .before .before .before .before .before .before .before .walk-arg-decl-list .kept .1 .1 .0 ∙ c .before .before .before .before .before .before .before .before .before .before .before .before .before .before .before .before .before .before .loop .inv .0, o .more _ refl (ended-visits _ _ _ (o .ready .fits) (sig-visit _ _ (o .ready .is)) (put-ends _ _ _ (c .before .before .put-back .ensures) (sig-one-walked _ p (c .before .before .before .before .before .before .before .before .before .before .before .before .before .before .ctor-decl .ensures .second) (c .before .before .before .before .before .before .before .before .before .before .walk-arg-decl-list .ensures .same)))))
 
 same-length : tie.Need-same-length Inv-loop μ-loop
 same-length c = c .before .before .loop .inv .1 .long

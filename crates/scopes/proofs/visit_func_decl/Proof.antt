@@ -1,9 +1,8 @@
 use mathlib.Core.Path.{sym, ap, subst, _∙_}
-use Rattle.table.specs.State.{back}
 use Rattle.ordered.specs.Promises.{over, Ready}
 use Rattle.ast.specs.Kinds.{kindOf}
 use Rattle.ast.specs.Named.{typeExprKind}
-use Rattle.scopes.proofs.Visiting.{sigTwo, inside-path}
+use Rattle.scopes.proofs.Visiting.{sigTwo, inside-path, put-ends}
 use borrow.Author.Needs.{needs}
 use Rattle.scopes.proofs.visit_func_decl.Statement.{statement}
 use Rattle.scopes.proofs.visit_func_decl.Tie as tie
@@ -27,7 +26,7 @@ same-length-2 : tie.Need-same-length-2
 same-length-2 c = search needs
 
 returns : tie.Need-returns
-returns c = record { same = c .before .before .put-back .ensures .0 ∙ ap (back (c .before .before .before .before .before .before .before .before .before .before .before .before .before .before .before .before .before .before .before .before .before .before .before .before .before .args .image .now) _) (c .before .before .before .before .before .before .before .before .before .walk-type-expr .ensures .same ∙ ap (over _ _) (c .before .before .before .before .before .before .before .before .before .before .before .before .before .before .before .before .walk-arg-decl-list .ensures .same) ∙ sym ((sigTwo _ (c .before .before .before .before .before .before .before .before .before .before .before .before .before .before .before .before .before .before .before .before .before .before .before .before .before .pre .0) (c .before .before .before .before .before .before .before .before .before .before .before .before .before .before .before .before .before .before .before .before .before .func-decl .ensures .second) (c .before .before .before .before .before .before .before .before .before .before .before .before .before .before .before .before .before .before .before .before .before .func-decl .ensures .third)) .inner)); stands = c .before .before .put-back .ensures .1 }
+returns c = put-ends _ _ _ (c .before .before .put-back .ensures) (c .before .before .before .before .before .before .before .before .before .walk-type-expr .ensures .same ∙ ap (over _ _) (c .before .before .before .before .before .before .before .before .before .before .before .before .before .before .before .before .walk-arg-decl-list .ensures .same) ∙ sym ((sigTwo _ (c .before .before .before .before .before .before .before .before .before .before .before .before .before .before .before .before .before .before .before .before .before .before .before .before .before .pre .0) (c .before .before .before .before .before .before .before .before .before .before .before .before .before .before .before .before .before .before .before .before .before .func-decl .ensures .second) (c .before .before .before .before .before .before .before .before .before .before .before .before .before .before .before .before .before .before .before .before .before .func-decl .ensures .third)) .inner))
 
 pub visit-func-decl-spec : {M : Type 1} → statement M
 visit-func-decl-spec =

@@ -1,6 +1,5 @@
-use mathlib.Core.Path.{sym, ap, _∙_}
-use Rattle.table.specs.State.{back}
-use Rattle.scopes.proofs.Visiting.{ruleRun, inside-path}
+use mathlib.Core.Path.{sym, _∙_}
+use Rattle.scopes.proofs.Visiting.{ruleRun, inside-path, put-ends}
 use borrow.Author.Needs.{needs}
 use Rattle.scopes.proofs.visit_rule_decl.Statement.{statement}
 use Rattle.scopes.proofs.visit_rule_decl.Tie as tie
@@ -21,7 +20,7 @@ same-length-2 : tie.Need-same-length-2
 same-length-2 c = search needs
 
 returns : tie.Need-returns
-returns c = record { same = c .before .before .put-back .ensures .0 ∙ ap (back (c .before .before .before .before .before .before .before .before .before .before .before .before .before .before .before .before .before .args .image .now) _) (c .before .before .before .before .before .before .before .before .before .walk-stmt-block .ensures .same ∙ sym ((ruleRun _ (c .before .before .before .before .before .before .before .before .before .before .before .before .before .before .before .before .before .pre .0) (c .before .before .before .before .before .before .before .before .before .before .before .before .before .rule-decl .ensures .list)) .inner)); stands = c .before .before .put-back .ensures .1 }
+returns c = put-ends _ _ _ (c .before .before .put-back .ensures) (c .before .before .before .before .before .before .before .before .before .walk-stmt-block .ensures .same ∙ sym ((ruleRun _ (c .before .before .before .before .before .before .before .before .before .before .before .before .before .before .before .before .before .pre .0) (c .before .before .before .before .before .before .before .before .before .before .before .before .before .rule-decl .ensures .list)) .inner))
 
 pub visit-rule-decl-spec : {M : Type 1} → statement M
 visit-rule-decl-spec =
