@@ -1,7 +1,8 @@
 -- What the environment's words say after the statements of a rule is what `meet` makes of what they said before.
-use mathlib.Core.Path.{_≡_, refl, sym, _∙_, ap, subst}
+use mathlib.Core.Path.{_≡_, refl, _∙_, ap}
 use mathlib.Core.List.{List}
 use Prim.Native.Nat.{ℕ, _<_}
+use Rattle.ast.specs.Image.{nameOf, kindAt}
 use Rattle.ast.specs.Tree.{Trees}
 use Rattle.table.specs.State.{Walked}
 use Rattle.table.specs.Table.{Table, lookup}
@@ -15,9 +16,9 @@ use Rattle.sight.specs.Listing.{Distinct}
 use Rattle.sight.proofs.Frame.{Bounds}
 use Rattle.sight.proofs.Moves.{walks-along, framed}
 use Rattle.sight.proofs.Steps.{Bodies}
-use Rattle.meaning.specs.Meaning.{Env, occurs}
+use Rattle.meaning.specs.Meaning.{Env, occurs, meetSeq}
 use Rattle.meaning.proofs.Keeps.{Small}
-use Rattle.meaning.proofs.Told.{meetsSeq, rule-met}
+use Rattle.meaning.proofs.Told.{At, rule-met}
 
 module _ (img : List ℕ) where
   -- by name, the words of env say what m does
@@ -33,12 +34,14 @@ module _ (img : List ℕ) where
 
   pub words-meet : (ts : Trees) → Bodies img ts → (e : Walked) {f : Walked} {v w : List ℕ} → Bounds img ((walkSeq img walking.occurs ts e) .table)
       → Small img (numbersSeq ts) → Distinct (numbersSeq ts) → Stands img e v → Ends img (walkSeq img walking.occurs ts e) f w
-      → Say f w (meetsSeq img occurs ts (standsFor e))
+      → Say f w (meetSeq (nameOf img) (kindAt img) occurs ts (standsFor e))
   words-meet ts b e {f} {v} {w} few small distinct s h x l =
       (h .stands .here x l) .is ∙ ap (λ (g : Walked). standsFor g x) (h .same) ∙ met .reads x
     where
       T : Table
       T = (walkSeq img walking.occurs ts e) .table
+
+      met : At img T (meetSeq (nameOf img) (kindAt img) occurs ts (standsFor e)) (walkSeq img walking.occurs ts e)
       met =
           rule-met img T ts b e
           (record {
