@@ -361,7 +361,7 @@ fn run() {
         let line = time(name, image, &subject);
         let both = line.here[1] + line.here[2];
         println!(
-            "| {} | {} | {:.0} | {:.0} | {:.0} | {:.0} | {:.0} | {:.0} | {:.0} | {:.0} | {:.0} | {:.1} |",
+            "| {} | {} | {:.1} | {:.1} | {:.1} | {:.1} | {:.1} | {:.1} | {:.1} | {:.1} | {:.0} | {:.1} |",
             line.name,
             line.nodes,
             line.rust[0],
