@@ -111,11 +111,14 @@ pub fn row_start(image: &[u8], node: NodeId) -> u32
     word(image, 16 + 4 * wide(node_count(image)) + 4 * wide(node.0))
 }
 
+// A place from which on no image has an operand word. A constant, so that the machine code of a read by number has no test of it.
+const NOWHERE: usize = 2305843009213693952;
+
 // The operand word at a place; 0 where it does not fit.
 pub fn operand_at(image: &[u8], at: usize) -> u32
     ensures { λ r. ⌜ r ≡ «image-spec».opAt (now (image .entry)) at ⌝ }
 {
-    if image.len() / 4 < at {
+    if NOWHERE < at {
         return 0;
     }
     word(image, 16 + 8 * wide(node_count(image)) + 4 * at)
@@ -162,7 +165,7 @@ pub fn loc(image: &[u8], node: NodeId) -> Location
 pub fn field(image: &[u8], node: NodeId, j: usize) -> u32
     ensures { λ r. ⌜ r ≡ «image-spec».field (now (image .entry)) (node .0) j ⌝ }
 {
-    if image.len() < j {
+    if NOWHERE < j {
         return 0;
     }
     operand(image, wide(row_start(image, node)) + 2 + j)
