@@ -123,7 +123,7 @@ fn meets(
     from: usize,
     to: usize,
     first: u32,
-    next: &[u32; 1024],
+    next: &[u16; 1024],
 ) -> bool
     requires { ⌜ Chain (now image) s i from to first (now next) ⌝ }
     ensures { λ r. ⌜ Met (now (image .entry)) i first (now (next .entry)) r ⌝ }
@@ -133,7 +133,7 @@ fn meets(
         if equal_names(image, s, j - 1, i, from, to) {
             return true;
         }
-        j = next[(j - 1) as usize];
+        j = next[(j - 1) as usize] as u32;
     }
     false
 }
@@ -143,8 +143,8 @@ fn test_twice(image: &[u8], s: Sizes) -> u32
     requires { ⌜ Within (now image) s × («tests-spec».testEnds (now image) ≡ 0) ⌝ }
     ensures { λ r. ⌜ r ≡ «tests-spec».testTwice (now (image .entry)) ⌝ }
 {
-    let mut heads = [0u32; 1024];
-    let mut next = [0u32; 1024];
+    let mut heads = [0u16; 1024];
+    let mut next = [0u16; 1024];
     let mut i = 0u32;
     let mut start = 0u32;
     while i < s.names {
@@ -153,11 +153,11 @@ fn test_twice(image: &[u8], s: Sizes) -> u32
         let to = p.to;
         let h = bucket(image, from, to) as usize;
         let first = heads[h];
-        if meets(image, s, i, from, to, first, &next) {
+        if meets(image, s, i, from, to, first as u32, &next) {
             return 5;
         }
         next[i as usize] = first;
-        heads[h] = i + 1;
+        heads[h] = (i + 1) as u16;
         start = p.end;
         i += 1;
     }

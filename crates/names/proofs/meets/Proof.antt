@@ -35,6 +35,9 @@ mul-j c = let l = c .before .before .before .loop .inv .low in let n = c .before
 element-copy-out-j : tie.Need-element-copy-out-j Inv-loop μ-loop
 element-copy-out-j c = let l = c .before .before .before .loop .inv .low in let n = c .before .before .before .before .before .pre .at .name in let w = c .before .before .before .before .before .pre .at .within in omega arith
 
+cast-j-2 : tie.Need-cast-j-2 Inv-loop μ-loop
+cast-j-2 c = let l = c .before .before .before .before .loop .inv .low in let z = c .before .before .before .loop-test .taken in omega (arith, c .before .before .before .before .before .before .pre .falls (c .before .before .before .before .loop .j - 1) (omega arith))
+
 loop-less : tie.Need-loop-less Inv-loop μ-loop
 loop-less c = let l = c .before .before .before .before .loop .inv .low in let z = c .before .before .before .loop-test .taken in omega (arith, c .before .before .before .before .before .before .pre .falls (c .before .before .before .before .loop .j - 1) (omega arith))
 
@@ -58,6 +61,7 @@ meets-spec =
     cast-j
     mul-j
     element-copy-out-j
+    cast-j-2
     loop-less
     loop-again
     returns-2)

@@ -30,6 +30,9 @@ mul-first c = let b = c .bucket .ensures .1 in let l = c .before .before .before
 array-read-first : tie.Need-array-read-first Inv-loop μ-loop
 array-read-first c = let b = c .bucket .ensures .1 in let l = c .before .before .before .before .loop .inv .heads-long in let n = c .before .before .before .before .loop .inv .next-long in omega arith
 
+cast-meets : tie.Need-cast-meets Inv-loop μ-loop
+cast-meets c = omega (arith, c .before .before .before .before .loop .inv .low (c .bucket .result))
+
 meets-requires : tie.Need-meets-requires Inv-loop μ-loop
 meets-requires c κs = record { at = c .before .before .span-of .ensures .0; low = c .before .before .before .before .before .loop .inv .low _; falls = c .before .before .before .before .before .loop .inv .falls }
 
@@ -47,6 +50,9 @@ array-write-next c = let b = c .before .before .before .bucket .ensures .1 in le
 
 add-heads : tie.Need-add-heads Inv-loop μ-loop
 add-heads c = omega arith
+
+cast-heads : tie.Need-cast-heads Inv-loop μ-loop
+cast-heads c = omega arith
 
 mul-heads : tie.Need-mul-heads Inv-loop μ-loop
 mul-heads c = let b = c .before .before .before .bucket .ensures .1 in let l = c .before .before .before .before .before .before .before .loop .inv .heads-long in let n = c .before .before .before .before .before .before .before .loop .inv .next-long in omega arith
@@ -78,12 +84,14 @@ test-twice-spec =
     cast-h
     mul-first
     array-read-first
+    cast-meets
     meets-requires
     returns
     cast-next
     mul-next
     array-write-next
     add-heads
+    cast-heads
     mul-heads
     array-write-heads
     add-i
