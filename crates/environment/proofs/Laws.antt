@@ -494,6 +494,7 @@ module _ (img : List ℕ) where
   pub noted-of : {e : Walked} {env : List ℕ} → e .scope ≡ 0 → Stands img e env → Noted img (e .table) env
   noted-of {e} {env} q s =
       record {
+        sized = s .says .sized;
         outer = λ x l. subst (λ i. Tells img (e .table) (standing env x) (lookup img (e .table) i x)) q (s .here x l);
         entries = λ n x l f. (s .says .entries n x l f) .tells;
         exits = λ n x l f. (s .says .exits n x l f) .tells;

@@ -16,7 +16,7 @@ use Rattle.table.specs.Rising.{scopeOf, nodeAt, parentAt}
 use Rattle.table.specs.State.{Walked}
 use Rattle.table.specs.Table.{Table, rowIs, findFrom, find, lookup}
 use Rattle.table.proofs.Frame.{lookup-child}
-use Rattle.environment.specs.Layout.{namesMost, hiddenPlace, entryNote, exitNote, standing, hidden}
+use Rattle.environment.specs.Layout.{namesMost, nodesMost, hiddenPlace, entryNote, exitNote, standing, hidden}
 use Rattle.environment.specs.Stands.{Tells, Notes, Hides, Says, Stands, above, First, Path, here, up}
 
 module _ (img : List ℕ) where
@@ -117,6 +117,9 @@ module _ (img : List ℕ) where
         pick (yes l) d = word-other x (λ e. absurd (omega arith)) w
         pick (no l) (yes k) = word-other x (λ e. absurd (omega arith)) w
         pick (no l) (no k) = word-row x (omega arith)
+
+    pub leaving-few : (y < namesMost) × (row < nodesMost)
+    leaving-few = let a = h .says .symbols in let c = h .says .sized in (hides .name, omega arith)
 
     pub leaving-row : {out : List ℕ} → out ≡ env' → Leaving t s first out (row + 1)
     leaving-row e =

@@ -81,6 +81,7 @@ module _ (img : List ℕ) where
 
   -- what names stand for at the module's scope, and what was noted, in a table that is done
   pub record Noted (t : Table) (env : List ℕ) : Type 0 where
+    pub sized : nodes img ≤ nodesMost
     pub outer : At t 0 env
     pub entries : (n x : ℕ) → n < nodes img → asked img n ≡ some x → 0 < entryAt img (t .words) n → Tells t (notedEntry env n) (lookup img t (entryAt img (t .words) n) x)
     pub exits : (n x : ℕ) → n < nodes img → asked img n ≡ some x → 0 < exitAt img (t .words) n → Tells t (notedExit env n) (lookup img t (exitAt img (t .words) n) x)

@@ -2,14 +2,14 @@
 // hides, by node what was noted there.
 ghost use mathlib.Core.Path.{_≡_};
 ghost use mathlib.Core.Option.{none, some};
-ghost use Prim.Native.Nat.{suc, _+_, _<_, _≤_, _^_};
+ghost use Prim.Native.Nat.{suc, _+_, _-_, _<_, _≤_};
 ghost use lib.ListN.{length, getD, set};
 ghost use Rattle.ast.specs.Image as «image-spec»;
 ghost use Rattle.table.specs.Rising.{nodeAt};
 ghost use Rattle.table.specs.State as «state-spec»;
 ghost use Rattle.table.specs.Table as «table-spec»;
 ghost use Rattle.table.specs.Values.{sought, walkedOf, optionOf};
-ghost use Rattle.environment.specs.Layout.{hiddenPlace, namesMost, standing};
+ghost use Rattle.environment.specs.Layout.{hiddenPlace, namesMost, nodesMost, environmentLength, standing};
 ghost use Rattle.environment.specs.Layout as «layout-spec»;
 ghost use Rattle.environment.specs.Asked.{asked};
 ghost use Rattle.environment.specs.Stands.{told, Stands, Opens, above, First, Path, Noted, Named, Asking};
@@ -27,38 +27,59 @@ const ENTRIES: usize = 3072;
 
 const EXITS: usize = 5120;
 
+fn get(env: &[u16; WORDS], i: usize) -> u16
+    requires { ⌜ i < environmentLength ⌝ }
+    ensures { λ r. ⌜ r ≡ getD (now (env .entry)) i 0 ⌝ }
+{
+    env[i]
+}
+
+fn put(env: &mut [u16; WORDS], i: usize, word: u16)
+    requires { ⌜ i < environmentLength ⌝ }
+    ensures { λ _. ⌜ now (env .exit) ≡ set (now (env .entry)) i word ⌝ }
+{
+    env[i] = word;
+}
+
 // The word of a name: the row of the symbol that it stands for here, plus 1, or 0.
-pub fn stands(env: &[u32], name: u32) -> u32
+pub fn stands(env: &[u16; WORDS], name: u32) -> u16
+    requires { ⌜ name < namesMost ⌝ }
     ensures { λ r. ⌜ r ≡ standing (now (env .entry)) name ⌝ }
 {
-    table::get(env, ast::wide(name))
+    get(env, ast::wide(name))
+}
+
+fn row_of(word: u16) -> u32
+    ensures { λ r. ⌜ r ≡ word - 1 ⌝ }
+{
+    ast::less_one(word as u32)
 }
 
 // The symbol that a word tells of.
-pub fn found(image: &[u8], table: &[u32], word: u32) -> Found
+pub fn found(image: &[u8], table: &[u32], word: u16) -> Found
     ensures { λ r. ⌜ optionOf r ≡ told (now (image .entry)) (now (table .entry)) word ⌝ }
 {
     if word == 0 {
         return Found::Nothing;
     }
-    Found::At(NodeId(table::symbol_node(image, table, word - 1)))
+    Found::At(NodeId(table::symbol_node(image, table, row_of(word))))
 }
 
 // The name stands for the row from here on.
-fn bind(env: &mut [u32], name: u32, row: u32)
-    requires { ⌜ row + 1 < 2 ^ 32 ⌝ }
+fn bind(env: &mut [u16; WORDS], name: u32, row: u32)
+    requires { ⌜ (name < namesMost) × (row < nodesMost) ⌝ }
     ensures { λ _. ⌜ now (env .exit) ≡ «layout-spec».bound (now (env .entry)) name row ⌝ }
 {
     let old = stands(env, name);
-    table::put(env, HIDDEN + ast::wide(row), old);
-    table::put(env, ast::wide(name), row + 1);
+    put(env, HIDDEN + ast::wide(row), old);
+    put(env, ast::wide(name), (row + 1) as u16);
 }
 
 // The node as the symbol of a new scope below the one that the walk stands in.
 pub fn introduce(
     image: &[u8],
     table: &mut [u32],
-    env: &mut [u32],
+    env: &mut [u16; WORDS],
     at: Walked,
     node: NodeId,
     name: u32,
@@ -74,7 +95,7 @@ pub fn introduce(
 pub fn enter(
     image: &[u8],
     table: &mut [u32],
-    env: &mut [u32],
+    env: &mut [u16; WORDS],
     at: Walked,
     node: NodeId,
     name: u32,
@@ -90,10 +111,10 @@ pub fn enter(
 pub fn leave_asked(
     image: &[u8],
     table: &mut [u32],
-    env: &mut [u32],
+    env: &mut [u16; WORDS],
     node: NodeId,
     name: u32,
-    before: u32,
+    before: u16,
     at: Walked,
     w: Walked,
 ) -> Walked
@@ -105,24 +126,26 @@ pub fn leave_asked(
     table::leave(image, table, node, at, w)
 }
 
-fn note(env: &mut [u32], node: NodeId, before: u32, after: u32)
+fn note(env: &mut [u16; WORDS], node: NodeId, before: u16, after: u16)
+    requires { ⌜ node .0 < nodesMost ⌝ }
     ensures { λ _. ⌜ now (env .exit) ≡ «layout-spec».noted (now (env .entry)) (node .0) before after ⌝ }
 {
-    table::put(env, ENTRIES + ast::wide(node.0), before);
-    table::put(env, EXITS + ast::wide(node.0), after);
+    put(env, ENTRIES + ast::wide(node.0), before);
+    put(env, EXITS + ast::wide(node.0), after);
 }
 
 // The row's name stands for what it did before the row.
-fn restore(image: &[u8], table: &[u32], env: &mut [u32], row: u32)
+fn restore(image: &[u8], table: &[u32], env: &mut [u16; WORDS], row: u32)
+    requires { ⌜ («image-spec».nameOf (now image) (nodeAt («image-spec».nodes (now image)) (now table) row) < namesMost) × (row < nodesMost) ⌝ }
     ensures { λ _. ⌜ now (env .exit) ≡ set (now (env .entry)) («image-spec».nameOf (now (image .entry)) (nodeAt («image-spec».nodes (now (image .entry))) (now (table .entry)) row)) (getD (now (env .entry)) (hiddenPlace row) 0) ⌝ }
 {
     let node = NodeId(table::symbol_node(image, table, row));
-    let old = table::get(env, HIDDEN + ast::wide(row));
-    table::put(env, ast::wide(ast::name_of(image, node)), old);
+    let old = get(env, HIDDEN + ast::wide(row));
+    put(env, ast::wide(ast::name_of(image, node)), old);
 }
 
 // The names of the scope that the walk stands in, whose rows start with `first`, stand for what they do above it.
-pub fn leave_scope(image: &[u8], table: &[u32], env: &mut [u32], at: Walked, first: u32)
+pub fn leave_scope(image: &[u8], table: &[u32], env: &mut [u16; WORDS], at: Walked, first: u32)
     requires { ⌜ Stands (now image) (walkedOf at (now table)) (now env) × First (now image) ((walkedOf at (now table)) .table) (at .scope .0) first ⌝ }
     ensures { λ _. ⌜ Stands (now (image .entry)) (above (now (image .entry)) (walkedOf at (now (table .entry)))) (now (env .exit)) ⌝ }
 {
@@ -149,7 +172,7 @@ fn outside(image: &[u8], table: &[u32], at: Walked) -> Walked
 }
 
 // The walk back in the scope `to`: what was introduced below it is put back, the last first. Scopes and rows go in step there.
-pub fn put_back(image: &[u8], table: &[u32], env: &mut [u32], at: Walked, to: ScopeId) -> Walked
+pub fn put_back(image: &[u8], table: &[u32], env: &mut [u16; WORDS], at: Walked, to: ScopeId) -> Walked
     requires { ⌜ Stands (now image) (walkedOf at (now table)) (now env) × Path (now image) ((walkedOf at (now table)) .table) (to .0) (at .scope .0) ⌝ }
     ensures { λ r. ⌜ (walkedOf r (now (table .entry)) ≡ «state-spec».back (now (image .entry)) (to .0) (walkedOf at (now (table .entry)))) × Stands (now (image .entry)) (walkedOf r (now (table .entry))) (now (env .exit)) ⌝ }
 {
@@ -167,7 +190,7 @@ pub fn at_entry(
     image: &[u8],
     table: &[u32],
     symbols: u32,
-    env: &[u32],
+    env: &[u16; WORDS],
     node: NodeId,
     ident: NodeId,
 ) -> Found
@@ -186,7 +209,7 @@ pub fn at_exit(
     image: &[u8],
     table: &[u32],
     symbols: u32,
-    env: &[u32],
+    env: &[u16; WORDS],
     node: NodeId,
     ident: NodeId,
 ) -> Found
@@ -200,17 +223,17 @@ pub fn at_exit(
 // The word noted for a node; at the module's own scope, where nothing is noted, the word of the name.
 fn word_at(
     image: &[u8],
-    env: &[u32],
+    env: &[u16; WORDS],
     scope: ScopeId,
     notes: usize,
     node: NodeId,
     ident: NodeId,
-) -> u32
-    requires { ⌜ notes ≤ 5120 ⌝ }
+) -> u16
+    requires { ⌜ (notes ≤ 5120) × (node .0 < nodesMost) × («image-spec».nameOf (now image) (ident .0) < namesMost) ⌝ }
     ensures { λ r. ⌜ ((scope .0 ≡ 0) → (r ≡ standing (now (env .entry)) («image-spec».nameOf (now (image .entry)) (ident .0)))) × ((0 < scope .0) → (r ≡ getD (now (env .entry)) (notes + node .0) 0)) ⌝ }
 {
     if scope.0 == 0 {
         return stands(env, ast::name_of(image, ident));
     }
-    table::get(env, notes + ast::wide(node.0))
+    get(env, notes + ast::wide(node.0))
 }

@@ -10,42 +10,42 @@ use Rattle.ast.proofs.wide.Reads as wide-reads
 use Rattle.environment.proofs.stands.Reads as stands-reads
 use Rattle.table.proofs.put.Reads as put-reads
 
--- src/lib.rt:52:9
+-- src/lib.rt:72:9
 stands-requires : tie.Need-stands-requires
 stands-requires c κs = search needs
 
--- src/lib.rt:53:30
+-- src/lib.rt:73:23
 wide-requires : tie.Need-wide-requires
 wide-requires c κs = search needs
 
--- src/lib.rt:53:21
+-- src/lib.rt:73:14
 add-put : tie.Need-add-put
 add-put c = search needs
 
--- src/lib.rt:53:5
+-- src/lib.rt:73:5
 put-requires : tie.Need-put-requires
 put-requires c κs = search needs
 
--- src/lib.rt:54:21
+-- src/lib.rt:74:14
 wide-requires-2 : tie.Need-wide-requires-2
 wide-requires-2 c κs = search needs
 
--- src/lib.rt:54:38
+-- src/lib.rt:74:32
 add-put-2 : tie.Need-add-put-2
 add-put-2 c = search needs
 
--- src/lib.rt:54:5
+-- src/lib.rt:74:31
+cast-put : tie.Need-cast-put
+cast-put c = search needs
+
+-- src/lib.rt:74:5
 put-requires-2 : tie.Need-put-requires-2
 put-requires-2 c κs = search needs
 
--- src/lib.rt:48:1
-same-length : tie.Need-same-length
-same-length c = search needs
-
--- src/lib.rt:48:1
+-- src/lib.rt:68:1
 returns : tie.Need-returns
 unfolding bound
-returns c = rw (c .before .before .put2 .ensures, c .before .before .before .before .before .before .before .put .ensures, c .before .before .before .before .before .before .before .before .wide .ensures, c .before .before .before .wide2 .ensures, c .before .before .before .before .before .before .before .before .before .before .stands .ensures)
+returns c = rw (c .put2 .ensures, c .before .before .before .put .ensures, c .before .before .before .before .wide .ensures, c .before .wide2 .ensures, c .before .before .before .before .before .before .stands .ensures)
 
 pub bind-spec : {M : Type 1} → statement M
 bind-spec =
@@ -57,6 +57,6 @@ bind-spec =
     put-requires
     wide-requires-2
     add-put-2
+    cast-put
     put-requires-2
-    same-length
     returns)

@@ -7,26 +7,21 @@ use Rattle.environment.proofs.enter.Lts as lts
 use Rattle.environment.proofs.bind.Reads as bind-reads
 use Rattle.table.proofs.insert_symbol.Reads as insert-symbol-reads
 
--- src/lib.rt:85:5
+-- src/lib.rt:105:5
 bind-requires : tie.Need-bind-requires
 bind-requires c κs = search needs
 
--- src/lib.rt:86:5
+-- src/lib.rt:106:5
 insert-symbol-requires : tie.Need-insert-symbol-requires
 insert-symbol-requires c κs = search needs
 
--- src/lib.rt:74:1
+-- src/lib.rt:94:1
 same-length : tie.Need-same-length
 same-length c = search needs
 
--- src/lib.rt:74:1
-same-length-2 : tie.Need-same-length-2
-same-length-2 c = search needs
-
--- src/lib.rt:74:1
+-- src/lib.rt:94:1
 returns : tie.Need-returns
-returns c = (c .before .before .insert-symbol .ensures, entered _ (c .before .before .insert-symbol .ensures) (c .before .before .before .before .before .before .bind .ensures) (c .before .before .before .before .before .before .before .before .before .before .before .pre .0) (c .before .before .before .before .before .before .before .before .before .before .before .pre .1) (c .before .before .before .before .before .before .before .before .before .before .before .pre .2) (c .before .before .before .before .before .before .before .before .before .before .before .pre .3))
+returns c = (c .before .before .insert-symbol .ensures, entered _ (c .before .before .insert-symbol .ensures) (c .before .before .before .before .bind .ensures) (c .before .before .before .before .before .before .before .before .pre .0) (c .before .before .before .before .before .before .before .before .pre .1) (c .before .before .before .before .before .before .before .before .pre .2) (c .before .before .before .before .before .before .before .before .pre .3))
 
 pub enter-spec : {M : Type 1} → statement M
-enter-spec =
-    tie.close (tie.spec bind-requires insert-symbol-requires same-length same-length-2 returns)
+enter-spec = tie.close (tie.spec bind-requires insert-symbol-requires same-length returns)

@@ -1,6 +1,8 @@
 use mathlib.Core.Path.{refl, sym, ap, _∙_}
 use mathlib.Core.Option.{some}
 use Prim.Native.Nat.{ℕ, _+_}
+use Rattle.ast.specs.Image.{nodes}
+use Rattle.table.specs.Rising.{nodeAt}
 use native.Mathlib.Omega.{arith}
 use Rattle.environment.specs.Stands.{told}
 use Rattle.environment.proofs.Words.{told-some}
@@ -11,22 +13,22 @@ use Rattle.environment.proofs.found.Reads as reads
 use Rattle.environment.proofs.found.Lts as lts
 use Rattle.table.proofs.symbol_node.Reads as symbol-node-reads
 
--- src/lib.rt:42:9
+-- src/lib.rt:62:9
 returns : tie.Need-returns
 unfolding told
 returns c = rw (c .if1 .taken)
 
--- src/lib.rt:44:55
-sub-symbol-node : tie.Need-sub-symbol-node
-sub-symbol-node c = search needs
+-- src/lib.rt:64:55
+row-of-requires : tie.Need-row-of-requires
+row-of-requires c κs = search needs
 
--- src/lib.rt:44:22
+-- src/lib.rt:64:22
 symbol-node-requires : tie.Need-symbol-node-requires
 symbol-node-requires c κs = search needs
 
--- src/lib.rt:38:1
+-- src/lib.rt:58:1
 returns-2 : tie.Need-returns-2
-returns-2 c = ap some (c .symbol-node .ensures) ∙ sym (told-some _ _ _ (c .before .if1 .left))
+returns-2 c = ap some (c .symbol-node .ensures) ∙ ap (λ (j : ℕ). some (nodeAt (nodes (c .before .before .before .before .before .args .image .now)) (c .before .before .before .before .before .args .table .now) j)) (c .before .row-of .ensures) ∙ sym (told-some _ _ _ (c .before .before .if1 .left))
 
 pub found-spec : {M : Type 1} → statement M
-found-spec = tie.close (tie.spec returns sub-symbol-node symbol-node-requires returns-2)
+found-spec = tie.close (tie.spec returns row-of-requires symbol-node-requires returns-2)

@@ -7,26 +7,21 @@ use Rattle.environment.proofs.introduce.Lts as lts
 use Rattle.environment.proofs.bind.Reads as bind-reads
 use Rattle.table.proofs.insert_var_symbol.Reads as insert-var-symbol-reads
 
--- src/lib.rt:69:5
+-- src/lib.rt:89:5
 bind-requires : tie.Need-bind-requires
 bind-requires c κs = search needs
 
--- src/lib.rt:70:5
+-- src/lib.rt:90:5
 insert-var-symbol-requires : tie.Need-insert-var-symbol-requires
 insert-var-symbol-requires c κs = search needs
 
--- src/lib.rt:58:1
+-- src/lib.rt:78:1
 same-length : tie.Need-same-length
 same-length c = search needs
 
--- src/lib.rt:58:1
-same-length-2 : tie.Need-same-length-2
-same-length-2 c = search needs
-
--- src/lib.rt:58:1
+-- src/lib.rt:78:1
 returns : tie.Need-returns
-returns c = (c .before .before .insert-var-symbol .ensures, introduced _ (c .before .before .insert-var-symbol .ensures) (c .before .before .before .before .before .before .bind .ensures) (c .before .before .before .before .before .before .before .before .before .before .before .pre .0) (c .before .before .before .before .before .before .before .before .before .before .before .pre .1) (c .before .before .before .before .before .before .before .before .before .before .before .pre .2) (c .before .before .before .before .before .before .before .before .before .before .before .pre .3))
+returns c = (c .before .before .insert-var-symbol .ensures, introduced _ (c .before .before .insert-var-symbol .ensures) (c .before .before .before .before .bind .ensures) (c .before .before .before .before .before .before .before .before .pre .0) (c .before .before .before .before .before .before .before .before .pre .1) (c .before .before .before .before .before .before .before .before .pre .2) (c .before .before .before .before .before .before .before .before .pre .3))
 
 pub introduce-spec : {M : Type 1} → statement M
-introduce-spec =
-    tie.close (tie.spec bind-requires insert-var-symbol-requires same-length same-length-2 returns)
+introduce-spec = tie.close (tie.spec bind-requires insert-var-symbol-requires same-length returns)
