@@ -17,13 +17,12 @@ use Rattle.typed.specs.Nodes.{declAt, termAt, appHeadAt}
 use Rattle.typed.specs.declared.nodes.Decl.{Decl}
 use Rattle.typed.specs.declared.nodes.Decl.the-variants as decl
 use Rattle.typed.specs.declared.nodes.Term.{Term}
-use Rattle.typed.specs.declared.nodes.Term.the-variants as term
 use Rattle.typed.specs.declared.nodes.AppHead.{AppHead}
 use Rattle.typed.specs.declared.nodes.AppHead.the-variants as app-head
 use Rattle.typed.proofs.nodes.Decl as DeclCode
 use Rattle.typed.proofs.nodes.Term as TermCode
 use Rattle.typed.proofs.nodes.AppHead as AppHeadCode
-use Rattle.typed.proofs.Enums.{decl-is, term-is, app-head-is}
+use Rattle.typed.proofs.Enums.{decl-is, term-number, app-head-is}
 
 -- x is none of what is left out
 apart : (ks : List ℕ) {x y : ℕ} (k : ℕ) → OneOf ks x → x ≡ y → T (not (hasKey ks k)) → k ≡ y → ⊥
@@ -47,19 +46,6 @@ module _ (img : List ℕ) where
       go (decl.Enum i) e = (decl-is img is e refl) .number
       go (decl.Model i) e = (decl-is img is e refl) .number
 
-  term-number : {n : ℕ} {t : Term} → Is img (kindOf termKind) n → t ≡ termAt img n → tagOf TermCode.the-type t ≡ field img n 0
-  term-number {n} {t} is q = go t q
-    where
-      go : (s : Term) → s ≡ termAt img n → tagOf TermCode.the-type s ≡ field img n 0
-      go (term.Ident i) e = (term-is img is e refl) .number
-      go term.Wildcard e = term-is img is e refl
-      go (term.App i) e = (term-is img is e refl) .number
-      go (term.Member i) e = (term-is img is e refl) .number
-      go (term.Dom i) e = (term-is img is e refl) .number
-      go (term.Cod i) e = (term-is img is e refl) .number
-      go (term.Id i) e = (term-is img is e refl) .number
-      go (term.Comp i) e = (term-is img is e refl) .number
-
   head-number : {n : ℕ} {t : AppHead} → Is img (kindOf appHeadKind) n → t ≡ appHeadAt img n → tagOf AppHeadCode.the-type t ≡ field img n 0
   head-number {n} {t} is q = go t q
     where
@@ -75,13 +61,13 @@ module _ (img : List ℕ) where
 
   -- a term that is no ident, one that is no application, one of case Dom or Cod
   pub no-ident : {n : ℕ} {t : Term} → Is img (kindOf termKind) n → t ≡ termAt img n → OneOf (1 ∷ 2 ∷ 3 ∷ 4 ∷ 5 ∷ 6 ∷ 7 ∷ []) (tagOf TermCode.the-type t) → 0 ≡ field img n 0 → ⊥
-  no-ident is q h = apart (1 ∷ 2 ∷ 3 ∷ 4 ∷ 5 ∷ 6 ∷ 7 ∷ []) 0 h (term-number is q) tt
+  no-ident is q h = apart (1 ∷ 2 ∷ 3 ∷ 4 ∷ 5 ∷ 6 ∷ 7 ∷ []) 0 h (term-number img is q) tt
 
   pub no-app : {n : ℕ} {t : Term} → Is img (kindOf termKind) n → t ≡ termAt img n → OneOf (0 ∷ 1 ∷ 3 ∷ 4 ∷ 5 ∷ 6 ∷ 7 ∷ []) (tagOf TermCode.the-type t) → 2 ≡ field img n 0 → ⊥
-  no-app is q h = apart (0 ∷ 1 ∷ 3 ∷ 4 ∷ 5 ∷ 6 ∷ 7 ∷ []) 2 h (term-number is q) tt
+  no-app is q h = apart (0 ∷ 1 ∷ 3 ∷ 4 ∷ 5 ∷ 6 ∷ 7 ∷ []) 2 h (term-number img is q) tt
 
   pub dom-or-cod : {n : ℕ} {t : Term} → Is img (kindOf termKind) n → t ≡ termAt img n → OneOf (4 ∷ 5 ∷ []) (tagOf TermCode.the-type t) → (4 ≡ field img n 0) ⊎ (5 ≡ field img n 0)
-  dom-or-cod is q h = ⊎-elim (λ e. inl (sym e ∙ term-number is q)) (λ e. inr (sym e ∙ term-number is q)) h
+  dom-or-cod is q h = ⊎-elim (λ e. inl (sym e ∙ term-number img is q)) (λ e. inr (sym e ∙ term-number img is q)) h
 
   -- an app head that is no ident
   pub no-name : {n : ℕ} {t : AppHead} → Is img (kindOf appHeadKind) n → t ≡ appHeadAt img n → OneOf (1 ∷ 2 ∷ []) (tagOf AppHeadCode.the-type t) → 0 ≡ field img n 0 → ⊥

@@ -37,7 +37,7 @@ pub fn check_occurrences(image: &[u8], table: &mut [u32]) -> Once
     if code != 0 {
         return Once::Refused(code);
     }
-    let mut env = [0u32; environment::WORDS];
+    let mut env = [0u16; environment::WORDS];
     match scopes::resolve_into(image, table, &mut env) {
         Declared::Done(w) => match check_module(image, table, w.symbols, &env) {
             Checked::Ok => Once::Ok,
@@ -54,7 +54,7 @@ pub enum Checked {
 }
 
 // Works in local arrays: one for the rows of a rule, one for the counts of its bindings.
-fn check_module(image: &[u8], table: &[u32], symbols: u32, env: &[u32]) -> Checked
+fn check_module(image: &[u8], table: &[u32], symbols: u32, env: &[u16; environment::WORDS]) -> Checked
     requires { ⌜ (Whole (now image) (sought (now table) symbols) (now env)) × (Nodes (now image) (sought (now table) symbols)) ⌝ }
     ensures { λ r. ⌜ loneOf r ≡ lone (rowsByRule (now (image .entry)) (sought (now (table .entry)) symbols) (moduleRules (now (image .entry)))) ⌝ }
 {
@@ -69,7 +69,7 @@ fn check_decls(
     image: &[u8],
     table: &[u32],
     symbols: u32,
-    env: &[u32],
+    env: &[u16; environment::WORDS],
     rows: &mut [u32],
     counts: &mut [u32],
     decls: DeclIds,
@@ -95,7 +95,7 @@ fn check_decl(
     image: &[u8],
     table: &[u32],
     symbols: u32,
-    env: &[u32],
+    env: &[u16; environment::WORDS],
     rows: &mut [u32],
     counts: &mut [u32],
     decl: DeclId,
@@ -120,7 +120,7 @@ fn check_rule(
     image: &[u8],
     table: &[u32],
     symbols: u32,
-    env: &[u32],
+    env: &[u16; environment::WORDS],
     rows: &mut [u32],
     counts: &mut [u32],
     rule: RuleDeclId,
@@ -140,7 +140,7 @@ fn collect_stmts(
     image: &[u8],
     table: &[u32],
     symbols: u32,
-    env: &[u32],
+    env: &[u16; environment::WORDS],
     rows: &mut [u32],
     written: u32,
     stmts: StmtIds,
@@ -207,7 +207,7 @@ fn collect_stmt(
     image: &[u8],
     table: &[u32],
     symbols: u32,
-    env: &[u32],
+    env: &[u16; environment::WORDS],
     rows: &mut [u32],
     written: u32,
     stmt: StmtId,
@@ -233,7 +233,7 @@ fn collect_branch(
     image: &[u8],
     table: &[u32],
     symbols: u32,
-    env: &[u32],
+    env: &[u16; environment::WORDS],
     rows: &mut [u32],
     written: u32,
     id: BranchStmtId,
@@ -258,7 +258,7 @@ fn collect_match(
     image: &[u8],
     table: &[u32],
     symbols: u32,
-    env: &[u32],
+    env: &[u16; environment::WORDS],
     rows: &mut [u32],
     written: u32,
     id: MatchStmtId,
@@ -281,7 +281,7 @@ fn collect_match_case(
     image: &[u8],
     table: &[u32],
     symbols: u32,
-    env: &[u32],
+    env: &[u16; environment::WORDS],
     rows: &mut [u32],
     written: u32,
     case: MatchCaseId,
@@ -298,7 +298,7 @@ fn collect_if_atom(
     image: &[u8],
     table: &[u32],
     symbols: u32,
-    env: &[u32],
+    env: &[u16; environment::WORDS],
     rows: &mut [u32],
     written: u32,
     atom: IfAtomId,
@@ -333,7 +333,7 @@ fn collect_then_atom(
     image: &[u8],
     table: &[u32],
     symbols: u32,
-    env: &[u32],
+    env: &[u16; environment::WORDS],
     rows: &mut [u32],
     written: u32,
     atom: ThenAtomId,
@@ -369,7 +369,7 @@ fn collect_term(
     image: &[u8],
     table: &[u32],
     symbols: u32,
-    env: &[u32],
+    env: &[u16; environment::WORDS],
     rows: &mut [u32],
     written: u32,
     term: TermId,
@@ -407,7 +407,7 @@ fn collect_ident(
     image: &[u8],
     table: &[u32],
     symbols: u32,
-    env: &[u32],
+    env: &[u16; environment::WORDS],
     rows: &mut [u32],
     written: u32,
     node: NodeId,
@@ -433,7 +433,7 @@ fn collect_app_head(
     image: &[u8],
     table: &[u32],
     symbols: u32,
-    env: &[u32],
+    env: &[u16; environment::WORDS],
     rows: &mut [u32],
     written: u32,
     head: AppHeadId,
@@ -455,7 +455,7 @@ fn collect_term_list(
     image: &[u8],
     table: &[u32],
     symbols: u32,
-    env: &[u32],
+    env: &[u16; environment::WORDS],
     rows: &mut [u32],
     written: u32,
     list: TermListId,
@@ -478,7 +478,7 @@ fn collect_type_expr(
     image: &[u8],
     table: &[u32],
     symbols: u32,
-    env: &[u32],
+    env: &[u16; environment::WORDS],
     rows: &mut [u32],
     written: u32,
     typ: TypeExprId,
@@ -499,7 +499,7 @@ fn collect_pred_expr(
     image: &[u8],
     table: &[u32],
     symbols: u32,
-    env: &[u32],
+    env: &[u16; environment::WORDS],
     rows: &mut [u32],
     written: u32,
     pred: PredExprId,
@@ -524,7 +524,7 @@ pub fn occurrences(image: &[u8], table: &mut [u32], rows: &mut [u32]) -> Rowed
     if code != 0 {
         return Rowed::Refused(code);
     }
-    let mut env = [0u32; environment::WORDS];
+    let mut env = [0u16; environment::WORDS];
     match scopes::resolve_into(image, table, &mut env) {
         Declared::Done(w) => Rowed::Rows(write_rows(image, table, w.symbols, &env, rows)),
         Declared::Twice(name, first, second) => Rowed::Twice(name, first, second),
@@ -532,7 +532,7 @@ pub fn occurrences(image: &[u8], table: &mut [u32], rows: &mut [u32]) -> Rowed
 }
 
 // The rows of all rules in the lent words: a count, then two arrays of N words, unused places 0.
-fn write_rows(image: &[u8], table: &[u32], symbols: u32, env: &[u32], rows: &mut [u32]) -> u32
+fn write_rows(image: &[u8], table: &[u32], symbols: u32, env: &[u16; environment::WORDS], rows: &mut [u32]) -> u32
     requires { ⌜ (Whole (now image) (sought (now table) symbols) (now env)) × (rowsLength («image-spec».nodes (now image)) ≤ length (now rows)) ⌝ }
     ensures { λ r. ⌜ Wrote («image-spec».nodes (now (image .entry))) (occurrenceRows (now (image .entry)) (sought (now (table .entry)) symbols)) (now (rows .entry)) r (now (rows .exit)) ⌝ }
 {
@@ -542,7 +542,7 @@ fn write_rows(image: &[u8], table: &[u32], symbols: u32, env: &[u32], rows: &mut
 }
 
 // The rows of all rules, in the list's order.
-fn collect_module(image: &[u8], table: &[u32], symbols: u32, env: &[u32], rows: &mut [u32]) -> u32
+fn collect_module(image: &[u8], table: &[u32], symbols: u32, env: &[u16; environment::WORDS], rows: &mut [u32]) -> u32
     requires { ⌜ Whole (now image) (sought (now table) symbols) (now env) ⌝ }
     ensures { λ r. ⌜ Appended («image-spec».nodes (now (image .entry))) (occurrenceRows (now (image .entry)) (sought (now (table .entry)) symbols)) 0 (now (rows .entry)) r (now (rows .exit)) ⌝ }
 {
@@ -555,7 +555,7 @@ fn collect_decls(
     image: &[u8],
     table: &[u32],
     symbols: u32,
-    env: &[u32],
+    env: &[u16; environment::WORDS],
     rows: &mut [u32],
     written: u32,
     decls: DeclIds,
@@ -577,7 +577,7 @@ fn collect_decl(
     image: &[u8],
     table: &[u32],
     symbols: u32,
-    env: &[u32],
+    env: &[u16; environment::WORDS],
     rows: &mut [u32],
     written: u32,
     decl: DeclId,

@@ -1,19 +1,26 @@
 -- What the environment says where an ident is walked, and where a node is left at which no name is asked for.
 use mathlib.Core.Path.{_≡_, refl, sym, ap, subst, _∙_}
 use mathlib.Core.Bool.{Bool, true, false}
+use mathlib.Core.Logic.{⊎-elim}
 use mathlib.Core.List.{List, [], _∷_}
 use mathlib.Core.Option.{Option, none, some}
 use Prim.Native.Nat.{ℕ, zero, suc, _+_, _<_}
 use native.Mathlib.Omega.{arith}
 use lib.Dec.{eqb}
 use lib.ListN.{getD}
+use types.Run.{OneOf}
+use denote.Enum.Declared.{tagOf}
 use Rattle.ast.specs.Image.{nodes, field, nameOf}
 use Rattle.ast.specs.Is.{Is, Run, kindBy}
 use Rattle.ast.specs.Kinds.{inner, plain, child, list, cases, noChild, kindOf}
 use Rattle.ast.specs.Tree.{treeAt}
 use Rattle.ast.proofs.Shapes.{run-item, termKinds, headKinds}
 use Rattle.ast.proofs.Small.{tree-small}
+use Rattle.typed.specs.Nodes.{termAt}
 use Rattle.typed.specs.RowShapes.{Two, Listed, WordList}
+use Rattle.typed.specs.declared.nodes.Term.{Term}
+use Rattle.typed.proofs.nodes.Term as TermCode
+use Rattle.typed.proofs.Enums.{term-number}
 use Rattle.typed.specs.declared.nodes.NodeList.{NodeList}
 use Rattle.table.specs.Table.{lookup, isVar, isValue, mark, newScope, newSymbol}
 use Rattle.table.specs.State.{Walked, introduce, childScope, ownSymbol, marked, unmarked}
@@ -23,7 +30,7 @@ use Rattle.environment.specs.Stands.{told, Tells, Stands, Named, Asking}
 use Rattle.environment.proofs.Asking.{loudFields, quiet, quiet-term, quiet-head, quiet-then, asked-term, asked-head, asked-then, ident-named}
 use Rattle.environment.proofs.Laws.{left, left-bare, Older, tells-later}
 use Rattle.ordered.specs.Walk.{Role, occurs, declares, names, defines, walkIdent, walk}
-use Rattle.ordered.specs.Promises.{over, rest, overAll, unless, Ends, Few, Ready, Variable, Defining}
+use Rattle.ordered.specs.Promises.{over, inside, rest, overAll, unless, Ends, Few, Ready, Variable, Defining}
 use Rattle.ordered.proofs.Steps.{ident-step, name-step, one, two, memberOf, term-whole, term-wild, plain-whole, term-wrapped, head-whole, head-case, head-wrapped, head-ident}
 use Rattle.ordered.proofs.Lists.{rest-more, rest-end, listOf, headMemberOf}
 use Rattle.ordered.proofs.Atoms.{plain-wrapped, var-ident, var-other, Defined, definedOf}
@@ -54,23 +61,23 @@ module _ (img : List ℕ) where
   unfolding loudFields
   list-ends {e = e} p q h w = ends-left (e .scope) (p .is .below) (quiet img refl (p .is)) (listOf img p q .whole) w h
 
-  -- a term, an app head, that wraps a child which is walked as itself
-  pub term-ends : {n d : ℕ} {e f g : Walked} {env : List ℕ} → Ready img (kindOf 12) n e → (c : ℕ) → suc c ≡ field img n 0 → d ≡ field img n 1 → eqb (getD termKinds (suc c) noChild) noChild ≡ false
-      → g ≡ marked img n (e .scope) f → Ends img (over img d e) f env → Ends img (over img n e) g env
-  term-ends {n} {e = e} p c q q2 s w h =
-      ends-left (e .scope) (p .is .below) (quiet-term img (p .is) (λ z. let y = q in omega arith))
-      (term-whole img e (p .is) ∙ ap (marked img n (e .scope)) (term-wrapped img p (suc c) q q2 s .inner)) w h
+  -- a term that is no ident, after what is below it
+  pub other-ends : {n : ℕ} {e f g : Walked} {env : List ℕ} → Ready img (kindOf 12) n e → (field img n 0 ≡ 0 → ⊥) → Ends img (inside img occurs n e) f env → g ≡ marked img n (e .scope) f → Ends img (over img n e) g env
+  other-ends {e = e} p z h w = ends-left (e .scope) (p .is .below) (quiet-term img (p .is) z) (term-whole img e (p .is)) w h
 
+  -- a wildcard: of Ident and Wildcard it is the other
+  pub wild-ends : {n : ℕ} {e : Walked} {env : List ℕ} {t : Term} → Is img (kindOf 12) n → (field img n 0 ≡ 0 → ⊥) → t ≡ termAt img n → OneOf (0 ∷ 1 ∷ []) (tagOf TermCode.the-type t) → Stands img e env → Ends img (inside img occurs n e) e env
+  wild-ends {n} {e} {t = t} is z q h s = record { same = sym (term-wild img occurs e is one); stands = s }
+    where
+      one : 1 ≡ field img n 0
+      one = ⊎-elim (λ (i : tagOf TermCode.the-type t ≡ 0). absurd (z (sym (term-number img is q) ∙ i))) (λ (i : tagOf TermCode.the-type t ≡ 1). sym i ∙ term-number img is q) h
+
+  -- an app head that wraps a child which is walked as itself
   pub head-ends : {n d : ℕ} {e f g : Walked} {env : List ℕ} → Ready img (kindOf 15) n e → (c : ℕ) → suc c ≡ field img n 0 → d ≡ field img n 1 → eqb (getD headKinds (suc c) noChild) noChild ≡ false
       → g ≡ marked img n (e .scope) f → Ends img (over img d e) f env → Ends img (over img n e) g env
   head-ends {n} {e = e} p c q q2 s w h =
       ends-left (e .scope) (p .is .below) (quiet-head img (p .is) (λ z. let y = q in omega arith))
       (head-whole img e (p .is) ∙ ap (marked img n (e .scope)) (head-wrapped img p c q q2 s .inner)) w h
-
-  pub wild-ends : {n : ℕ} {e g : Walked} {env : List ℕ} → Is img (kindOf 12) n → 1 ≡ field img n 0 → g ≡ marked img n (e .scope) e → Stands img e env → Ends img (over img n e) g env
-  wild-ends {n} {e} is q w s =
-      ends-left (e .scope) (is .below) (quiet-term img is (λ z. let y = q in omega arith))
-      (term-whole img e is ∙ ap (marked img n (e .scope)) (term-wild img occurs e is q)) w (record { same = refl; stands = s })
 
   -- no name is asked for at an IdentTerm
   pub ident-quiet : {i : ℕ} → Is img (kindOf 13) i → asked img i ≡ none
@@ -175,6 +182,13 @@ module _ (img : List ℕ) where
     pub step : marked img i (e .scope) (unless img b i e) ≡ walk img r (treeAt img i) e
     pub all : whole ≡ marked img n (e .scope) (marked img i (e .scope) (unless img b i e))
 
+  -- the name of a term's ident, and of an app head's
+  pub var-below : {r : Role} {n i x : ℕ} {e : Walked} → Variable img r n e → Two img n 0 i → x ≡ field img i 0 → x < namesMost
+  var-below p t q = ident-named img (var-ident img p (t .first) (t .second) .is) q .below
+
+  pub head-below : {n i x : ℕ} {e : Walked} → Ready img (kindOf 15) n e → Two img n 0 i → x ≡ field img i 0 → x < namesMost
+  head-below {e = e} p t q = ident-named img (head-case img {e = e} names (p .is) 0 (t .first) (t .second) refl .is) q .below
+
   -- of a term, in its role
   pub identOf : {r : Role} {n i x : ℕ} {b : Bool} {e : Walked} → Variable img r n e → Two img n 0 i → x ≡ field img i 0 → b ≡ asks r (lookup img (e .table) (from r e) x)
       → Ident r n i x b e (walk img r (treeAt img n) e)
@@ -269,6 +283,10 @@ module _ (img : List ℕ) where
   definedAtom {n} {e = e} p t q =
       let o = plain-wrapped img (30 ∷ 34 ∷ 31 ∷ []) p 1 (t .first) (t .second) refl in
       record { ready = o .ready; parts = definedOf img (o .ready) q; whole = plain-whole img e (p .is) ∙ ap (marked img n (e .scope)) (o .inner) }
+
+  -- the name of its variable
+  pub defining-below : {n id v d i x : ℕ} {e : Walked} → Ready img (kindOf 29) n e → Defining img n id v d i → x ≡ field img i 0 → x < namesMost
+  defining-below {v = v} p g q = var-below (definedAtom p (g .defined) (g .terms .second) .parts .second v (sym (g .terms .first))) (g .named) q
 
   -- the atom left, where its name is asked for, and where none is
   pub atom-asked : {n id d : ℕ} {e f g : Walked} {env env' : List ℕ} → DefinedAtom n id d e → Ends img (over img id e) f env → g ≡ marked img n (e .scope) f → Stands img g env' → Ends img (over img n e) g env'

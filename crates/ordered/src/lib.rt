@@ -20,7 +20,7 @@ use typed::nodes::*;
 pub fn walk_arg_decl_list(
     image: &[u8],
     table: &mut [u32],
-    env: &mut [u32],
+    env: &mut [u16; environment::WORDS],
     current: Walked,
     list: ArgDeclListId,
 ) -> Walked
@@ -35,7 +35,7 @@ pub fn walk_arg_decl_list(
 fn walk_args(
     image: &[u8],
     table: &mut [u32],
-    env: &mut [u32],
+    env: &mut [u16; environment::WORDS],
     current: Walked,
     args: ArgDeclIds,
 ) -> Walked
@@ -55,7 +55,7 @@ fn walk_args(
 fn walk_arg_decl(
     image: &[u8],
     table: &mut [u32],
-    env: &mut [u32],
+    env: &mut [u16; environment::WORDS],
     current: Walked,
     arg: ArgDeclId,
 ) -> Walked
@@ -77,7 +77,7 @@ fn walk_arg_decl(
 pub fn walk_stmt_block(
     image: &[u8],
     table: &mut [u32],
-    env: &mut [u32],
+    env: &mut [u16; environment::WORDS],
     current: Walked,
     stmts: StmtIds,
 ) -> Walked
@@ -97,7 +97,7 @@ pub fn walk_stmt_block(
 fn walk_stmt(
     image: &[u8],
     table: &mut [u32],
-    env: &mut [u32],
+    env: &mut [u16; environment::WORDS],
     current: Walked,
     stmt: StmtId,
 ) -> Walked
@@ -111,7 +111,7 @@ fn walk_stmt(
 fn walk_stmt_case(
     image: &[u8],
     table: &mut [u32],
-    env: &mut [u32],
+    env: &mut [u16; environment::WORDS],
     current: Walked,
     stmt: StmtId,
 ) -> Walked
@@ -129,7 +129,7 @@ fn walk_stmt_case(
 fn walk_if_stmt(
     image: &[u8],
     table: &mut [u32],
-    env: &mut [u32],
+    env: &mut [u16; environment::WORDS],
     current: Walked,
     id: IfStmtId,
 ) -> Walked
@@ -144,7 +144,7 @@ fn walk_if_stmt(
 fn walk_then_stmt(
     image: &[u8],
     table: &mut [u32],
-    env: &mut [u32],
+    env: &mut [u16; environment::WORDS],
     current: Walked,
     id: ThenStmtId,
 ) -> Walked
@@ -159,7 +159,7 @@ fn walk_then_stmt(
 fn walk_branch(
     image: &[u8],
     table: &mut [u32],
-    env: &mut [u32],
+    env: &mut [u16; environment::WORDS],
     current: Walked,
     id: BranchStmtId,
 ) -> Walked
@@ -174,7 +174,7 @@ fn walk_branch(
 fn walk_blocks(
     image: &[u8],
     table: &mut [u32],
-    env: &mut [u32],
+    env: &mut [u16; environment::WORDS],
     current: Walked,
     id: BranchStmtId,
 ) -> Walked
@@ -199,7 +199,7 @@ fn walk_blocks(
 fn walk_match(
     image: &[u8],
     table: &mut [u32],
-    env: &mut [u32],
+    env: &mut [u16; environment::WORDS],
     current: Walked,
     id: MatchStmtId,
 ) -> Walked
@@ -216,7 +216,7 @@ fn walk_match(
 fn walk_cases(
     image: &[u8],
     table: &mut [u32],
-    env: &mut [u32],
+    env: &mut [u16; environment::WORDS],
     current: Walked,
     cases: MatchCaseIds,
 ) -> Walked
@@ -237,7 +237,7 @@ fn walk_cases(
 fn walk_match_case(
     image: &[u8],
     table: &mut [u32],
-    env: &mut [u32],
+    env: &mut [u16; environment::WORDS],
     current: Walked,
     case: MatchCaseId,
 ) -> Walked
@@ -255,7 +255,7 @@ fn walk_match_case(
 fn walk_if_atom(
     image: &[u8],
     table: &mut [u32],
-    env: &mut [u32],
+    env: &mut [u16; environment::WORDS],
     current: Walked,
     atom: IfAtomId,
 ) -> Walked
@@ -269,7 +269,7 @@ fn walk_if_atom(
 fn walk_if_atom_case(
     image: &[u8],
     table: &mut [u32],
-    env: &mut [u32],
+    env: &mut [u16; environment::WORDS],
     current: Walked,
     atom: IfAtomId,
 ) -> Walked
@@ -294,7 +294,7 @@ fn walk_if_atom_case(
 fn walk_var_atom(
     image: &[u8],
     table: &mut [u32],
-    env: &mut [u32],
+    env: &mut [u16; environment::WORDS],
     current: Walked,
     id: VarIfAtomId,
 ) -> Walked
@@ -310,7 +310,7 @@ fn walk_var_atom(
 fn walk_then_atom(
     image: &[u8],
     table: &mut [u32],
-    env: &mut [u32],
+    env: &mut [u16; environment::WORDS],
     current: Walked,
     atom: ThenAtomId,
 ) -> Walked
@@ -335,7 +335,7 @@ fn walk_then_atom(
 fn walk_then_defined_atom(
     image: &[u8],
     table: &mut [u32],
-    env: &mut [u32],
+    env: &mut [u16; environment::WORDS],
     current: Walked,
     atom: ThenAtomId,
     id: DefinedThenAtomId,
@@ -367,7 +367,7 @@ fn walk_then_defined_atom(
 fn walk_pred_atom(
     image: &[u8],
     table: &mut [u32],
-    env: &mut [u32],
+    env: &mut [u16; environment::WORDS],
     current: Walked,
     id: PredAtomId,
 ) -> Walked
@@ -384,7 +384,7 @@ fn walk_pred_atom(
 fn walk_term(
     image: &[u8],
     table: &mut [u32],
-    env: &mut [u32],
+    env: &mut [u16; environment::WORDS],
     current: Walked,
     term: TermId,
 ) -> Walked
@@ -393,34 +393,43 @@ fn walk_term(
 {
     match typed::term(image, term) {
         Term::Ident(id) => walk_ident_term(image, table, env, current, term, id),
-        Term::Wildcard => table::leave(image, table, term.0, current, current),
-        Term::App(id) => {
-            let exit = walk_app_term(image, table, env, current, id);
+        _ => {
+            let exit = walk_term_case(image, table, env, current, term);
             table::leave(image, table, term.0, current, exit)
         }
-        Term::Member(id) => {
-            let exit = walk_term_member(image, table, env, current, id);
-            table::leave(image, table, term.0, current, exit)
-        }
+    }
+}
+
+// What stands below a term that is no ident.
+fn walk_term_case(
+    image: &[u8],
+    table: &mut [u32],
+    env: &mut [u16; environment::WORDS],
+    current: Walked,
+    term: TermId,
+) -> Walked
+    requires { ⌜ (Ready (now image) (kindOf termKind) (term .0 .0) (walkedOf current (now table))) × («image-spec».field (now image) (term .0 .0) 0 ≡ 0 → ⊥) × Stands (now image) (walkedOf current (now table)) (now env) ⌝ }
+    ensures { λ r. ⌜ Ends (now (image .entry)) (inside (now (image .entry)) occurs (term .0 .0) (walkedOf current (now (table .entry)))) (walkedOf r (now (table .exit))) (now (env .exit)) ⌝ }
+{
+    match typed::term(image, term) {
+        Term::Ident(_) | Term::Wildcard => current,
+        Term::App(id) => walk_app_term(image, table, env, current, id),
+        Term::Member(id) => walk_term_member(image, table, env, current, id),
         Term::Dom(id) => {
             let DomTerm { arg } = typed::dom_term(image, id);
-            let exit = walk_one_term(image, table, env, current, id.0, arg);
-            table::leave(image, table, term.0, current, exit)
+            walk_one_term(image, table, env, current, id.0, arg)
         }
         Term::Cod(id) => {
             let CodTerm { arg } = typed::cod_term(image, id);
-            let exit = walk_one_term(image, table, env, current, id.0, arg);
-            table::leave(image, table, term.0, current, exit)
+            walk_one_term(image, table, env, current, id.0, arg)
         }
         Term::Id(id) => {
             let IdTerm { arg } = typed::id_term(image, id);
-            let exit = walk_one_term(image, table, env, current, id.0, arg);
-            table::leave(image, table, term.0, current, exit)
+            walk_one_term(image, table, env, current, id.0, arg)
         }
         Term::Comp(id) => {
             let CompTerm { first, second } = typed::comp_term(image, id);
-            let exit = walk_two_terms(image, table, env, current, id.0, first, second);
-            table::leave(image, table, term.0, current, exit)
+            walk_two_terms(image, table, env, current, id.0, first, second)
         }
     }
 }
@@ -428,7 +437,7 @@ fn walk_term(
 fn walk_app_term(
     image: &[u8],
     table: &mut [u32],
-    env: &mut [u32],
+    env: &mut [u16; environment::WORDS],
     current: Walked,
     id: AppTermId,
 ) -> Walked
@@ -445,7 +454,7 @@ fn walk_app_term(
 fn walk_one_term(
     image: &[u8],
     table: &mut [u32],
-    env: &mut [u32],
+    env: &mut [u16; environment::WORDS],
     current: Walked,
     id: NodeId,
     arg: TermId,
@@ -461,7 +470,7 @@ fn walk_one_term(
 fn walk_two_terms(
     image: &[u8],
     table: &mut [u32],
-    env: &mut [u32],
+    env: &mut [u16; environment::WORDS],
     current: Walked,
     id: NodeId,
     first: TermId,
@@ -478,7 +487,7 @@ fn walk_two_terms(
 fn walk_app_head(
     image: &[u8],
     table: &mut [u32],
-    env: &mut [u32],
+    env: &mut [u16; environment::WORDS],
     current: Walked,
     head: AppHeadId,
 ) -> Walked
@@ -502,7 +511,7 @@ fn walk_app_head(
 fn walk_head_ident(
     image: &[u8],
     table: &mut [u32],
-    env: &mut [u32],
+    env: &mut [u16; environment::WORDS],
     current: Walked,
     head: AppHeadId,
     ident: IdentTermId,
@@ -519,7 +528,7 @@ fn walk_head_ident(
 fn walk_app_head_member(
     image: &[u8],
     table: &mut [u32],
-    env: &mut [u32],
+    env: &mut [u16; environment::WORDS],
     current: Walked,
     id: AppHeadMemberId,
 ) -> Walked
@@ -551,7 +560,7 @@ fn walk_names(image: &[u8], table: &mut [u32], current: Walked, names: IdentTerm
 fn walk_ident_term(
     image: &[u8],
     table: &mut [u32],
-    env: &mut [u32],
+    env: &mut [u16; environment::WORDS],
     current: Walked,
     term: TermId,
     ident: IdentTermId,
@@ -568,7 +577,7 @@ fn walk_ident_term(
 }
 
 // The word tells of a Var or a Const.
-fn is_value(image: &[u8], table: &[u32], word: u32) -> bool
+fn is_value(image: &[u8], table: &[u32], word: u16) -> bool
     ensures { λ r. ⌜ r ≡ «table-spec».isValue (now (image .entry)) (told (now (image .entry)) (now (table .entry)) word) ⌝ }
 {
     table::is_value(image, environment::found(image, table, word))
@@ -578,7 +587,7 @@ fn is_value(image: &[u8], table: &[u32], word: u32) -> bool
 fn walk_var_term(
     image: &[u8],
     table: &mut [u32],
-    env: &mut [u32],
+    env: &mut [u16; environment::WORDS],
     current: Walked,
     term: TermId,
 ) -> Walked
@@ -595,7 +604,7 @@ fn walk_var_term(
 fn walk_var_ident(
     image: &[u8],
     table: &mut [u32],
-    env: &mut [u32],
+    env: &mut [u16; environment::WORDS],
     current: Walked,
     term: TermId,
     ident: IdentTermId,
@@ -616,7 +625,7 @@ fn walk_var_ident(
 fn walk_then_defined_var(
     image: &[u8],
     table: &mut [u32],
-    env: &mut [u32],
+    env: &mut [u16; environment::WORDS],
     current: Walked,
     atom: ThenAtomId,
     id: DefinedThenAtomId,
@@ -649,7 +658,7 @@ fn walk_then_defined_var(
 }
 
 // The word tells of a Var.
-fn is_var(image: &[u8], table: &[u32], word: u32) -> bool
+fn is_var(image: &[u8], table: &[u32], word: u16) -> bool
     ensures { λ r. ⌜ r ≡ «table-spec».isVar (now (image .entry)) (told (now (image .entry)) (now (table .entry)) word) ⌝ }
 {
     table::is_var(image, environment::found(image, table, word))
@@ -659,7 +668,7 @@ fn is_var(image: &[u8], table: &[u32], word: u32) -> bool
 fn bind_unless(
     image: &[u8],
     table: &mut [u32],
-    env: &mut [u32],
+    env: &mut [u16; environment::WORDS],
     current: Walked,
     ident: IdentTermId,
     name: u32,
@@ -677,7 +686,7 @@ fn bind_unless(
 fn walk_term_member(
     image: &[u8],
     table: &mut [u32],
-    env: &mut [u32],
+    env: &mut [u16; environment::WORDS],
     current: Walked,
     id: TermMemberId,
 ) -> Walked
@@ -693,7 +702,7 @@ fn walk_term_member(
 fn walk_term_list(
     image: &[u8],
     table: &mut [u32],
-    env: &mut [u32],
+    env: &mut [u16; environment::WORDS],
     current: Walked,
     list: TermListId,
 ) -> Walked
@@ -708,7 +717,7 @@ fn walk_term_list(
 fn walk_terms(
     image: &[u8],
     table: &mut [u32],
-    env: &mut [u32],
+    env: &mut [u16; environment::WORDS],
     current: Walked,
     terms: TermIds,
 ) -> Walked
@@ -728,7 +737,7 @@ fn walk_terms(
 pub fn walk_type_expr(
     image: &[u8],
     table: &mut [u32],
-    env: &mut [u32],
+    env: &mut [u16; environment::WORDS],
     current: Walked,
     typ: TypeExprId,
 ) -> Walked
@@ -742,7 +751,7 @@ pub fn walk_type_expr(
 fn walk_type_expr_case(
     image: &[u8],
     table: &mut [u32],
-    env: &mut [u32],
+    env: &mut [u16; environment::WORDS],
     current: Walked,
     typ: TypeExprId,
 ) -> Walked
@@ -759,7 +768,7 @@ fn walk_type_expr_case(
 fn walk_pred_expr(
     image: &[u8],
     table: &mut [u32],
-    env: &mut [u32],
+    env: &mut [u16; environment::WORDS],
     current: Walked,
     pred: PredExprId,
 ) -> Walked
@@ -773,7 +782,7 @@ fn walk_pred_expr(
 fn walk_pred_expr_case(
     image: &[u8],
     table: &mut [u32],
-    env: &mut [u32],
+    env: &mut [u16; environment::WORDS],
     current: Walked,
     pred: PredExprId,
 ) -> Walked

@@ -98,7 +98,7 @@ pub fn resolve_scopes(image: &[u8], table: &mut [u32]) -> Resolved
     if refusal != 0 {
         return Resolved::Refused(refusal);
     }
-    let mut env = [0u32; environment::WORDS];
+    let mut env = [0u16; environment::WORDS];
     match resolve_into(image, table, &mut env) {
         Declared::Done(walked) => Resolved::Scopes(walked.scopes, walked.symbols),
         Declared::Twice(name, first, second) => Resolved::Twice(name, first, second),
@@ -121,7 +121,7 @@ pub fn test_table(image: &[u8], table: &[u32]) -> u32
 
 // Resolve, where 1 to 13 refuse nothing: where the walk stands after the module, or the name that is declared twice. The
 // environment has what was noted then, for the checks.
-pub fn resolve_into(image: &[u8], table: &mut [u32], env: &mut [u32]) -> Declared
+pub fn resolve_into(image: &[u8], table: &mut [u32], env: &mut [u16; environment::WORDS]) -> Declared
     requires { ⌜ (testTable (now image) (now table) ≡ 0) × (now env ≡ replicate environmentLength 0) ⌝ }
     ensures { λ r. ⌜ Resolves (now (image .entry)) (now (table .entry)) r (now (table .exit)) × NotedBy (now (image .entry)) r (now (table .exit)) (now (env .exit)) ⌝ }
 {
@@ -146,7 +146,7 @@ const NO_SCOPE: u32 = 4294967295;
 const STAMPS: usize = 1024;
 
 // The whole module, in a table with no scope and no symbol.
-fn walk_module(image: &[u8], table: &mut [u32], env: &mut [u32]) -> Declared
+fn walk_module(image: &[u8], table: &mut [u32], env: &mut [u16; environment::WORDS]) -> Declared
     requires { ⌜ Lent (now image) (now table) (now env) ⌝ }
     ensures { λ r. ⌜ Visits (now (image .entry)) (resolveTree (now (image .entry)) (treeAt (now (image .entry)) («image-spec».last (now (image .entry)))) (record { words = now (table .entry); scopes = 0; symbols = 0 })) (now (table .entry)) r (now (env .exit)) (now (table .exit)) ⌝ }
 {
@@ -213,7 +213,7 @@ fn insert_decl_symbol(
     image: &[u8],
     table: &mut [u32],
     seen: &mut [u32],
-    env: &mut [u32],
+    env: &mut [u16; environment::WORDS],
     current: Walked,
     name: u32,
     id: NodeId,
@@ -255,7 +255,7 @@ fn walk_decls(
     image: &[u8],
     table: &mut [u32],
     seen: &mut [u32],
-    env: &mut [u32],
+    env: &mut [u16; environment::WORDS],
     current: Walked,
     decls: DeclIds,
 ) -> Declared
@@ -273,7 +273,7 @@ fn enter_decls(
     image: &[u8],
     table: &mut [u32],
     seen: &mut [u32],
-    env: &mut [u32],
+    env: &mut [u16; environment::WORDS],
     current: Walked,
     decls: DeclIds,
 ) -> Declared
@@ -302,7 +302,7 @@ fn enter_decl(
     image: &[u8],
     table: &mut [u32],
     seen: &mut [u32],
-    env: &mut [u32],
+    env: &mut [u16; environment::WORDS],
     current: Walked,
     decl: DeclId,
 ) -> Declared
@@ -341,7 +341,7 @@ fn enter_signature(
     image: &[u8],
     table: &mut [u32],
     seen: &mut [u32],
-    env: &mut [u32],
+    env: &mut [u16; environment::WORDS],
     current: Walked,
     name: u32,
     id: NodeId,
@@ -358,7 +358,7 @@ fn enter_rule(
     image: &[u8],
     table: &mut [u32],
     seen: &mut [u32],
-    env: &mut [u32],
+    env: &mut [u16; environment::WORDS],
     current: Walked,
     id: RuleDeclId,
 ) -> Declared
@@ -378,7 +378,7 @@ fn enter_enum(
     image: &[u8],
     table: &mut [u32],
     seen: &mut [u32],
-    env: &mut [u32],
+    env: &mut [u16; environment::WORDS],
     current: Walked,
     id: EnumDeclId,
 ) -> Declared
@@ -397,7 +397,7 @@ fn enter_ctors(
     image: &[u8],
     table: &mut [u32],
     seen: &mut [u32],
-    env: &mut [u32],
+    env: &mut [u16; environment::WORDS],
     current: Walked,
     ctors: CtorDeclIds,
 ) -> Declared
@@ -427,7 +427,7 @@ fn visit_decls(
     image: &[u8],
     table: &mut [u32],
     seen: &mut [u32],
-    env: &mut [u32],
+    env: &mut [u16; environment::WORDS],
     current: Walked,
     decls: DeclIds,
 ) -> Declared
@@ -456,7 +456,7 @@ fn visit_decl(
     image: &[u8],
     table: &mut [u32],
     seen: &mut [u32],
-    env: &mut [u32],
+    env: &mut [u16; environment::WORDS],
     current: Walked,
     decl: DeclId,
 ) -> Declared
@@ -477,7 +477,7 @@ fn visit_decl(
 fn visit_pred_decl(
     image: &[u8],
     table: &mut [u32],
-    env: &mut [u32],
+    env: &mut [u16; environment::WORDS],
     current: Walked,
     id: PredDeclId,
 ) -> Walked
@@ -492,7 +492,7 @@ fn visit_pred_decl(
 fn visit_func_decl(
     image: &[u8],
     table: &mut [u32],
-    env: &mut [u32],
+    env: &mut [u16; environment::WORDS],
     current: Walked,
     id: FuncDeclId,
 ) -> Walked
@@ -508,7 +508,7 @@ fn visit_func_decl(
 fn visit_const_decl(
     image: &[u8],
     table: &mut [u32],
-    env: &mut [u32],
+    env: &mut [u16; environment::WORDS],
     current: Walked,
     id: ConstDeclId,
 ) -> Walked
@@ -523,7 +523,7 @@ fn visit_const_decl(
 fn visit_rule_decl(
     image: &[u8],
     table: &mut [u32],
-    env: &mut [u32],
+    env: &mut [u16; environment::WORDS],
     current: Walked,
     id: RuleDeclId,
 ) -> Walked
@@ -539,7 +539,7 @@ fn visit_rule_decl(
 fn visit_enum_decl(
     image: &[u8],
     table: &mut [u32],
-    env: &mut [u32],
+    env: &mut [u16; environment::WORDS],
     current: Walked,
     id: EnumDeclId,
 ) -> Walked
@@ -565,7 +565,7 @@ fn visit_model_decl(
     image: &[u8],
     table: &mut [u32],
     seen: &mut [u32],
-    env: &mut [u32],
+    env: &mut [u16; environment::WORDS],
     current: Walked,
     id: ModelDeclId,
 ) -> Declared

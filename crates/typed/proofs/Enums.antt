@@ -5,6 +5,7 @@ use mathlib.Core.Logic.{⊎-elim}
 use Prim.Native.Nat.{ℕ, zero, suc, _<_}
 use native.Mathlib.Omega.{arith}
 use types.Run.{OneOf}
+use denote.Enum.Declared.{tagOf}
 use Rattle.ast.specs.Image.{field}
 use Rattle.ast.specs.Is.{Is}
 use Rattle.ast.specs.Kinds.{noChild, kindOf}
@@ -29,6 +30,7 @@ use Rattle.typed.specs.declared.nodes.ThenAtom.{ThenAtom}
 use Rattle.typed.specs.declared.nodes.ThenAtom.the-variants as then-atom
 use Rattle.typed.specs.declared.nodes.Stmt.{Stmt}
 use Rattle.typed.specs.declared.nodes.Stmt.the-variants as stmt
+use Rattle.typed.proofs.nodes.Term as TermCode
 
 module _ (img : List ℕ) (n : ℕ) where
   -- the row's case number is k, its child i
@@ -179,6 +181,20 @@ module _ (img : List ℕ) where
       go (suc (suc (suc (suc c)))) h l = absurd (omega arith)
 
   -- a term that is no ident
+  -- the place of the variant is the row's number
+  pub term-number : {n : ℕ} {t : Term} → Is img (kindOf termKind) n → t ≡ termAt img n → tagOf TermCode.the-type t ≡ field img n 0
+  term-number {n} {t} is q = go t q
+    where
+      go : (s : Term) → s ≡ termAt img n → tagOf TermCode.the-type s ≡ field img n 0
+      go (term.Ident i) e = (term-is is e refl) .number
+      go term.Wildcard e = term-is is e refl
+      go (term.App i) e = (term-is is e refl) .number
+      go (term.Member i) e = (term-is is e refl) .number
+      go (term.Dom i) e = (term-is is e refl) .number
+      go (term.Cod i) e = (term-is is e refl) .number
+      go (term.Id i) e = (term-is is e refl) .number
+      go (term.Comp i) e = (term-is is e refl) .number
+
   pub term-other : {n : ℕ} {t : Term} → Is img (kindOf termKind) n → t ≡ termAt img n → ((i : IdentTermId) → t ≡ term.Ident i → ⊥) → field img n 0 ≡ 0 → ⊥
   term-other {n} {t} is q h z = go t refl
     where

@@ -201,40 +201,37 @@ walk-blocks-branch-stmt-requires : (t : ℕ) → walk-blocks-lts.Need-branch-stm
 walk-blocks-branch-stmt-requires t c κs = search needs
 
 walk-blocks-loop-holds : (t : ℕ) → walk-blocks-lts.Need-loop-holds (walk-blocks-claims t) (walk-blocks-at t) walk-blocks.Post walk-blocks-Inv-loop walk-blocks-μ-loop
-walk-blocks-loop-holds t c = (branch-start _ (c .before .before .before .before .before .pre .1 .0 .is) (c .before .branch-stmt .ensures), c .before .before .before .before .before .pre .1 .1)
+walk-blocks-loop-holds t c = (branch-start _ (c .before .before .before .before .pre .1 .0 .is) (c .before .branch-stmt .ensures), c .before .before .before .before .pre .1 .1)
 
 walk-blocks-block-requires : (t : ℕ) → walk-blocks-lts.Need-block-requires (walk-blocks-claims t) (walk-blocks-at t) walk-blocks.Post walk-blocks-Inv-loop walk-blocks-μ-loop
 walk-blocks-block-requires t c κs = branch-place _ (c .before .before .loop .inv .0)
 
 walk-blocks-walk-stmt-block-requires : (t : ℕ) → walk-blocks-lts.Need-walk-stmt-block-requires (walk-blocks-claims t) (walk-blocks-at t) walk-blocks.Post walk-blocks-Inv-loop walk-blocks-μ-loop
-walk-blocks-walk-stmt-block-requires t c κs = (let m = c .before .before .before .before .before .before .before .branch-stmt .ensures .node in let l = c .before .before .block .ensures .node in omega arith, (blockItem _ (c .before .before .before .before .before .before .before .before .before .before .before .pre .1 .0) (c .before .before .before .before .before .before .before .branch-stmt .ensures) (c .before .before .before .before .before .loop .inv .0) (c .before .before .before .if1 .taken) (c .before .before .block .ensures) .run, c .before .before .before .before .before .loop .inv .1))
+walk-blocks-walk-stmt-block-requires t c κs = (let m = c .before .before .before .before .before .before .before .branch-stmt .ensures .node in let l = c .before .before .block .ensures .node in omega arith, (blockItem _ (c .before .before .before .before .before .before .before .before .before .before .pre .1 .0) (c .before .before .before .before .before .before .before .branch-stmt .ensures) (c .before .before .before .before .before .loop .inv .0) (c .before .before .before .if1 .taken) (c .before .before .block .ensures) .run, c .before .before .before .before .before .loop .inv .1))
 
 walk-blocks-put-back-requires : (t : ℕ) → walk-blocks-lts.Need-put-back-requires (walk-blocks-claims t) (walk-blocks-at t) walk-blocks.Post walk-blocks-Inv-loop walk-blocks-μ-loop
-walk-blocks-put-back-requires t c κs = (c .before .before .before .before .before .before .before .walk-stmt-block .ensures .stands, block-path _ (blockItem _ (c .before .before .before .before .before .before .before .before .before .before .before .before .before .before .before .before .before .before .before .pre .1 .0) (c .before .before .before .before .before .before .before .before .before .before .before .before .before .before .before .branch-stmt .ensures) (c .before .before .before .before .before .before .before .before .before .before .before .before .before .loop .inv .0) (c .before .before .before .before .before .before .before .before .before .before .before .if1 .taken) (c .before .before .before .before .before .before .before .before .before .before .block .ensures) .run) (c .before .before .before .before .before .before .before .before .before .before .before .before .before .loop .inv .1) (c .before .before .before .before .before .before .before .walk-stmt-block .ensures))
+walk-blocks-put-back-requires t c κs = (c .before .before .before .before .before .walk-stmt-block .ensures .stands, block-path _ (blockItem _ (c .before .before .before .before .before .before .before .before .before .before .before .before .before .before .before .before .pre .1 .0) (c .before .before .before .before .before .before .before .before .before .before .before .before .before .branch-stmt .ensures) (c .before .before .before .before .before .before .before .before .before .before .before .loop .inv .0) (c .before .before .before .before .before .before .before .before .before .if1 .taken) (c .before .before .before .before .before .before .before .before .block .ensures) .run) (c .before .before .before .before .before .before .before .before .before .before .before .loop .inv .1) (c .before .before .before .before .before .walk-stmt-block .ensures))
 
 walk-blocks-add-place : (t : ℕ) → walk-blocks-lts.Need-add-place (walk-blocks-claims t) (walk-blocks-at t) walk-blocks.Post walk-blocks-Inv-loop walk-blocks-μ-loop
-walk-blocks-add-place t c = let b = blockItem _ (c .before .before .before .before .before .before .before .before .before .before .before .before .before .before .before .before .before .before .before .before .before .before .before .pre .1 .0) (c .before .before .before .before .before .before .before .before .before .before .before .before .before .before .before .before .before .before .before .branch-stmt .ensures) (c .before .before .before .before .before .before .before .before .before .before .before .before .before .before .before .before .before .loop .inv .0) (c .before .before .before .before .before .before .before .before .before .before .before .before .before .before .before .if1 .taken) (c .before .before .before .before .before .before .before .before .before .before .before .before .before .before .block .ensures) .run .run .short in omega arith
+walk-blocks-add-place t c = let b = blockItem _ (c .before .before .before .before .before .before .before .before .before .before .before .before .before .before .before .before .before .before .pre .1 .0) (c .before .before .before .before .before .before .before .before .before .before .before .before .before .before .before .branch-stmt .ensures) (c .before .before .before .before .before .before .before .before .before .before .before .before .before .loop .inv .0) (c .before .before .before .before .before .before .before .before .before .before .before .if1 .taken) (c .before .before .before .before .before .before .before .before .before .before .block .ensures) .run .run .short in omega arith
 
 walk-blocks-add-i : (t : ℕ) → walk-blocks-lts.Need-add-i (walk-blocks-claims t) (walk-blocks-at t) walk-blocks.Post walk-blocks-Inv-loop walk-blocks-μ-loop
-walk-blocks-add-i t c = let h = c .before .before .before .before .before .before .before .before .before .before .before .before .before .before .before .if1 .taken in let k = c .before .before .before .before .before .before .before .before .before .before .before .before .before .before .before .before .before .before .before .branch-stmt .ok in search needs
+walk-blocks-add-i t c = let h = c .before .before .before .before .before .before .before .before .before .before .before .if1 .taken in let k = c .before .before .before .before .before .before .before .before .before .before .before .before .before .before .before .branch-stmt .ok in search needs
 
 walk-blocks-loop-less : (t : ℕ) → walk-blocks-lts.Need-loop-less (walk-blocks-claims t) (walk-blocks-at t) walk-blocks.Post walk-blocks-Inv-loop walk-blocks-μ-loop
 walk-blocks-loop-less t c = search needs
 
 walk-blocks-loop-again : (t : ℕ) → walk-blocks-lts.Need-loop-again (walk-blocks-claims t) (walk-blocks-at t) walk-blocks.Post walk-blocks-Inv-loop walk-blocks-μ-loop
-walk-blocks-loop-again t c = (blockItem _ (c .before .before .before .before .before .before .before .before .before .before .before .before .before .before .before .before .before .before .before .before .before .before .before .pre .1 .0) (c .before .before .before .before .before .before .before .before .before .before .before .before .before .before .before .before .before .before .before .branch-stmt .ensures) (c .before .before .before .before .before .before .before .before .before .before .before .before .before .before .before .before .before .loop .inv .0) (c .before .before .before .before .before .before .before .before .before .before .before .before .before .before .before .if1 .taken) (c .before .before .before .before .before .before .before .before .before .before .before .before .before .before .block .ensures) .more _ (c .before .before .before .put-back .ensures .0 ∙ ap (back (c .before .before .before .before .before .before .before .before .before .before .before .before .before .before .before .before .before .before .before .before .before .before .before .args .image .now) _) (c .before .before .before .before .before .before .before .before .before .before .before .walk-stmt-block .ensures .same)) (c .before .before .before .before .before .before .before .before .before .before .before .walk-stmt-block .kept .1 .0 ∙ c .before .before .before .before .before .before .before .before .before .before .before .before .before .before .before .before .before .loop .inv .0 .long), c .before .before .before .put-back .ensures .1)
+walk-blocks-loop-again t c = (blockItem _ (c .before .before .before .before .before .before .before .before .before .before .before .before .before .before .before .before .before .before .pre .1 .0) (c .before .before .before .before .before .before .before .before .before .before .before .before .before .before .before .branch-stmt .ensures) (c .before .before .before .before .before .before .before .before .before .before .before .before .before .loop .inv .0) (c .before .before .before .before .before .before .before .before .before .before .before .if1 .taken) (c .before .before .before .before .before .before .before .before .before .before .block .ensures) .more _ (c .before .put-back .ensures .0 ∙ ap (back (c .before .before .before .before .before .before .before .before .before .before .before .before .before .before .before .before .before .before .args .image .now) _) (c .before .before .before .before .before .before .before .walk-stmt-block .ensures .same)) (c .before .before .before .before .before .before .before .walk-stmt-block .kept .1 .0 ∙ c .before .before .before .before .before .before .before .before .before .before .before .before .before .loop .inv .0 .long), c .before .put-back .ensures .1)
 
 walk-blocks-same-length : (t : ℕ) → walk-blocks-lts.Need-same-length (walk-blocks-claims t) (walk-blocks-at t) walk-blocks.Post walk-blocks-Inv-loop walk-blocks-μ-loop
 walk-blocks-same-length t c = c .before .before .loop .inv .0 .long
-
-walk-blocks-same-length-2 : (t : ℕ) → walk-blocks-lts.Need-same-length-2 (walk-blocks-claims t) (walk-blocks-at t) walk-blocks.Post walk-blocks-Inv-loop walk-blocks-μ-loop
-walk-blocks-same-length-2 t c = c .before .before .loop .inv .1 .says .long ∙ sym (c .before .before .before .before .before .before .before .before .pre .1 .1 .says .long)
 
 walk-blocks-returns : (t : ℕ) → walk-blocks-lts.Need-returns (walk-blocks-claims t) (walk-blocks-at t) walk-blocks.Post walk-blocks-Inv-loop walk-blocks-μ-loop
 walk-blocks-returns t c = record { same = branch-end _ (c .before .before .before .before .branch-stmt .ensures) (c .before .before .loop .inv .0) (omega arith); stands = c .before .before .loop .inv .1 }
 
 walk-branch-walk-blocks-requires : (t : ℕ) → walk-branch-lts.Need-walk-blocks-requires (walk-branch-claims t) (walk-branch-at t) walk-branch.Post
-walk-branch-walk-blocks-requires t c κs = (omega arith, c .before .before .before .before .before .pre .1)
+walk-branch-walk-blocks-requires t c κs = (omega arith, c .before .before .before .before .pre .1)
 
 walk-branch-leave-requires : (t : ℕ) → walk-branch-lts.Need-leave-requires (walk-branch-claims t) (walk-branch-at t) walk-branch.Post
 walk-branch-leave-requires t c κs = search needs
@@ -242,11 +239,8 @@ walk-branch-leave-requires t c κs = search needs
 walk-branch-same-length : (t : ℕ) → walk-branch-lts.Need-same-length (walk-branch-claims t) (walk-branch-at t) walk-branch.Post
 walk-branch-same-length t c = search needs
 
-walk-branch-same-length-2 : (t : ℕ) → walk-branch-lts.Need-same-length-2 (walk-branch-claims t) (walk-branch-at t) walk-branch.Post
-walk-branch-same-length-2 t c = search needs
-
 walk-branch-returns : (t : ℕ) → walk-branch-lts.Need-returns (walk-branch-claims t) (walk-branch-at t) walk-branch.Post
-walk-branch-returns t c = branch-ends _ (c .before .before .before .before .before .before .before .before .before .before .before .before .before .before .pre .1 .0) (c .before .before .before .before .before .before .before .before .walk-blocks .ensures) (c .before .before .leave .ensures)
+walk-branch-returns t c = branch-ends _ (c .before .before .before .before .before .before .before .before .before .before .before .pre .1 .0) (c .before .before .before .before .before .before .walk-blocks .ensures) (c .before .before .leave .ensures)
 
 abbrev walk-cases-Inv-loop : walk-cases-lts.InvT-loop
 walk-cases-Inv-loop image table₀ env₀ cases i₀ cur₀ table env i cur = Left image occurs (cases .0 .node .0) (cases .0 .first) (cases .0 .count) i (walkedOf cur₀ table₀) (walkedOf cur table) × Stands image (walkedOf cur table) env
@@ -255,13 +249,13 @@ abbrev walk-cases-μ-loop : walk-cases-lts.MeasureT-loop
 walk-cases-μ-loop image table₀ env₀ cases i₀ cur₀ table env i cur = cases .0 .count - i
 
 walk-cases-loop-holds : (t : ℕ) → walk-cases-lts.Need-loop-holds (walk-cases-claims t) (walk-cases-at t) walk-cases.Post walk-cases-Inv-loop walk-cases-μ-loop
-walk-cases-loop-holds t c = (record { within = omega arith; long = refl; left = refl }, c .before .before .before .pre .1 .1)
+walk-cases-loop-holds t c = (record { within = omega arith; long = refl; left = refl }, c .before .before .pre .1 .1)
 
 walk-cases-nth-case-requires : (t : ℕ) → walk-cases-lts.Need-nth-case-requires (walk-cases-claims t) (walk-cases-at t) walk-cases.Post walk-cases-Inv-loop walk-cases-μ-loop
-walk-cases-nth-case-requires t c κs = let b = c .before .before .before .before .before .before .pre .1 .0 .run .short in omega arith
+walk-cases-nth-case-requires t c κs = let b = c .before .before .before .before .before .pre .1 .0 .run .short in omega arith
 
 walk-cases-walk-match-case-requires : (t : ℕ) → walk-cases-lts.Need-walk-match-case-requires (walk-cases-claims t) (walk-cases-at t) walk-cases.Post walk-cases-Inv-loop walk-cases-μ-loop
-walk-cases-walk-match-case-requires t c κs = let o = runItem _ (c .before .before .before .before .before .before .before .before .before .pre .1 .0) (c .before .before .before .if1 .taken) (c .before .before .nth-case .ensures) (c .before .before .before .before .before .loop .inv .0 .left) in (let l = o .low in omega arith, (o .ready, c .before .before .before .before .before .loop .inv .1))
+walk-cases-walk-match-case-requires t c κs = let o = runItem _ (c .before .before .before .before .before .before .before .before .pre .1 .0) (c .before .before .before .if1 .taken) (c .before .before .nth-case .ensures) (c .before .before .before .before .before .loop .inv .0 .left) in (let l = o .low in omega arith, (o .ready, c .before .before .before .before .before .loop .inv .1))
 
 walk-cases-add-i : (t : ℕ) → walk-cases-lts.Need-add-i (walk-cases-claims t) (walk-cases-at t) walk-cases.Post walk-cases-Inv-loop walk-cases-μ-loop
 walk-cases-add-i t c = search needs
@@ -270,13 +264,10 @@ walk-cases-loop-less : (t : ℕ) → walk-cases-lts.Need-loop-less (walk-cases-c
 walk-cases-loop-less t c = search needs
 
 walk-cases-loop-again : (t : ℕ) → walk-cases-lts.Need-loop-again (walk-cases-claims t) (walk-cases-at t) walk-cases.Post walk-cases-Inv-loop walk-cases-μ-loop
-walk-cases-loop-again t c = (record { within = omega arith; long = c .before .before .before .before .walk-match-case .kept .1 .0 ∙ c .before .before .before .before .before .before .before .before .before .before .loop .inv .0 .long; left = runItem _ (c .before .before .before .before .before .before .before .before .before .before .before .before .before .before .pre .1 .0) (c .before .before .before .before .before .before .before .before .if1 .taken) (c .before .before .before .before .before .before .before .nth-case .ensures) (c .before .before .before .before .before .before .before .before .before .before .loop .inv .0 .left) .more ∙ ap (rest _ occurs _ _ _ _) (sym (c .before .before .before .before .walk-match-case .ensures .same)) }, c .before .before .before .before .walk-match-case .ensures .stands)
+walk-cases-loop-again t c = (record { within = omega arith; long = c .before .before .walk-match-case .kept .1 .0 ∙ c .before .before .before .before .before .before .before .before .loop .inv .0 .long; left = runItem _ (c .before .before .before .before .before .before .before .before .before .before .before .pre .1 .0) (c .before .before .before .before .before .before .if1 .taken) (c .before .before .before .before .before .nth-case .ensures) (c .before .before .before .before .before .before .before .before .loop .inv .0 .left) .more ∙ ap (rest _ occurs _ _ _ _) (sym (c .before .before .walk-match-case .ensures .same)) }, c .before .before .walk-match-case .ensures .stands)
 
 walk-cases-same-length : (t : ℕ) → walk-cases-lts.Need-same-length (walk-cases-claims t) (walk-cases-at t) walk-cases.Post walk-cases-Inv-loop walk-cases-μ-loop
 walk-cases-same-length t c = c .before .before .loop .inv .0 .long
-
-walk-cases-same-length-2 : (t : ℕ) → walk-cases-lts.Need-same-length-2 (walk-cases-claims t) (walk-cases-at t) walk-cases.Post walk-cases-Inv-loop walk-cases-μ-loop
-walk-cases-same-length-2 t c = c .before .before .loop .inv .1 .says .long ∙ sym (c .before .before .before .before .before .before .pre .1 .1 .says .long)
 
 walk-cases-returns : (t : ℕ) → walk-cases-lts.Need-returns (walk-cases-claims t) (walk-cases-at t) walk-cases.Post walk-cases-Inv-loop walk-cases-μ-loop
 walk-cases-returns t c = record { same = sym (c .before .before .loop .inv .0 .left ∙ rest-end _ _ _ _ _ (c .before .before .loop .i) _ (omega arith)); stands = c .before .before .loop .inv .1 }
@@ -285,10 +276,10 @@ walk-match-match-stmt-requires : (t : ℕ) → walk-match-lts.Need-match-stmt-re
 walk-match-match-stmt-requires t c κs = search needs
 
 walk-match-walk-term-requires : (t : ℕ) → walk-match-lts.Need-walk-term-requires (walk-match-claims t) (walk-match-at t) walk-match.Post
-walk-match-walk-term-requires t c κs = (matchOf _ (c .before .before .before .before .before .before .before .before .pre .1 .0) (c .before .before .before .before .match-stmt .ensures) .first, c .before .before .before .before .before .before .before .before .pre .1 .1)
+walk-match-walk-term-requires t c κs = (matchOf _ (c .before .before .before .before .before .before .before .pre .1 .0) (c .before .before .before .before .match-stmt .ensures) .first, c .before .before .before .before .before .before .before .pre .1 .1)
 
 walk-match-walk-cases-requires : (t : ℕ) → walk-match-lts.Need-walk-cases-requires (walk-match-claims t) (walk-match-at t) walk-match.Post
-walk-match-walk-cases-requires t c κs = (let l = c .before .before .before .before .before .before .before .before .before .before .before .match-stmt .ensures .list .node in omega arith, (subst (ReadyRun _ 35 _ _ _) (sym (c .before .before .before .before .before .before .walk-term .ensures .same)) (matchOf _ (c .before .before .before .before .before .before .before .before .before .before .before .before .before .before .before .pre .1 .0) (c .before .before .before .before .before .before .before .before .before .before .before .match-stmt .ensures) .second), c .before .before .before .before .before .before .walk-term .ensures .stands))
+walk-match-walk-cases-requires t c κs = (let l = c .before .before .before .before .before .before .before .before .before .match-stmt .ensures .list .node in omega arith, (subst (ReadyRun _ 35 _ _ _) (sym (c .before .before .before .before .walk-term .ensures .same)) (matchOf _ (c .before .before .before .before .before .before .before .before .before .before .before .before .pre .1 .0) (c .before .before .before .before .before .before .before .before .before .match-stmt .ensures) .second), c .before .before .before .before .walk-term .ensures .stands))
 
 walk-match-leave-requires : (t : ℕ) → walk-match-lts.Need-leave-requires (walk-match-claims t) (walk-match-at t) walk-match.Post
 walk-match-leave-requires t c κs = search needs
@@ -296,39 +287,33 @@ walk-match-leave-requires t c κs = search needs
 walk-match-same-length : (t : ℕ) → walk-match-lts.Need-same-length (walk-match-claims t) (walk-match-at t) walk-match.Post
 walk-match-same-length t c = search needs
 
-walk-match-same-length-2 : (t : ℕ) → walk-match-lts.Need-same-length-2 (walk-match-claims t) (walk-match-at t) walk-match.Post
-walk-match-same-length-2 t c = search needs
-
 walk-match-returns : (t : ℕ) → walk-match-lts.Need-returns (walk-match-claims t) (walk-match-at t) walk-match.Post
-walk-match-returns t c = match-ends _ (c .before .before .before .before .before .before .before .before .before .before .before .before .before .before .before .before .before .before .before .before .before .before .before .before .pre .1 .0) (c .before .before .before .before .before .before .before .before .before .before .before .before .before .before .before .before .before .before .before .before .match-stmt .ensures) (c .before .before .before .before .before .before .before .before .before .before .before .before .before .before .before .walk-term .ensures) (c .before .before .before .before .before .before .before .before .walk-cases .ensures) (c .before .before .leave .ensures)
+walk-match-returns t c = match-ends _ (c .before .before .before .before .before .before .before .before .before .before .before .before .before .before .before .before .before .before .before .pre .1 .0) (c .before .before .before .before .before .before .before .before .before .before .before .before .before .before .before .before .match-stmt .ensures) (c .before .before .before .before .before .before .before .before .before .before .before .walk-term .ensures) (c .before .before .before .before .before .before .walk-cases .ensures) (c .before .before .leave .ensures)
 
 walk-match-case-match-case-requires : (t : ℕ) → walk-match-case-lts.Need-match-case-requires (walk-match-case-claims t) (walk-match-case-at t) walk-match-case.Post
 walk-match-case-match-case-requires t c κs = search needs
 
 walk-match-case-walk-term-requires : (t : ℕ) → walk-match-case-lts.Need-walk-term-requires (walk-match-case-claims t) (walk-match-case-at t) walk-match-case.Post
-walk-match-case-walk-term-requires t c κs = (matchCase _ (c .before .before .before .before .before .before .before .before .pre .1 .0) (c .before .before .before .before .match-case .ensures) .first, c .before .before .before .before .before .before .before .before .pre .1 .1)
+walk-match-case-walk-term-requires t c κs = (matchCase _ (c .before .before .before .before .before .before .before .pre .1 .0) (c .before .before .before .before .match-case .ensures) .first, c .before .before .before .before .before .before .before .pre .1 .1)
 
 walk-match-case-walk-stmt-block-requires :
     (t : ℕ) → walk-match-case-lts.Need-walk-stmt-block-requires (walk-match-case-claims t) (walk-match-case-at t) walk-match-case.Post
-walk-match-case-walk-stmt-block-requires t c κs = (let l = c .before .before .before .before .before .before .before .before .before .before .before .match-case .ensures .list .node in omega arith, (subst (ReadyRun _ 36 _ _ _) (sym (c .before .before .before .before .before .before .walk-term .ensures .same)) (matchCase _ (c .before .before .before .before .before .before .before .before .before .before .before .before .before .before .before .pre .1 .0) (c .before .before .before .before .before .before .before .before .before .before .before .match-case .ensures) .second), c .before .before .before .before .before .before .walk-term .ensures .stands))
+walk-match-case-walk-stmt-block-requires t c κs = (let l = c .before .before .before .before .before .before .before .before .before .match-case .ensures .list .node in omega arith, (subst (ReadyRun _ 36 _ _ _) (sym (c .before .before .before .before .walk-term .ensures .same)) (matchCase _ (c .before .before .before .before .before .before .before .before .before .before .before .before .pre .1 .0) (c .before .before .before .before .before .before .before .before .before .match-case .ensures) .second), c .before .before .before .before .walk-term .ensures .stands))
 
 walk-match-case-put-back-requires : (t : ℕ) → walk-match-case-lts.Need-put-back-requires (walk-match-case-claims t) (walk-match-case-at t) walk-match-case.Post
-walk-match-case-put-back-requires t c κs = (c .before .before .before .before .before .before .before .walk-stmt-block .ensures .stands, case-path _ (c .before .before .before .before .before .before .before .before .before .before .before .before .before .before .before .before .before .before .before .before .before .before .before .pre .1 .0) (c .before .before .before .before .before .before .before .before .before .before .before .before .before .before .before .before .before .before .before .match-case .ensures) (c .before .before .before .before .before .before .before .before .before .before .before .before .before .before .before .before .before .before .before .before .before .before .before .pre .1 .1) (c .before .before .before .before .before .before .before .before .before .before .before .before .before .before .walk-term .ensures) (c .before .before .before .before .before .before .before .walk-stmt-block .ensures))
+walk-match-case-put-back-requires t c κs = (c .before .before .before .before .before .walk-stmt-block .ensures .stands, case-path _ (c .before .before .before .before .before .before .before .before .before .before .before .before .before .before .before .before .before .before .pre .1 .0) (c .before .before .before .before .before .before .before .before .before .before .before .before .before .before .before .match-case .ensures) (c .before .before .before .before .before .before .before .before .before .before .before .before .before .before .before .before .before .before .pre .1 .1) (c .before .before .before .before .before .before .before .before .before .before .walk-term .ensures) (c .before .before .before .before .before .walk-stmt-block .ensures))
 
 walk-match-case-leave-requires : (t : ℕ) → walk-match-case-lts.Need-leave-requires (walk-match-case-claims t) (walk-match-case-at t) walk-match-case.Post
 walk-match-case-leave-requires t c κs = search needs
 
 walk-match-case-same-length : (t : ℕ) → walk-match-case-lts.Need-same-length (walk-match-case-claims t) (walk-match-case-at t) walk-match-case.Post
-walk-match-case-same-length t c = c .before .before .leave .kept .1 .0 ∙ c .before .before .before .before .before .before .before .before .before .before .before .before .before .before .walk-stmt-block .kept .1 .0 ∙ c .before .before .before .before .before .before .before .before .before .before .before .before .before .before .before .before .before .before .before .before .before .walk-term .kept .1 .0
-
-walk-match-case-same-length-2 : (t : ℕ) → walk-match-case-lts.Need-same-length-2 (walk-match-case-claims t) (walk-match-case-at t) walk-match-case.Post
-walk-match-case-same-length-2 t c = search needs
+walk-match-case-same-length t c = c .before .before .leave .kept .1 .0 ∙ c .before .before .before .before .before .before .before .before .before .before .walk-stmt-block .kept .1 .0 ∙ c .before .before .before .before .before .before .before .before .before .before .before .before .before .before .before .walk-term .kept .1 .0
 
 walk-match-case-returns : (t : ℕ) → walk-match-case-lts.Need-returns (walk-match-case-claims t) (walk-match-case-at t) walk-match-case.Post
-walk-match-case-returns t c = case-ends _ (c .before .before .before .before .before .before .before .before .before .before .before .before .before .before .before .before .before .before .before .before .before .before .before .before .before .before .before .before .before .before .pre .1 .0) (c .before .before .before .before .before .before .before .before .before .before .before .before .before .before .before .before .before .before .before .before .before .before .before .before .before .before .match-case .ensures) (c .before .before .before .before .before .before .before .before .before .before .before .before .before .before .before .before .before .before .before .before .before .walk-term .ensures) (c .before .before .before .before .before .before .before .before .before .before .before .before .before .before .walk-stmt-block .ensures) (c .before .before .before .before .before .before .put-back .ensures .0) (c .before .before .before .before .before .before .put-back .ensures .1) (c .before .before .leave .ensures)
+walk-match-case-returns t c = case-ends _ (c .before .before .before .before .before .before .before .before .before .before .before .before .before .before .before .before .before .before .before .before .before .before .before .pre .1 .0) (c .before .before .before .before .before .before .before .before .before .before .before .before .before .before .before .before .before .before .before .before .match-case .ensures) (c .before .before .before .before .before .before .before .before .before .before .before .before .before .before .before .walk-term .ensures) (c .before .before .before .before .before .before .before .before .before .before .walk-stmt-block .ensures) (c .before .before .before .before .put-back .ensures .0) (c .before .before .before .before .put-back .ensures .1) (c .before .before .leave .ensures)
 
 walk-stmt-walk-stmt-case-requires : (t : ℕ) → walk-stmt-lts.Need-walk-stmt-case-requires (walk-stmt-claims t) (walk-stmt-at t) walk-stmt.Post
-walk-stmt-walk-stmt-case-requires t c κs = (omega arith, c .before .before .before .before .before .pre .1)
+walk-stmt-walk-stmt-case-requires t c κs = (omega arith, c .before .before .before .before .pre .1)
 
 walk-stmt-leave-requires : (t : ℕ) → walk-stmt-lts.Need-leave-requires (walk-stmt-claims t) (walk-stmt-at t) walk-stmt.Post
 walk-stmt-leave-requires t c κs = search needs
@@ -336,12 +321,9 @@ walk-stmt-leave-requires t c κs = search needs
 walk-stmt-same-length : (t : ℕ) → walk-stmt-lts.Need-same-length (walk-stmt-claims t) (walk-stmt-at t) walk-stmt.Post
 walk-stmt-same-length t c = search needs
 
-walk-stmt-same-length-2 : (t : ℕ) → walk-stmt-lts.Need-same-length-2 (walk-stmt-claims t) (walk-stmt-at t) walk-stmt.Post
-walk-stmt-same-length-2 t c = search needs
-
 walk-stmt-returns : (t : ℕ) → walk-stmt-lts.Need-returns (walk-stmt-claims t) (walk-stmt-at t) walk-stmt.Post
 unfolding kindOf loudFields
-walk-stmt-returns t c = plain-ends _ refl (c .before .before .before .before .before .before .before .before .before .before .before .before .before .before .pre .1 .0) (c .before .before .before .before .before .before .before .before .walk-stmt-case .ensures) (c .before .before .leave .ensures)
+walk-stmt-returns t c = plain-ends _ refl (c .before .before .before .before .before .before .before .before .before .before .before .pre .1 .0) (c .before .before .before .before .before .before .walk-stmt-case .ensures) (c .before .before .leave .ensures)
 
 abbrev walk-stmt-block-Inv-loop : walk-stmt-block-lts.InvT-loop
 walk-stmt-block-Inv-loop image table₀ env₀ stmts i₀ cur₀ table env i cur = Left image occurs (stmts .0 .node .0) (stmts .0 .first) (stmts .0 .count) i (walkedOf cur₀ table₀) (walkedOf cur table) × Stands image (walkedOf cur table) env
@@ -350,13 +332,13 @@ abbrev walk-stmt-block-μ-loop : walk-stmt-block-lts.MeasureT-loop
 walk-stmt-block-μ-loop image table₀ env₀ stmts i₀ cur₀ table env i cur = stmts .0 .count - i
 
 walk-stmt-block-loop-holds : (t : ℕ) → walk-stmt-block-lts.Need-loop-holds (walk-stmt-block-claims t) (walk-stmt-block-at t) walk-stmt-block.Post walk-stmt-block-Inv-loop walk-stmt-block-μ-loop
-walk-stmt-block-loop-holds t c = (record { within = omega arith; long = refl; left = refl }, c .before .before .before .pre .1 .1)
+walk-stmt-block-loop-holds t c = (record { within = omega arith; long = refl; left = refl }, c .before .before .pre .1 .1)
 
 walk-stmt-block-nth-stmt-requires : (t : ℕ) → walk-stmt-block-lts.Need-nth-stmt-requires (walk-stmt-block-claims t) (walk-stmt-block-at t) walk-stmt-block.Post walk-stmt-block-Inv-loop walk-stmt-block-μ-loop
-walk-stmt-block-nth-stmt-requires t c κs = let b = c .before .before .before .before .before .before .pre .1 .0 .run .short in omega arith
+walk-stmt-block-nth-stmt-requires t c κs = let b = c .before .before .before .before .before .pre .1 .0 .run .short in omega arith
 
 walk-stmt-block-walk-stmt-requires : (t : ℕ) → walk-stmt-block-lts.Need-walk-stmt-requires (walk-stmt-block-claims t) (walk-stmt-block-at t) walk-stmt-block.Post walk-stmt-block-Inv-loop walk-stmt-block-μ-loop
-walk-stmt-block-walk-stmt-requires t c κs = let o = runItem _ (c .before .before .before .before .before .before .before .before .before .pre .1 .0) (c .before .before .before .if1 .taken) (c .before .before .nth-stmt .ensures) (c .before .before .before .before .before .loop .inv .0 .left) in (let l = o .low in omega arith, (o .ready, c .before .before .before .before .before .loop .inv .1))
+walk-stmt-block-walk-stmt-requires t c κs = let o = runItem _ (c .before .before .before .before .before .before .before .before .pre .1 .0) (c .before .before .before .if1 .taken) (c .before .before .nth-stmt .ensures) (c .before .before .before .before .before .loop .inv .0 .left) in (let l = o .low in omega arith, (o .ready, c .before .before .before .before .before .loop .inv .1))
 
 walk-stmt-block-add-i : (t : ℕ) → walk-stmt-block-lts.Need-add-i (walk-stmt-block-claims t) (walk-stmt-block-at t) walk-stmt-block.Post walk-stmt-block-Inv-loop walk-stmt-block-μ-loop
 walk-stmt-block-add-i t c = search needs
@@ -365,13 +347,10 @@ walk-stmt-block-loop-less : (t : ℕ) → walk-stmt-block-lts.Need-loop-less (wa
 walk-stmt-block-loop-less t c = search needs
 
 walk-stmt-block-loop-again : (t : ℕ) → walk-stmt-block-lts.Need-loop-again (walk-stmt-block-claims t) (walk-stmt-block-at t) walk-stmt-block.Post walk-stmt-block-Inv-loop walk-stmt-block-μ-loop
-walk-stmt-block-loop-again t c = (record { within = omega arith; long = c .before .before .before .before .walk-stmt .kept .1 .0 ∙ c .before .before .before .before .before .before .before .before .before .before .loop .inv .0 .long; left = runItem _ (c .before .before .before .before .before .before .before .before .before .before .before .before .before .before .pre .1 .0) (c .before .before .before .before .before .before .before .before .if1 .taken) (c .before .before .before .before .before .before .before .nth-stmt .ensures) (c .before .before .before .before .before .before .before .before .before .before .loop .inv .0 .left) .more ∙ ap (rest _ occurs _ _ _ _) (sym (c .before .before .before .before .walk-stmt .ensures .same)) }, c .before .before .before .before .walk-stmt .ensures .stands)
+walk-stmt-block-loop-again t c = (record { within = omega arith; long = c .before .before .walk-stmt .kept .1 .0 ∙ c .before .before .before .before .before .before .before .before .loop .inv .0 .long; left = runItem _ (c .before .before .before .before .before .before .before .before .before .before .before .pre .1 .0) (c .before .before .before .before .before .before .if1 .taken) (c .before .before .before .before .before .nth-stmt .ensures) (c .before .before .before .before .before .before .before .before .loop .inv .0 .left) .more ∙ ap (rest _ occurs _ _ _ _) (sym (c .before .before .walk-stmt .ensures .same)) }, c .before .before .walk-stmt .ensures .stands)
 
 walk-stmt-block-same-length : (t : ℕ) → walk-stmt-block-lts.Need-same-length (walk-stmt-block-claims t) (walk-stmt-block-at t) walk-stmt-block.Post walk-stmt-block-Inv-loop walk-stmt-block-μ-loop
 walk-stmt-block-same-length t c = c .before .before .loop .inv .0 .long
-
-walk-stmt-block-same-length-2 : (t : ℕ) → walk-stmt-block-lts.Need-same-length-2 (walk-stmt-block-claims t) (walk-stmt-block-at t) walk-stmt-block.Post walk-stmt-block-Inv-loop walk-stmt-block-μ-loop
-walk-stmt-block-same-length-2 t c = c .before .before .loop .inv .1 .says .long ∙ sym (c .before .before .before .before .before .before .pre .1 .1 .says .long)
 
 walk-stmt-block-returns : (t : ℕ) → walk-stmt-block-lts.Need-returns (walk-stmt-block-claims t) (walk-stmt-block-at t) walk-stmt-block.Post walk-stmt-block-Inv-loop walk-stmt-block-μ-loop
 walk-stmt-block-returns t c = record { same = sym (c .before .before .loop .inv .0 .left ∙ rest-end _ _ _ _ _ (c .before .before .loop .i) _ (omega arith)); stands = c .before .before .loop .inv .1 }
@@ -384,68 +363,56 @@ walk-stmt-case-enum-known-id t c = search needs
 
 walk-stmt-case-walk-if-stmt-requires : (t : ℕ) → walk-stmt-case-lts.Need-walk-if-stmt-requires (walk-stmt-case-claims t) (walk-stmt-case-at t) walk-stmt-case.Post
 unfolding kindOf
-walk-stmt-case-walk-if-stmt-requires t c κs = let k = stmt-is _ (c .before .before .before .before .before .before .before .before .before .pre .1 .0 .is) (c .before .before .before .before .before .stmt .ensures) (c .before .before .before .id .given .1) in let o = plain-wrapped _ (37 ∷ 38 ∷ 39 ∷ 40 ∷ []) (c .before .before .before .before .before .before .before .before .before .pre .1 .0) 0 (k .number) (k .child) refl in (o .ready, c .before .before .before .before .before .before .before .before .before .pre .1 .1)
+walk-stmt-case-walk-if-stmt-requires t c κs = let k = stmt-is _ (c .before .before .before .before .before .before .before .before .pre .1 .0 .is) (c .before .before .before .before .before .stmt .ensures) (c .before .before .before .id .given .1) in let o = plain-wrapped _ (37 ∷ 38 ∷ 39 ∷ 40 ∷ []) (c .before .before .before .before .before .before .before .before .pre .1 .0) 0 (k .number) (k .child) refl in (o .ready, c .before .before .before .before .before .before .before .before .pre .1 .1)
 
 walk-stmt-case-enum-known-id-2 : (t : ℕ) → walk-stmt-case-lts.Need-enum-known-id-2 (walk-stmt-case-claims t) (walk-stmt-case-at t) walk-stmt-case.Post
 walk-stmt-case-enum-known-id-2 t c = search needs
 
 walk-stmt-case-walk-then-stmt-requires : (t : ℕ) → walk-stmt-case-lts.Need-walk-then-stmt-requires (walk-stmt-case-claims t) (walk-stmt-case-at t) walk-stmt-case.Post
 unfolding kindOf
-walk-stmt-case-walk-then-stmt-requires t c κs = let k = stmt-is _ (c .before .before .before .before .before .before .before .before .before .pre .1 .0 .is) (c .before .before .before .before .before .stmt .ensures) (c .before .before .before .id2 .given .1) in let o = plain-wrapped _ (37 ∷ 38 ∷ 39 ∷ 40 ∷ []) (c .before .before .before .before .before .before .before .before .before .pre .1 .0) 1 (k .number) (k .child) refl in (o .ready, c .before .before .before .before .before .before .before .before .before .pre .1 .1)
+walk-stmt-case-walk-then-stmt-requires t c κs = let k = stmt-is _ (c .before .before .before .before .before .before .before .before .pre .1 .0 .is) (c .before .before .before .before .before .stmt .ensures) (c .before .before .before .id2 .given .1) in let o = plain-wrapped _ (37 ∷ 38 ∷ 39 ∷ 40 ∷ []) (c .before .before .before .before .before .before .before .before .pre .1 .0) 1 (k .number) (k .child) refl in (o .ready, c .before .before .before .before .before .before .before .before .pre .1 .1)
 
 walk-stmt-case-enum-known-id-3 : (t : ℕ) → walk-stmt-case-lts.Need-enum-known-id-3 (walk-stmt-case-claims t) (walk-stmt-case-at t) walk-stmt-case.Post
 walk-stmt-case-enum-known-id-3 t c = search needs
 
 walk-stmt-case-walk-branch-requires : (t : ℕ) → walk-stmt-case-lts.Need-walk-branch-requires (walk-stmt-case-claims t) (walk-stmt-case-at t) walk-stmt-case.Post
 unfolding kindOf
-walk-stmt-case-walk-branch-requires t c κs = let k = stmt-is _ (c .before .before .before .before .before .before .before .before .before .pre .1 .0 .is) (c .before .before .before .before .before .stmt .ensures) (c .before .before .before .id3 .given .1) in let o = plain-wrapped _ (37 ∷ 38 ∷ 39 ∷ 40 ∷ []) (c .before .before .before .before .before .before .before .before .before .pre .1 .0) 2 (k .number) (k .child) refl in (let l = o .low in omega arith, (o .ready, c .before .before .before .before .before .before .before .before .before .pre .1 .1))
+walk-stmt-case-walk-branch-requires t c κs = let k = stmt-is _ (c .before .before .before .before .before .before .before .before .pre .1 .0 .is) (c .before .before .before .before .before .stmt .ensures) (c .before .before .before .id3 .given .1) in let o = plain-wrapped _ (37 ∷ 38 ∷ 39 ∷ 40 ∷ []) (c .before .before .before .before .before .before .before .before .pre .1 .0) 2 (k .number) (k .child) refl in (let l = o .low in omega arith, (o .ready, c .before .before .before .before .before .before .before .before .pre .1 .1))
 
 walk-stmt-case-enum-known-stmt : (t : ℕ) → walk-stmt-case-lts.Need-enum-known-stmt (walk-stmt-case-claims t) (walk-stmt-case-at t) walk-stmt-case.Post
 walk-stmt-case-enum-known-stmt t c = search needs
 
 walk-stmt-case-walk-match-requires : (t : ℕ) → walk-stmt-case-lts.Need-walk-match-requires (walk-stmt-case-claims t) (walk-stmt-case-at t) walk-stmt-case.Post
 unfolding kindOf
-walk-stmt-case-walk-match-requires t c κs = let k = stmt-is _ (c .before .before .before .before .before .before .before .before .before .pre .1 .0 .is) (c .before .before .before .before .before .stmt .ensures) (c .before .before .before .stmt2 .given .1) in let o = plain-wrapped _ (37 ∷ 38 ∷ 39 ∷ 40 ∷ []) (c .before .before .before .before .before .before .before .before .before .pre .1 .0) 3 (k .number) (k .child) refl in (let l = o .low in omega arith, (o .ready, c .before .before .before .before .before .before .before .before .before .pre .1 .1))
+walk-stmt-case-walk-match-requires t c κs = let k = stmt-is _ (c .before .before .before .before .before .before .before .before .pre .1 .0 .is) (c .before .before .before .before .before .stmt .ensures) (c .before .before .before .stmt2 .given .1) in let o = plain-wrapped _ (37 ∷ 38 ∷ 39 ∷ 40 ∷ []) (c .before .before .before .before .before .before .before .before .pre .1 .0) 3 (k .number) (k .child) refl in (let l = o .low in omega arith, (o .ready, c .before .before .before .before .before .before .before .before .pre .1 .1))
 
 walk-stmt-case-same-length : (t : ℕ) → walk-stmt-case-lts.Need-same-length (walk-stmt-case-claims t) (walk-stmt-case-at t) walk-stmt-case.Post
 walk-stmt-case-same-length t c = search needs
 
+walk-stmt-case-returns : (t : ℕ) → walk-stmt-case-lts.Need-returns (walk-stmt-case-claims t) (walk-stmt-case-at t) walk-stmt-case.Post
+unfolding kindOf
+walk-stmt-case-returns t c = let k = stmt-is _ (c .before .before .before .before .before .before .before .before .before .before .before .pre .1 .0 .is) (c .before .before .before .before .before .before .before .before .stmt .ensures) (c .before .before .before .before .before .before .id .given .1) in let o = plain-wrapped _ (37 ∷ 38 ∷ 39 ∷ 40 ∷ []) (c .before .before .before .before .before .before .before .before .before .before .before .pre .1 .0) 0 (k .number) (k .child) refl in ends-as _ (o .inner) (c .before .before .walk-if-stmt .ensures)
+
 walk-stmt-case-same-length-2 : (t : ℕ) → walk-stmt-case-lts.Need-same-length-2 (walk-stmt-case-claims t) (walk-stmt-case-at t) walk-stmt-case.Post
 walk-stmt-case-same-length-2 t c = search needs
 
-walk-stmt-case-returns : (t : ℕ) → walk-stmt-case-lts.Need-returns (walk-stmt-case-claims t) (walk-stmt-case-at t) walk-stmt-case.Post
+walk-stmt-case-returns-2 : (t : ℕ) → walk-stmt-case-lts.Need-returns-2 (walk-stmt-case-claims t) (walk-stmt-case-at t) walk-stmt-case.Post
 unfolding kindOf
-walk-stmt-case-returns t c = let k = stmt-is _ (c .before .before .before .before .before .before .before .before .before .before .before .before .before .before .pre .1 .0 .is) (c .before .before .before .before .before .before .before .before .before .before .stmt .ensures) (c .before .before .before .before .before .before .before .before .id .given .1) in let o = plain-wrapped _ (37 ∷ 38 ∷ 39 ∷ 40 ∷ []) (c .before .before .before .before .before .before .before .before .before .before .before .before .before .before .pre .1 .0) 0 (k .number) (k .child) refl in ends-as _ (o .inner) (c .before .before .before .before .walk-if-stmt .ensures)
+walk-stmt-case-returns-2 t c = let k = stmt-is _ (c .before .before .before .before .before .before .before .before .before .before .before .pre .1 .0 .is) (c .before .before .before .before .before .before .before .before .stmt .ensures) (c .before .before .before .before .before .before .id2 .given .1) in let o = plain-wrapped _ (37 ∷ 38 ∷ 39 ∷ 40 ∷ []) (c .before .before .before .before .before .before .before .before .before .before .before .pre .1 .0) 1 (k .number) (k .child) refl in ends-as _ (o .inner) (c .before .before .walk-then-stmt .ensures)
 
 walk-stmt-case-same-length-3 : (t : ℕ) → walk-stmt-case-lts.Need-same-length-3 (walk-stmt-case-claims t) (walk-stmt-case-at t) walk-stmt-case.Post
 walk-stmt-case-same-length-3 t c = search needs
 
+walk-stmt-case-returns-3 : (t : ℕ) → walk-stmt-case-lts.Need-returns-3 (walk-stmt-case-claims t) (walk-stmt-case-at t) walk-stmt-case.Post
+unfolding kindOf
+walk-stmt-case-returns-3 t c = let k = stmt-is _ (c .before .before .before .before .before .before .before .before .before .before .before .pre .1 .0 .is) (c .before .before .before .before .before .before .before .before .stmt .ensures) (c .before .before .before .before .before .before .id3 .given .1) in let o = plain-wrapped _ (37 ∷ 38 ∷ 39 ∷ 40 ∷ []) (c .before .before .before .before .before .before .before .before .before .before .before .pre .1 .0) 2 (k .number) (k .child) refl in ends-as _ (o .inner) (c .before .before .walk-branch .ensures)
+
 walk-stmt-case-same-length-4 : (t : ℕ) → walk-stmt-case-lts.Need-same-length-4 (walk-stmt-case-claims t) (walk-stmt-case-at t) walk-stmt-case.Post
 walk-stmt-case-same-length-4 t c = search needs
 
-walk-stmt-case-returns-2 : (t : ℕ) → walk-stmt-case-lts.Need-returns-2 (walk-stmt-case-claims t) (walk-stmt-case-at t) walk-stmt-case.Post
-unfolding kindOf
-walk-stmt-case-returns-2 t c = let k = stmt-is _ (c .before .before .before .before .before .before .before .before .before .before .before .before .before .before .pre .1 .0 .is) (c .before .before .before .before .before .before .before .before .before .before .stmt .ensures) (c .before .before .before .before .before .before .before .before .id2 .given .1) in let o = plain-wrapped _ (37 ∷ 38 ∷ 39 ∷ 40 ∷ []) (c .before .before .before .before .before .before .before .before .before .before .before .before .before .before .pre .1 .0) 1 (k .number) (k .child) refl in ends-as _ (o .inner) (c .before .before .before .before .walk-then-stmt .ensures)
-
-walk-stmt-case-same-length-5 : (t : ℕ) → walk-stmt-case-lts.Need-same-length-5 (walk-stmt-case-claims t) (walk-stmt-case-at t) walk-stmt-case.Post
-walk-stmt-case-same-length-5 t c = search needs
-
-walk-stmt-case-same-length-6 : (t : ℕ) → walk-stmt-case-lts.Need-same-length-6 (walk-stmt-case-claims t) (walk-stmt-case-at t) walk-stmt-case.Post
-walk-stmt-case-same-length-6 t c = search needs
-
-walk-stmt-case-returns-3 : (t : ℕ) → walk-stmt-case-lts.Need-returns-3 (walk-stmt-case-claims t) (walk-stmt-case-at t) walk-stmt-case.Post
-unfolding kindOf
-walk-stmt-case-returns-3 t c = let k = stmt-is _ (c .before .before .before .before .before .before .before .before .before .before .before .before .before .before .pre .1 .0 .is) (c .before .before .before .before .before .before .before .before .before .before .stmt .ensures) (c .before .before .before .before .before .before .before .before .id3 .given .1) in let o = plain-wrapped _ (37 ∷ 38 ∷ 39 ∷ 40 ∷ []) (c .before .before .before .before .before .before .before .before .before .before .before .before .before .before .pre .1 .0) 2 (k .number) (k .child) refl in ends-as _ (o .inner) (c .before .before .before .before .walk-branch .ensures)
-
-walk-stmt-case-same-length-7 : (t : ℕ) → walk-stmt-case-lts.Need-same-length-7 (walk-stmt-case-claims t) (walk-stmt-case-at t) walk-stmt-case.Post
-walk-stmt-case-same-length-7 t c = search needs
-
-walk-stmt-case-same-length-8 : (t : ℕ) → walk-stmt-case-lts.Need-same-length-8 (walk-stmt-case-claims t) (walk-stmt-case-at t) walk-stmt-case.Post
-walk-stmt-case-same-length-8 t c = search needs
-
 walk-stmt-case-returns-4 : (t : ℕ) → walk-stmt-case-lts.Need-returns-4 (walk-stmt-case-claims t) (walk-stmt-case-at t) walk-stmt-case.Post
 unfolding kindOf
-walk-stmt-case-returns-4 t c = let k = stmt-is _ (c .before .before .before .before .before .before .before .before .before .before .before .before .before .before .pre .1 .0 .is) (c .before .before .before .before .before .before .before .before .before .before .stmt .ensures) (c .before .before .before .before .before .before .before .before .stmt2 .given .1) in let o = plain-wrapped _ (37 ∷ 38 ∷ 39 ∷ 40 ∷ []) (c .before .before .before .before .before .before .before .before .before .before .before .before .before .before .pre .1 .0) 3 (k .number) (k .child) refl in ends-as _ (o .inner) (c .before .before .before .before .walk-match .ensures)
+walk-stmt-case-returns-4 t c = let k = stmt-is _ (c .before .before .before .before .before .before .before .before .before .before .before .pre .1 .0 .is) (c .before .before .before .before .before .before .before .before .stmt .ensures) (c .before .before .before .before .before .before .stmt2 .given .1) in let o = plain-wrapped _ (37 ∷ 38 ∷ 39 ∷ 40 ∷ []) (c .before .before .before .before .before .before .before .before .before .before .before .pre .1 .0) 3 (k .number) (k .child) refl in ends-as _ (o .inner) (c .before .before .walk-match .ensures)
 
 pub +walk-blocks+walk-branch+walk-cases+walk-match+walk-match-case+walk-stmt+walk-stmt-block+walk-stmt-case-spec :
     {M : Type 1} → statement M
@@ -474,7 +441,6 @@ pub +walk-blocks+walk-branch+walk-cases+walk-match+walk-match-case+walk-stmt+wal
     (walk-blocks-loop-less t)
     (walk-blocks-loop-again t)
     (walk-blocks-same-length t)
-    (walk-blocks-same-length-2 t)
     (walk-blocks-returns t))
     (λ t. walk-branch-lts.spec (walk-branch-claims t)
     (walk-branch-at t)
@@ -482,7 +448,6 @@ pub +walk-blocks+walk-branch+walk-cases+walk-match+walk-match-case+walk-stmt+wal
     (walk-branch-walk-blocks-requires t)
     (walk-branch-leave-requires t)
     (walk-branch-same-length t)
-    (walk-branch-same-length-2 t)
     (walk-branch-returns t))
     (λ t. walk-cases-lts.spec (walk-cases-claims t)
     (walk-cases-at t)
@@ -496,7 +461,6 @@ pub +walk-blocks+walk-branch+walk-cases+walk-match+walk-match-case+walk-stmt+wal
     (walk-cases-loop-less t)
     (walk-cases-loop-again t)
     (walk-cases-same-length t)
-    (walk-cases-same-length-2 t)
     (walk-cases-returns t))
     (λ t. walk-match-lts.spec (walk-match-claims t)
     (walk-match-at t)
@@ -506,7 +470,6 @@ pub +walk-blocks+walk-branch+walk-cases+walk-match+walk-match-case+walk-stmt+wal
     (walk-match-walk-cases-requires t)
     (walk-match-leave-requires t)
     (walk-match-same-length t)
-    (walk-match-same-length-2 t)
     (walk-match-returns t))
     (λ t. walk-match-case-lts.spec (walk-match-case-claims t)
     (walk-match-case-at t)
@@ -517,7 +480,6 @@ pub +walk-blocks+walk-branch+walk-cases+walk-match+walk-match-case+walk-stmt+wal
     (walk-match-case-put-back-requires t)
     (walk-match-case-leave-requires t)
     (walk-match-case-same-length t)
-    (walk-match-case-same-length-2 t)
     (walk-match-case-returns t))
     (λ t. walk-stmt-lts.spec (walk-stmt-claims t)
     (walk-stmt-at t)
@@ -525,7 +487,6 @@ pub +walk-blocks+walk-branch+walk-cases+walk-match+walk-match-case+walk-stmt+wal
     (walk-stmt-walk-stmt-case-requires t)
     (walk-stmt-leave-requires t)
     (walk-stmt-same-length t)
-    (walk-stmt-same-length-2 t)
     (walk-stmt-returns t))
     (λ t. walk-stmt-block-lts.spec (walk-stmt-block-claims t)
     (walk-stmt-block-at t)
@@ -539,7 +500,6 @@ pub +walk-blocks+walk-branch+walk-cases+walk-match+walk-match-case+walk-stmt+wal
     (walk-stmt-block-loop-less t)
     (walk-stmt-block-loop-again t)
     (walk-stmt-block-same-length t)
-    (walk-stmt-block-same-length-2 t)
     (walk-stmt-block-returns t))
     λ t. walk-stmt-case-lts.spec (walk-stmt-case-claims t)
     (walk-stmt-case-at t)
@@ -554,14 +514,10 @@ pub +walk-blocks+walk-branch+walk-cases+walk-match+walk-match-case+walk-stmt+wal
     (walk-stmt-case-enum-known-stmt t)
     (walk-stmt-case-walk-match-requires t)
     (walk-stmt-case-same-length t)
-    (walk-stmt-case-same-length-2 t)
     (walk-stmt-case-returns t)
-    (walk-stmt-case-same-length-3 t)
-    (walk-stmt-case-same-length-4 t)
+    (walk-stmt-case-same-length-2 t)
     (walk-stmt-case-returns-2 t)
-    (walk-stmt-case-same-length-5 t)
-    (walk-stmt-case-same-length-6 t)
+    (walk-stmt-case-same-length-3 t)
     (walk-stmt-case-returns-3 t)
-    (walk-stmt-case-same-length-7 t)
-    (walk-stmt-case-same-length-8 t)
+    (walk-stmt-case-same-length-4 t)
     (walk-stmt-case-returns-4 t)

@@ -10,7 +10,7 @@ arg-decl-list-requires c κs = search needs
 
 walk-args-requires : tie.Need-walk-args-requires
 unfolding kindOf
-walk-args-requires c κs = (listOf _ (c .before .before .before .before .before .before .before .pre .0) (c .before .before .before .arg-decl-list .ensures) .run, c .before .before .before .before .before .before .before .pre .1)
+walk-args-requires c κs = (listOf _ (c .before .before .before .before .before .before .pre .0) (c .before .before .before .arg-decl-list .ensures) .run, c .before .before .before .before .before .before .pre .1)
 
 leave-requires : tie.Need-leave-requires
 leave-requires c κs = search needs
@@ -18,12 +18,9 @@ leave-requires c κs = search needs
 same-length : tie.Need-same-length
 same-length c = search needs
 
-same-length-2 : tie.Need-same-length-2
-same-length-2 c = search needs
-
 returns : tie.Need-returns
 unfolding kindOf
-returns c = list-ends _ (c .before .before .before .before .before .before .before .before .before .before .before .before .before .before .before .before .pre .0) (c .before .before .before .before .before .before .before .before .before .before .before .before .arg-decl-list .ensures) (c .before .before .before .before .before .before .before .before .walk-args .ensures) (c .before .before .leave .ensures)
+returns c = list-ends _ (c .before .before .before .before .before .before .before .before .before .before .before .before .before .pre .0) (c .before .before .before .before .before .before .before .before .before .before .arg-decl-list .ensures) (c .before .before .before .before .before .before .walk-args .ensures) (c .before .before .leave .ensures)
 
 pub walk-arg-decl-list-spec : {M : Type 1} → statement M
 walk-arg-decl-list-spec =
@@ -33,5 +30,4 @@ walk-arg-decl-list-spec =
     walk-args-requires
     leave-requires
     same-length
-    same-length-2
     returns)

@@ -17,13 +17,13 @@ abbrev μ-loop : tie.MeasureT-loop
 μ-loop image table₀ env₀ args i₀ cur₀ table env i cur = args .0 .count - i
 
 loop-holds : tie.Need-loop-holds Inv-loop μ-loop
-loop-holds c = (record { within = omega arith; long = refl; left = refl }, c .before .before .before .pre .1)
+loop-holds c = (record { within = omega arith; long = refl; left = refl }, c .before .before .pre .1)
 
 nth-arg-requires : tie.Need-nth-arg-requires Inv-loop μ-loop
-nth-arg-requires c κs = let s = c .before .before .before .before .before .before .pre .0 .run .short in omega arith
+nth-arg-requires c κs = let s = c .before .before .before .before .before .pre .0 .run .short in omega arith
 
 walk-arg-decl-requires : tie.Need-walk-arg-decl-requires Inv-loop μ-loop
-walk-arg-decl-requires c κs = (runItem _ (c .before .before .before .before .before .before .before .before .before .pre .0) (omega arith) (c .before .before .nth-arg .ensures) (c .before .before .before .before .before .loop .inv .0 .left) .ready, c .before .before .before .before .before .loop .inv .1)
+walk-arg-decl-requires c κs = (runItem _ (c .before .before .before .before .before .before .before .before .pre .0) (omega arith) (c .before .before .nth-arg .ensures) (c .before .before .before .before .before .loop .inv .0 .left) .ready, c .before .before .before .before .before .loop .inv .1)
 
 add-i : tie.Need-add-i Inv-loop μ-loop
 add-i c = search needs
@@ -32,13 +32,10 @@ loop-less : tie.Need-loop-less Inv-loop μ-loop
 loop-less c = search needs
 
 loop-again : tie.Need-loop-again Inv-loop μ-loop
-loop-again c = (record { within = omega arith; long = c .before .before .before .before .walk-arg-decl .kept .1 .0 ∙ c .before .before .before .before .before .before .before .before .before .before .loop .inv .0 .long; left = runItem _ (c .before .before .before .before .before .before .before .before .before .before .before .before .before .before .pre .0) (omega arith) (c .before .before .before .before .before .before .before .nth-arg .ensures) (c .before .before .before .before .before .before .before .before .before .before .loop .inv .0 .left) .more ∙ ap (rest _ occurs _ _ _ _) (sym (c .before .before .before .before .walk-arg-decl .ensures .same)) }, c .before .before .before .before .walk-arg-decl .ensures .stands)
+loop-again c = (record { within = omega arith; long = c .before .before .walk-arg-decl .kept .1 .0 ∙ c .before .before .before .before .before .before .before .before .loop .inv .0 .long; left = runItem _ (c .before .before .before .before .before .before .before .before .before .before .before .pre .0) (omega arith) (c .before .before .before .before .before .nth-arg .ensures) (c .before .before .before .before .before .before .before .before .loop .inv .0 .left) .more ∙ ap (rest _ occurs _ _ _ _) (sym (c .before .before .walk-arg-decl .ensures .same)) }, c .before .before .walk-arg-decl .ensures .stands)
 
 same-length : tie.Need-same-length Inv-loop μ-loop
 same-length c = c .before .before .loop .inv .0 .long
-
-same-length-2 : tie.Need-same-length-2 Inv-loop μ-loop
-same-length-2 c = c .before .before .loop .inv .1 .says .long ∙ sym (c .before .before .before .before .before .before .pre .1 .says .long)
 
 returns : tie.Need-returns Inv-loop μ-loop
 returns c = record { same = sym (c .before .before .loop .inv .0 .left ∙ rest-end _ _ _ _ _ (c .before .before .loop .i) _ (omega arith)); stands = c .before .before .loop .inv .1 }
@@ -56,5 +53,4 @@ walk-args-spec =
     loop-less
     loop-again
     same-length
-    same-length-2
     returns)

@@ -1,5 +1,5 @@
 use mathlib.Core.Path.{refl}
-use Rattle.ordered.proofs.Idents.{known-ends, identHead, ident-asking, ident-ends}
+use Rattle.ordered.proofs.Idents.{head-below, known-ends, identHead, ident-asking, ident-ends}
 use borrow.Author.Needs.{needs}
 use Rattle.ordered.proofs.walk_head_ident.Statement.{statement}
 use Rattle.ordered.proofs.walk_head_ident.Tie as tie
@@ -8,22 +8,19 @@ ident-term-requires : tie.Need-ident-term-requires
 ident-term-requires c κs = search needs
 
 stands-requires : tie.Need-stands-requires
-stands-requires c κs = search needs
+stands-requires c κs = head-below _ (c .before .before .before .before .pre .0) (c .before .before .before .before .pre .1) (c .before .ident-term .ensures)
 
 leave-requires : tie.Need-leave-requires
 leave-requires c κs = search needs
 
 leave-asked-requires : tie.Need-leave-asked-requires
-leave-asked-requires c κs = let o = identHead _ (c .before .before .before .before .before .before .before .before .before .before .before .before .pre .0) (c .before .before .before .before .before .before .before .before .before .before .before .before .pre .1) (c .before .before .before .before .before .before .before .before .ident-term .ensures) (c .before .before .before .before .before .before .before .before .before .before .before .before .pre .2) in ident-asking _ o (c .before .before .before .before .before .before .before .before .before .before .before .before .pre .2) (c .before .before .before .before .before .before .stands .ensures) (known-ends _ _ refl (c .before .before .before .before .before .before .before .before .before .before .before .before .pre .2)) (c .before .before .before .before .leave .ensures)
+leave-asked-requires c κs = let o = identHead _ (c .before .before .before .before .before .before .before .before .before .before .before .pre .0) (c .before .before .before .before .before .before .before .before .before .before .before .pre .1) (c .before .before .before .before .before .before .before .before .ident-term .ensures) (c .before .before .before .before .before .before .before .before .before .before .before .pre .2) in ident-asking _ o (c .before .before .before .before .before .before .before .before .before .before .before .pre .2) (c .before .before .before .before .before .before .stands .ensures) (known-ends _ _ refl (c .before .before .before .before .before .before .before .before .before .before .before .pre .2)) (c .before .before .before .before .leave .ensures)
 
 same-length : tie.Need-same-length
 same-length c = search needs
 
-same-length-2 : tie.Need-same-length-2
-same-length-2 c = search needs
-
 returns : tie.Need-returns
-returns c = let o = identHead _ (c .before .before .before .before .before .before .before .before .before .before .before .before .before .before .before .before .before .pre .0) (c .before .before .before .before .before .before .before .before .before .before .before .before .before .before .before .before .before .pre .1) (c .before .before .before .before .before .before .before .before .before .before .before .before .before .ident-term .ensures) (c .before .before .before .before .before .before .before .before .before .before .before .before .before .before .before .before .before .pre .2) in ident-ends _ o (known-ends _ _ refl (c .before .before .before .before .before .before .before .before .before .before .before .before .before .before .before .before .before .pre .2)) (c .before .before .before .before .before .before .before .before .before .leave .ensures) (c .before .before .before .before .leave-asked .ensures .0) (c .before .before .before .before .leave-asked .ensures .1)
+returns c = let o = identHead _ (c .before .before .before .before .before .before .before .before .before .before .before .before .before .before .pre .0) (c .before .before .before .before .before .before .before .before .before .before .before .before .before .before .pre .1) (c .before .before .before .before .before .before .before .before .before .before .before .ident-term .ensures) (c .before .before .before .before .before .before .before .before .before .before .before .before .before .before .pre .2) in ident-ends _ o (known-ends _ _ refl (c .before .before .before .before .before .before .before .before .before .before .before .before .before .before .pre .2)) (c .before .before .before .before .before .before .before .leave .ensures) (c .before .before .leave-asked .ensures .0) (c .before .before .leave-asked .ensures .1)
 
 pub walk-head-ident-spec : {M : Type 1} → statement M
 walk-head-ident-spec =
@@ -34,5 +31,4 @@ walk-head-ident-spec =
     leave-requires
     leave-asked-requires
     same-length
-    same-length-2
     returns)

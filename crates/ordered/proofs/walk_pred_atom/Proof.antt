@@ -12,11 +12,11 @@ pred-atom-requires c κs = search needs
 
 walk-pred-expr-requires : tie.Need-walk-pred-expr-requires
 unfolding kindOf
-walk-pred-expr-requires c κs = (two _ (c .before .before .before .before .before .before .before .before .pre .0) (c .before .before .before .before .pred-atom .ensures .first) (c .before .before .before .before .pred-atom .ensures .second) .first, c .before .before .before .before .before .before .before .before .pre .1)
+walk-pred-expr-requires c κs = (two _ (c .before .before .before .before .before .before .before .pre .0) (c .before .before .before .before .pred-atom .ensures .first) (c .before .before .before .before .pred-atom .ensures .second) .first, c .before .before .before .before .before .before .before .pre .1)
 
 walk-term-list-requires : tie.Need-walk-term-list-requires
 unfolding kindOf
-walk-term-list-requires c κs = (subst (Ready _ _ _) (sym (c .before .before .before .before .before .before .walk-pred-expr .ensures .same)) (two _ (c .before .before .before .before .before .before .before .before .before .before .before .before .before .before .before .pre .0) (c .before .before .before .before .before .before .before .before .before .before .before .pred-atom .ensures .first) (c .before .before .before .before .before .before .before .before .before .before .before .pred-atom .ensures .second) .second), c .before .before .before .before .before .before .walk-pred-expr .ensures .stands)
+walk-term-list-requires c κs = (subst (Ready _ _ _) (sym (c .before .before .before .before .walk-pred-expr .ensures .same)) (two _ (c .before .before .before .before .before .before .before .before .before .before .before .before .pre .0) (c .before .before .before .before .before .before .before .before .before .pred-atom .ensures .first) (c .before .before .before .before .before .before .before .before .before .pred-atom .ensures .second) .second), c .before .before .before .before .walk-pred-expr .ensures .stands)
 
 leave-requires : tie.Need-leave-requires
 leave-requires c κs = search needs
@@ -24,12 +24,9 @@ leave-requires c κs = search needs
 same-length : tie.Need-same-length
 same-length c = search needs
 
-same-length-2 : tie.Need-same-length-2
-same-length-2 c = search needs
-
 returns : tie.Need-returns
 unfolding kindOf
-returns c = two-ends _ (c .before .before .before .before .before .before .before .before .before .before .before .before .before .before .before .before .before .before .before .before .before .before .before .before .pre .0) (c .before .before .before .before .before .before .before .before .before .before .before .before .before .before .before .before .before .before .before .before .pred-atom .ensures .first) (c .before .before .before .before .before .before .before .before .before .before .before .before .before .before .before .before .before .before .before .before .pred-atom .ensures .second) (c .before .before .before .before .before .before .before .before .before .before .before .before .before .before .before .walk-pred-expr .ensures) (c .before .before .before .before .before .before .before .before .walk-term-list .ensures) (c .before .before .leave .ensures)
+returns c = two-ends _ (c .before .before .before .before .before .before .before .before .before .before .before .before .before .before .before .before .before .before .before .pre .0) (c .before .before .before .before .before .before .before .before .before .before .before .before .before .before .before .before .pred-atom .ensures .first) (c .before .before .before .before .before .before .before .before .before .before .before .before .before .before .before .before .pred-atom .ensures .second) (c .before .before .before .before .before .before .before .before .before .before .before .walk-pred-expr .ensures) (c .before .before .before .before .before .before .walk-term-list .ensures) (c .before .before .leave .ensures)
 
 pub walk-pred-atom-spec : {M : Type 1} → statement M
 walk-pred-atom-spec =
@@ -40,5 +37,4 @@ walk-pred-atom-spec =
     walk-term-list-requires
     leave-requires
     same-length
-    same-length-2
     returns)

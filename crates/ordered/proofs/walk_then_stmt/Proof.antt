@@ -10,7 +10,7 @@ then-stmt-requires c κs = search needs
 
 walk-then-atom-requires : tie.Need-walk-then-atom-requires
 unfolding kindOf
-walk-then-atom-requires c κs = (one _ (c .before .before .before .before .before .before .before .pre .0) (c .before .before .before .then-stmt .ensures) .first, c .before .before .before .before .before .before .before .pre .1)
+walk-then-atom-requires c κs = (one _ (c .before .before .before .before .before .before .pre .0) (c .before .before .before .then-stmt .ensures) .first, c .before .before .before .before .before .before .pre .1)
 
 leave-requires : tie.Need-leave-requires
 leave-requires c κs = search needs
@@ -18,12 +18,9 @@ leave-requires c κs = search needs
 same-length : tie.Need-same-length
 same-length c = search needs
 
-same-length-2 : tie.Need-same-length-2
-same-length-2 c = search needs
-
 returns : tie.Need-returns
 unfolding kindOf
-returns c = one-ends _ (c .before .before .before .before .before .before .before .before .before .before .before .before .before .before .before .before .pre .0) (c .before .before .before .before .before .before .before .before .before .before .before .before .then-stmt .ensures) (c .before .before .before .before .before .before .before .before .walk-then-atom .ensures) (c .before .before .leave .ensures)
+returns c = one-ends _ (c .before .before .before .before .before .before .before .before .before .before .before .before .before .pre .0) (c .before .before .before .before .before .before .before .before .before .before .then-stmt .ensures) (c .before .before .before .before .before .before .walk-then-atom .ensures) (c .before .before .leave .ensures)
 
 pub walk-then-stmt-spec : {M : Type 1} → statement M
 walk-then-stmt-spec =
@@ -33,5 +30,4 @@ walk-then-stmt-spec =
     walk-then-atom-requires
     leave-requires
     same-length
-    same-length-2
     returns)

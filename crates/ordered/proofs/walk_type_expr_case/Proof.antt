@@ -22,7 +22,7 @@ enum-known-id-2 c = search needs
 
 walk-term-member-requires : tie.Need-walk-term-member-requires
 unfolding kindOf
-walk-term-member-requires c κs = let k = type-expr-is _ (c .before .before .before .before .before .before .before .before .before .pre .0 .is) (c .before .before .before .before .before .type-expr .ensures) (c .before .before .before .id2 .given .1) in let o = plain-wrapped _ (24 ∷ 17 ∷ 25 ∷ []) (c .before .before .before .before .before .before .before .before .before .pre .0) 1 (k .number) (k .child) refl in (o .ready, c .before .before .before .before .before .before .before .before .before .pre .1)
+walk-term-member-requires c κs = let k = type-expr-is _ (c .before .before .before .before .before .before .before .before .pre .0 .is) (c .before .before .before .before .before .type-expr .ensures) (c .before .before .before .id2 .given .1) in let o = plain-wrapped _ (24 ∷ 17 ∷ 25 ∷ []) (c .before .before .before .before .before .before .before .before .pre .0) 1 (k .number) (k .child) refl in (o .ready, c .before .before .before .before .before .before .before .before .pre .1)
 
 enum-known-id-3 : tie.Need-enum-known-id-3
 enum-known-id-3 c = search needs
@@ -35,24 +35,21 @@ same-length c = search needs
 
 returns : tie.Need-returns
 unfolding kindOf
-returns c = let k = type-expr-is _ (c .before .before .before .before .before .before .before .before .before .before .before .pre .0 .is) (c .before .before .before .before .before .before .before .type-expr .ensures) (c .before .before .before .before .before .id .given .1) in let o = plain-wrapped _ (24 ∷ 17 ∷ 25 ∷ []) (c .before .before .before .before .before .before .before .before .before .before .before .pre .0) 0 (k .number) (k .child) refl in ends-as _ (o .inner) (leaf-ends _ (o .ready .is) (c .before .before .leave .ensures) (c .before .before .before .before .before .before .before .before .before .before .before .pre .1))
+returns c = let k = type-expr-is _ (c .before .before .before .before .before .before .before .before .before .before .pre .0 .is) (c .before .before .before .before .before .before .before .type-expr .ensures) (c .before .before .before .before .before .id .given .1) in let o = plain-wrapped _ (24 ∷ 17 ∷ 25 ∷ []) (c .before .before .before .before .before .before .before .before .before .before .pre .0) 0 (k .number) (k .child) refl in ends-as _ (o .inner) (leaf-ends _ (o .ready .is) (c .before .before .leave .ensures) (c .before .before .before .before .before .before .before .before .before .before .pre .1))
 
 same-length-2 : tie.Need-same-length-2
 same-length-2 c = search needs
 
+returns-2 : tie.Need-returns-2
+unfolding kindOf
+returns-2 c = let k = type-expr-is _ (c .before .before .before .before .before .before .before .before .before .before .before .pre .0 .is) (c .before .before .before .before .before .before .before .before .type-expr .ensures) (c .before .before .before .before .before .before .id2 .given .1) in let o = plain-wrapped _ (24 ∷ 17 ∷ 25 ∷ []) (c .before .before .before .before .before .before .before .before .before .before .before .pre .0) 1 (k .number) (k .child) refl in ends-as _ (o .inner) (c .before .before .walk-term-member .ensures)
+
 same-length-3 : tie.Need-same-length-3
 same-length-3 c = search needs
 
-returns-2 : tie.Need-returns-2
-unfolding kindOf
-returns-2 c = let k = type-expr-is _ (c .before .before .before .before .before .before .before .before .before .before .before .before .before .before .pre .0 .is) (c .before .before .before .before .before .before .before .before .before .before .type-expr .ensures) (c .before .before .before .before .before .before .before .before .id2 .given .1) in let o = plain-wrapped _ (24 ∷ 17 ∷ 25 ∷ []) (c .before .before .before .before .before .before .before .before .before .before .before .before .before .before .pre .0) 1 (k .number) (k .child) refl in ends-as _ (o .inner) (c .before .before .before .before .walk-term-member .ensures)
-
-same-length-4 : tie.Need-same-length-4
-same-length-4 c = search needs
-
 returns-3 : tie.Need-returns-3
 unfolding kindOf
-returns-3 c = let k = type-expr-is _ (c .before .before .before .before .before .before .before .before .before .before .before .pre .0 .is) (c .before .before .before .before .before .before .before .type-expr .ensures) (c .before .before .before .before .before .id3 .given .1) in let o = plain-wrapped _ (24 ∷ 17 ∷ 25 ∷ []) (c .before .before .before .before .before .before .before .before .before .before .before .pre .0) 2 (k .number) (k .child) refl in ends-as _ (o .inner) (leaf-ends _ (o .ready .is) (c .before .before .leave2 .ensures) (c .before .before .before .before .before .before .before .before .before .before .before .pre .1))
+returns-3 c = let k = type-expr-is _ (c .before .before .before .before .before .before .before .before .before .before .pre .0 .is) (c .before .before .before .before .before .before .before .type-expr .ensures) (c .before .before .before .before .before .id3 .given .1) in let o = plain-wrapped _ (24 ∷ 17 ∷ 25 ∷ []) (c .before .before .before .before .before .before .before .before .before .before .pre .0) 2 (k .number) (k .child) refl in ends-as _ (o .inner) (leaf-ends _ (o .ready .is) (c .before .before .leave2 .ensures) (c .before .before .before .before .before .before .before .before .before .before .pre .1))
 
 pub walk-type-expr-case-spec : {M : Type 1} → statement M
 walk-type-expr-case-spec =
@@ -68,7 +65,6 @@ walk-type-expr-case-spec =
     same-length
     returns
     same-length-2
-    same-length-3
     returns-2
-    same-length-4
+    same-length-3
     returns-3)

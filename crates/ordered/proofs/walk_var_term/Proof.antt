@@ -15,28 +15,22 @@ enum-known-ident : tie.Need-enum-known-ident
 enum-known-ident c = search needs
 
 walk-var-ident-requires : tie.Need-walk-var-ident-requires
-walk-var-ident-requires c κs = let k = term-is _ (c .before .before .before .before .before .before .before .before .before .pre .0 .is) (c .before .before .before .before .before .term .ensures) (c .before .before .before .ident .given .1) in (c .before .before .before .before .before .before .before .before .before .pre .0, record { first = k .number; second = k .child }, c .before .before .before .before .before .before .before .before .before .pre .1)
+walk-var-ident-requires c κs = let k = term-is _ (c .before .before .before .before .before .before .before .before .pre .0 .is) (c .before .before .before .before .before .term .ensures) (c .before .before .before .ident .given .1) in (c .before .before .before .before .before .before .before .before .pre .0, record { first = k .number; second = k .child }, c .before .before .before .before .before .before .before .before .pre .1)
 
 walk-term-requires : tie.Need-walk-term-requires
-walk-term-requires c κs = let o = var-other _ (c .before .before .before .before .before .before .before .pre .0) (term-other _ (c .before .before .before .before .before .before .before .pre .0 .is) (c .before .before .before .term .ensures) (λ i r. after-first (c .before .before .match .keys2) (ap (tagOf Term.the-type) r))) in (o .0, c .before .before .before .before .before .before .before .pre .1)
+walk-term-requires c κs = let o = var-other _ (c .before .before .before .before .before .before .pre .0) (term-other _ (c .before .before .before .before .before .before .pre .0 .is) (c .before .before .before .term .ensures) (λ i r. after-first (c .before .before .match .keys2) (ap (tagOf Term.the-type) r))) in (o .0, c .before .before .before .before .before .before .pre .1)
 
 same-length : tie.Need-same-length
 same-length c = search needs
 
-same-length-2 : tie.Need-same-length-2
-same-length-2 c = search needs
-
 returns : tie.Need-returns
 returns c = search needs
 
-same-length-3 : tie.Need-same-length-3
-same-length-3 c = search needs
-
-same-length-4 : tie.Need-same-length-4
-same-length-4 c = search needs
+same-length-2 : tie.Need-same-length-2
+same-length-2 c = search needs
 
 returns-2 : tie.Need-returns-2
-returns-2 c = let o = var-other _ (c .before .before .before .before .before .before .before .before .before .before .before .before .pre .0) (term-other _ (c .before .before .before .before .before .before .before .before .before .before .before .before .pre .0 .is) (c .before .before .before .before .before .before .before .before .term .ensures) (λ i r. after-first (c .before .before .before .before .before .before .before .match .keys2) (ap (tagOf Term.the-type) r))) in ends-as _ (o .1) (c .before .before .before .before .walk-term .ensures)
+returns-2 c = let o = var-other _ (c .before .before .before .before .before .before .before .before .before .pre .0) (term-other _ (c .before .before .before .before .before .before .before .before .before .pre .0 .is) (c .before .before .before .before .before .before .term .ensures) (λ i r. after-first (c .before .before .before .before .before .match .keys2) (ap (tagOf Term.the-type) r))) in ends-as _ (o .1) (c .before .before .walk-term .ensures)
 
 pub walk-var-term-spec : {M : Type 1} → statement M
 walk-var-term-spec =
@@ -47,8 +41,6 @@ walk-var-term-spec =
     walk-var-ident-requires
     walk-term-requires
     same-length
-    same-length-2
     returns
-    same-length-3
-    same-length-4
+    same-length-2
     returns-2)
