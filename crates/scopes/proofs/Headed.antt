@@ -54,6 +54,7 @@ module _ (img : List ℕ) (t : Table) where
   pub headed-noted : {env : List ℕ} → Noted img t env → Noted img (counted img t) env
   headed-noted {env} h =
       record {
+        sized = h .sized;
         outer = λ x l. headed-tells 0 x (h .outer x l);
         entries = λ n x l a p. subst (λ (s : ℕ). Tells img (counted img t) (notedEntry env n) (lookup img (counted img t) s x)) (headed-entry n) (headed-tells (entryAt img (t .words) n) x (h .entries n x l a (let z = headed-entry n in omega arith)));
         exits = λ n x l a p. subst (λ (s : ℕ). Tells img (counted img t) (notedExit env n) (lookup img (counted img t) s x)) (headed-exit n) (headed-tells (exitAt img (t .words) n) x (h .exits n x l a (let z = headed-exit n in omega arith)));

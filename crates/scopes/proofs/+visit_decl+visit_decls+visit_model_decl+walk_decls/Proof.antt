@@ -114,117 +114,99 @@ visit-decl-enum-known-id t c = search needs
 
 visit-decl-visit-pred-decl-requires : (t : ℕ) → visit-decl-lts.Need-visit-pred-decl-requires (visit-decl-claims t) (visit-decl-at t) visit-decl.Post
 unfolding kindOf
-visit-decl-visit-pred-decl-requires t c κs = let o = decl-case _ (c .before .before .before .before .before .before .before .before .before .before .pre .1 .0 .is) (c .before .before .before .before .before .decl .ensures) _ (c .before .before .before .id .given .1) in (sig-inside _ (o .is) (decl-fits _ o (c .before .before .before .before .before .before .before .before .before .before .pre .1 .0 .fits)), c .before .before .before .before .before .before .before .before .before .before .pre .1 .1)
+visit-decl-visit-pred-decl-requires t c κs = let o = decl-case _ (c .before .before .before .before .before .before .before .before .before .pre .1 .0 .is) (c .before .before .before .before .before .decl .ensures) _ (c .before .before .before .id .given .1) in (sig-inside _ (o .is) (decl-fits _ o (c .before .before .before .before .before .before .before .before .before .pre .1 .0 .fits)), c .before .before .before .before .before .before .before .before .before .pre .1 .1)
 
 visit-decl-enum-known-id-2 : (t : ℕ) → visit-decl-lts.Need-enum-known-id-2 (visit-decl-claims t) (visit-decl-at t) visit-decl.Post
 visit-decl-enum-known-id-2 t c = search needs
 
 visit-decl-visit-func-decl-requires : (t : ℕ) → visit-decl-lts.Need-visit-func-decl-requires (visit-decl-claims t) (visit-decl-at t) visit-decl.Post
 unfolding kindOf
-visit-decl-visit-func-decl-requires t c κs = let o = decl-case _ (c .before .before .before .before .before .before .before .before .before .before .pre .1 .0 .is) (c .before .before .before .before .before .decl .ensures) _ (c .before .before .before .id2 .given .1) in (sig-inside _ (o .is) (decl-fits _ o (c .before .before .before .before .before .before .before .before .before .before .pre .1 .0 .fits)), c .before .before .before .before .before .before .before .before .before .before .pre .1 .1)
+visit-decl-visit-func-decl-requires t c κs = let o = decl-case _ (c .before .before .before .before .before .before .before .before .before .pre .1 .0 .is) (c .before .before .before .before .before .decl .ensures) _ (c .before .before .before .id2 .given .1) in (sig-inside _ (o .is) (decl-fits _ o (c .before .before .before .before .before .before .before .before .before .pre .1 .0 .fits)), c .before .before .before .before .before .before .before .before .before .pre .1 .1)
 
 visit-decl-enum-known-id-3 : (t : ℕ) → visit-decl-lts.Need-enum-known-id-3 (visit-decl-claims t) (visit-decl-at t) visit-decl.Post
 visit-decl-enum-known-id-3 t c = search needs
 
 visit-decl-visit-const-decl-requires : (t : ℕ) → visit-decl-lts.Need-visit-const-decl-requires (visit-decl-claims t) (visit-decl-at t) visit-decl.Post
 unfolding kindOf
-visit-decl-visit-const-decl-requires t c κs = let o = decl-case _ (c .before .before .before .before .before .before .before .before .before .before .pre .1 .0 .is) (c .before .before .before .before .before .decl .ensures) _ (c .before .before .before .id3 .given .1) in (sig-inside _ (o .is) (decl-fits _ o (c .before .before .before .before .before .before .before .before .before .before .pre .1 .0 .fits)), c .before .before .before .before .before .before .before .before .before .before .pre .1 .1)
+visit-decl-visit-const-decl-requires t c κs = let o = decl-case _ (c .before .before .before .before .before .before .before .before .before .pre .1 .0 .is) (c .before .before .before .before .before .decl .ensures) _ (c .before .before .before .id3 .given .1) in (sig-inside _ (o .is) (decl-fits _ o (c .before .before .before .before .before .before .before .before .before .pre .1 .0 .fits)), c .before .before .before .before .before .before .before .before .before .pre .1 .1)
 
 visit-decl-enum-known-id-4 : (t : ℕ) → visit-decl-lts.Need-enum-known-id-4 (visit-decl-claims t) (visit-decl-at t) visit-decl.Post
 visit-decl-enum-known-id-4 t c = search needs
 
 visit-decl-visit-rule-decl-requires : (t : ℕ) → visit-decl-lts.Need-visit-rule-decl-requires (visit-decl-claims t) (visit-decl-at t) visit-decl.Post
-visit-decl-visit-rule-decl-requires t c κs = let o = decl-case _ (c .before .before .before .before .before .before .before .before .before .before .pre .1 .0 .is) (c .before .before .before .before .before .decl .ensures) _ (c .before .before .before .id4 .given .1) in (rule-inside _ (o .is) (decl-fits _ o (c .before .before .before .before .before .before .before .before .before .before .pre .1 .0 .fits)), c .before .before .before .before .before .before .before .before .before .before .pre .1 .1)
+visit-decl-visit-rule-decl-requires t c κs = let o = decl-case _ (c .before .before .before .before .before .before .before .before .before .pre .1 .0 .is) (c .before .before .before .before .before .decl .ensures) _ (c .before .before .before .id4 .given .1) in (rule-inside _ (o .is) (decl-fits _ o (c .before .before .before .before .before .before .before .before .before .pre .1 .0 .fits)), c .before .before .before .before .before .before .before .before .before .pre .1 .1)
 
 visit-decl-enum-known-id-5 : (t : ℕ) → visit-decl-lts.Need-enum-known-id-5 (visit-decl-claims t) (visit-decl-at t) visit-decl.Post
 visit-decl-enum-known-id-5 t c = search needs
 
 visit-decl-visit-enum-decl-requires : (t : ℕ) → visit-decl-lts.Need-visit-enum-decl-requires (visit-decl-claims t) (visit-decl-at t) visit-decl.Post
-visit-decl-visit-enum-decl-requires t c κs = let o = decl-case _ (c .before .before .before .before .before .before .before .before .before .before .pre .1 .0 .is) (c .before .before .before .before .before .decl .ensures) _ (c .before .before .before .id5 .given .1) in (record { is = o .is; fits = decl-fits _ o (c .before .before .before .before .before .before .before .before .before .before .pre .1 .0 .fits) }, c .before .before .before .before .before .before .before .before .before .before .pre .1 .1)
+visit-decl-visit-enum-decl-requires t c κs = let o = decl-case _ (c .before .before .before .before .before .before .before .before .before .pre .1 .0 .is) (c .before .before .before .before .before .decl .ensures) _ (c .before .before .before .id5 .given .1) in (record { is = o .is; fits = decl-fits _ o (c .before .before .before .before .before .before .before .before .before .pre .1 .0 .fits) }, c .before .before .before .before .before .before .before .before .before .pre .1 .1)
 
 visit-decl-enum-known-id-6 : (t : ℕ) → visit-decl-lts.Need-enum-known-id-6 (visit-decl-claims t) (visit-decl-at t) visit-decl.Post
 visit-decl-enum-known-id-6 t c = search needs
 
 visit-decl-visit-model-decl-requires : (t : ℕ) → visit-decl-lts.Need-visit-model-decl-requires (visit-decl-claims t) (visit-decl-at t) visit-decl.Post
-visit-decl-visit-model-decl-requires t c κs = let o = decl-case _ (c .before .before .before .before .before .before .before .before .before .before .before .pre .1 .0 .is) (c .before .before .before .before .before .before .decl .ensures) _ (c .before .before .before .before .id6 .given .1) in (let l = o .low in let m = c .before .before .before .before .before .before .before .before .before .before .before .pre .0 in omega arith, (record { is = o .is; fits = decl-fits _ o (c .before .before .before .before .before .before .before .before .before .before .before .pre .1 .0 .fits) }, c .before .before .before .before .before .before .before .before .before .before .before .pre .1 .1))
+visit-decl-visit-model-decl-requires t c κs = let o = decl-case _ (c .before .before .before .before .before .before .before .before .before .before .pre .1 .0 .is) (c .before .before .before .before .before .before .decl .ensures) _ (c .before .before .before .before .id6 .given .1) in (let l = o .low in let m = c .before .before .before .before .before .before .before .before .before .before .pre .0 in omega arith, (record { is = o .is; fits = decl-fits _ o (c .before .before .before .before .before .before .before .before .before .before .pre .1 .0 .fits) }, c .before .before .before .before .before .before .before .before .before .before .pre .1 .1))
 
 visit-decl-returns : (t : ℕ) → visit-decl-lts.Need-returns (visit-decl-claims t) (visit-decl-at t) visit-decl.Post
-visit-decl-returns t c = let o = decl-case _ (c .before .before .before .before .before .before .before .pre .1 .0 .is) (c .before .before .decl .ensures) _ (c .enum-told .given .1) in done-visits _ _ _ (c .before .before .before .before .before .before .before .pre .1 .0 .fits) (sym (decl-visited _ o _ ∙ type-visit _ _ (o .is))) (c .before .before .before .before .before .before .before .pre .1 .1)
+visit-decl-returns t c = let o = decl-case _ (c .before .before .before .before .before .before .pre .1 .0 .is) (c .before .before .decl .ensures) _ (c .enum-told .given .1) in done-visits _ _ _ (c .before .before .before .before .before .before .pre .1 .0 .fits) (sym (decl-visited _ o _ ∙ type-visit _ _ (o .is))) (c .before .before .before .before .before .before .pre .1 .1)
 
 visit-decl-same-length : (t : ℕ) → visit-decl-lts.Need-same-length (visit-decl-claims t) (visit-decl-at t) visit-decl.Post
 visit-decl-same-length t c = search needs
 
+visit-decl-returns-2 : (t : ℕ) → visit-decl-lts.Need-returns-2 (visit-decl-claims t) (visit-decl-at t) visit-decl.Post
+unfolding kindOf
+visit-decl-returns-2 t c = let o = decl-case _ (c .before .before .before .before .before .before .before .before .before .before .before .before .pre .1 .0 .is) (c .before .before .before .before .before .before .before .before .decl .ensures) _ (c .before .before .before .before .before .before .id .given .1) in ended-visits _ _ _ (c .before .before .before .before .before .before .before .before .before .before .before .before .pre .1 .0 .fits) (decl-visited _ o _ ∙ sig-visit _ _ (o .is)) (c .before .before .visit-pred-decl .ensures)
+
 visit-decl-same-length-2 : (t : ℕ) → visit-decl-lts.Need-same-length-2 (visit-decl-claims t) (visit-decl-at t) visit-decl.Post
 visit-decl-same-length-2 t c = search needs
 
-visit-decl-returns-2 : (t : ℕ) → visit-decl-lts.Need-returns-2 (visit-decl-claims t) (visit-decl-at t) visit-decl.Post
+visit-decl-returns-3 : (t : ℕ) → visit-decl-lts.Need-returns-3 (visit-decl-claims t) (visit-decl-at t) visit-decl.Post
 unfolding kindOf
-visit-decl-returns-2 t c = let o = decl-case _ (c .before .before .before .before .before .before .before .before .before .before .before .before .before .before .before .pre .1 .0 .is) (c .before .before .before .before .before .before .before .before .before .before .decl .ensures) _ (c .before .before .before .before .before .before .before .before .id .given .1) in ended-visits _ _ _ (c .before .before .before .before .before .before .before .before .before .before .before .before .before .before .before .pre .1 .0 .fits) (decl-visited _ o _ ∙ sig-visit _ _ (o .is)) (c .before .before .before .before .visit-pred-decl .ensures)
+visit-decl-returns-3 t c = let o = decl-case _ (c .before .before .before .before .before .before .before .before .before .before .before .before .pre .1 .0 .is) (c .before .before .before .before .before .before .before .before .decl .ensures) _ (c .before .before .before .before .before .before .id2 .given .1) in ended-visits _ _ _ (c .before .before .before .before .before .before .before .before .before .before .before .before .pre .1 .0 .fits) (decl-visited _ o _ ∙ sig-visit _ _ (o .is)) (c .before .before .visit-func-decl .ensures)
 
 visit-decl-same-length-3 : (t : ℕ) → visit-decl-lts.Need-same-length-3 (visit-decl-claims t) (visit-decl-at t) visit-decl.Post
 visit-decl-same-length-3 t c = search needs
 
+visit-decl-returns-4 : (t : ℕ) → visit-decl-lts.Need-returns-4 (visit-decl-claims t) (visit-decl-at t) visit-decl.Post
+unfolding kindOf
+visit-decl-returns-4 t c = let o = decl-case _ (c .before .before .before .before .before .before .before .before .before .before .before .before .pre .1 .0 .is) (c .before .before .before .before .before .before .before .before .decl .ensures) _ (c .before .before .before .before .before .before .id3 .given .1) in ended-visits _ _ _ (c .before .before .before .before .before .before .before .before .before .before .before .before .pre .1 .0 .fits) (decl-visited _ o _ ∙ sig-visit _ _ (o .is)) (c .before .before .visit-const-decl .ensures)
+
 visit-decl-same-length-4 : (t : ℕ) → visit-decl-lts.Need-same-length-4 (visit-decl-claims t) (visit-decl-at t) visit-decl.Post
 visit-decl-same-length-4 t c = search needs
 
-visit-decl-returns-3 : (t : ℕ) → visit-decl-lts.Need-returns-3 (visit-decl-claims t) (visit-decl-at t) visit-decl.Post
-unfolding kindOf
-visit-decl-returns-3 t c = let o = decl-case _ (c .before .before .before .before .before .before .before .before .before .before .before .before .before .before .before .pre .1 .0 .is) (c .before .before .before .before .before .before .before .before .before .before .decl .ensures) _ (c .before .before .before .before .before .before .before .before .id2 .given .1) in ended-visits _ _ _ (c .before .before .before .before .before .before .before .before .before .before .before .before .before .before .before .pre .1 .0 .fits) (decl-visited _ o _ ∙ sig-visit _ _ (o .is)) (c .before .before .before .before .visit-func-decl .ensures)
+visit-decl-returns-5 : (t : ℕ) → visit-decl-lts.Need-returns-5 (visit-decl-claims t) (visit-decl-at t) visit-decl.Post
+visit-decl-returns-5 t c = let o = decl-case _ (c .before .before .before .before .before .before .before .before .before .before .before .before .pre .1 .0 .is) (c .before .before .before .before .before .before .before .before .decl .ensures) _ (c .before .before .before .before .before .before .id4 .given .1) in ended-visits _ _ _ (c .before .before .before .before .before .before .before .before .before .before .before .before .pre .1 .0 .fits) (decl-visited _ o _ ∙ rule-visit _ _ (o .is)) (c .before .before .visit-rule-decl .ensures)
 
 visit-decl-same-length-5 : (t : ℕ) → visit-decl-lts.Need-same-length-5 (visit-decl-claims t) (visit-decl-at t) visit-decl.Post
 visit-decl-same-length-5 t c = search needs
 
+visit-decl-returns-6 : (t : ℕ) → visit-decl-lts.Need-returns-6 (visit-decl-claims t) (visit-decl-at t) visit-decl.Post
+visit-decl-returns-6 t c = let o = decl-case _ (c .before .before .before .before .before .before .before .before .before .before .before .before .pre .1 .0 .is) (c .before .before .before .before .before .before .before .before .decl .ensures) _ (c .before .before .before .before .before .before .id5 .given .1) in visits-as _ (sym (decl-visited _ o _)) (done-visits _ _ _ (decl-fits _ o (c .before .before .before .before .before .before .before .before .before .before .before .before .pre .1 .0 .fits)) (c .before .before .visit-enum-decl .ensures .0) (c .before .before .visit-enum-decl .ensures .1))
+
 visit-decl-same-length-6 : (t : ℕ) → visit-decl-lts.Need-same-length-6 (visit-decl-claims t) (visit-decl-at t) visit-decl.Post
 visit-decl-same-length-6 t c = search needs
-
-visit-decl-returns-4 : (t : ℕ) → visit-decl-lts.Need-returns-4 (visit-decl-claims t) (visit-decl-at t) visit-decl.Post
-unfolding kindOf
-visit-decl-returns-4 t c = let o = decl-case _ (c .before .before .before .before .before .before .before .before .before .before .before .before .before .before .before .pre .1 .0 .is) (c .before .before .before .before .before .before .before .before .before .before .decl .ensures) _ (c .before .before .before .before .before .before .before .before .id3 .given .1) in ended-visits _ _ _ (c .before .before .before .before .before .before .before .before .before .before .before .before .before .before .before .pre .1 .0 .fits) (decl-visited _ o _ ∙ sig-visit _ _ (o .is)) (c .before .before .before .before .visit-const-decl .ensures)
 
 visit-decl-same-length-7 : (t : ℕ) → visit-decl-lts.Need-same-length-7 (visit-decl-claims t) (visit-decl-at t) visit-decl.Post
 visit-decl-same-length-7 t c = search needs
 
-visit-decl-same-length-8 : (t : ℕ) → visit-decl-lts.Need-same-length-8 (visit-decl-claims t) (visit-decl-at t) visit-decl.Post
-visit-decl-same-length-8 t c = search needs
-
-visit-decl-returns-5 : (t : ℕ) → visit-decl-lts.Need-returns-5 (visit-decl-claims t) (visit-decl-at t) visit-decl.Post
-visit-decl-returns-5 t c = let o = decl-case _ (c .before .before .before .before .before .before .before .before .before .before .before .before .before .before .before .pre .1 .0 .is) (c .before .before .before .before .before .before .before .before .before .before .decl .ensures) _ (c .before .before .before .before .before .before .before .before .id4 .given .1) in ended-visits _ _ _ (c .before .before .before .before .before .before .before .before .before .before .before .before .before .before .before .pre .1 .0 .fits) (decl-visited _ o _ ∙ rule-visit _ _ (o .is)) (c .before .before .before .before .visit-rule-decl .ensures)
-
-visit-decl-same-length-9 : (t : ℕ) → visit-decl-lts.Need-same-length-9 (visit-decl-claims t) (visit-decl-at t) visit-decl.Post
-visit-decl-same-length-9 t c = search needs
-
-visit-decl-same-length-10 : (t : ℕ) → visit-decl-lts.Need-same-length-10 (visit-decl-claims t) (visit-decl-at t) visit-decl.Post
-visit-decl-same-length-10 t c = search needs
-
-visit-decl-returns-6 : (t : ℕ) → visit-decl-lts.Need-returns-6 (visit-decl-claims t) (visit-decl-at t) visit-decl.Post
-visit-decl-returns-6 t c = let o = decl-case _ (c .before .before .before .before .before .before .before .before .before .before .before .before .before .before .before .pre .1 .0 .is) (c .before .before .before .before .before .before .before .before .before .before .decl .ensures) _ (c .before .before .before .before .before .before .before .before .id5 .given .1) in visits-as _ (sym (decl-visited _ o _)) (done-visits _ _ _ (decl-fits _ o (c .before .before .before .before .before .before .before .before .before .before .before .before .before .before .before .pre .1 .0 .fits)) (c .before .before .before .before .visit-enum-decl .ensures .0) (c .before .before .before .before .visit-enum-decl .ensures .1))
-
-visit-decl-same-length-11 : (t : ℕ) → visit-decl-lts.Need-same-length-11 (visit-decl-claims t) (visit-decl-at t) visit-decl.Post
-visit-decl-same-length-11 t c = search needs
-
-visit-decl-same-length-12 : (t : ℕ) → visit-decl-lts.Need-same-length-12 (visit-decl-claims t) (visit-decl-at t) visit-decl.Post
-visit-decl-same-length-12 t c = search needs
-
-visit-decl-same-length-13 : (t : ℕ) → visit-decl-lts.Need-same-length-13 (visit-decl-claims t) (visit-decl-at t) visit-decl.Post
-visit-decl-same-length-13 t c = search needs
-
 visit-decl-returns-7 : (t : ℕ) → visit-decl-lts.Need-returns-7 (visit-decl-claims t) (visit-decl-at t) visit-decl.Post
-visit-decl-returns-7 t c = let o = decl-case _ (c .before .before .before .before .before .before .before .before .before .before .before .before .before .before .before .before .before .before .pre .1 .0 .is) (c .before .before .before .before .before .before .before .before .before .before .before .before .before .decl .ensures) _ (c .before .before .before .before .before .before .before .before .before .before .before .id6 .given .1) in visits-as _ (sym (decl-visited _ o _)) (c .before .before .before .before .before .before .visit-model-decl .ensures)
+visit-decl-returns-7 t c = let o = decl-case _ (c .before .before .before .before .before .before .before .before .before .before .before .before .before .before .before .pre .1 .0 .is) (c .before .before .before .before .before .before .before .before .before .before .before .decl .ensures) _ (c .before .before .before .before .before .before .before .before .before .id6 .given .1) in visits-as _ (sym (decl-visited _ o _)) (c .before .before .before .before .visit-model-decl .ensures)
 
 abbrev visit-decls-Inv-loop : visit-decls-lts.InvT-loop
-visit-decls-Inv-loop image table₀ seen₀ env₀ decls i₀ cur₀ table seen env i cur = (length seen ≡ length seen₀) × (length env ≡ length env₀) × VisitLeft image env (decls .0 .node .0) (decls .0 .first) (decls .0 .count) i (walkedOf cur₀ table₀) (walkedOf cur table)
+visit-decls-Inv-loop image table₀ seen₀ env₀ decls i₀ cur₀ table seen env i cur = (length seen ≡ length seen₀) × VisitLeft image env (decls .0 .node .0) (decls .0 .first) (decls .0 .count) i (walkedOf cur₀ table₀) (walkedOf cur table)
 
 abbrev visit-decls-μ-loop : visit-decls-lts.MeasureT-loop
 visit-decls-μ-loop image table₀ seen₀ env₀ decls i₀ cur₀ table seen env i cur = decls .0 .count - i
 
 visit-decls-loop-holds : (t : ℕ) → visit-decls-lts.Need-loop-holds (visit-decls-claims t) (visit-decls-at t) visit-decls.Post visit-decls-Inv-loop visit-decls-μ-loop
-visit-decls-loop-holds t c = (refl, refl, visit-begin _ (c .before .before .before .before .pre .1 .0) (c .before .before .before .before .pre .1 .1))
+visit-decls-loop-holds t c = (refl, visit-begin _ (c .before .before .before .pre .1 .0) (c .before .before .before .pre .1 .1))
 
 visit-decls-nth-decl-requires : (t : ℕ) → visit-decls-lts.Need-nth-decl-requires (visit-decls-claims t) (visit-decls-at t) visit-decls.Post visit-decls-Inv-loop visit-decls-μ-loop
-visit-decls-nth-decl-requires t c κs = let b = c .before .before .before .before .before .before .before .pre .1 .0 .run .short in let t = c .if1 .taken in omega arith
+visit-decls-nth-decl-requires t c κs = let b = c .before .before .before .before .before .before .pre .1 .0 .run .short in let t = c .if1 .taken in omega arith
 
 visit-decls-visit-decl-requires : (t : ℕ) → visit-decls-lts.Need-visit-decl-requires (visit-decls-claims t) (visit-decls-at t) visit-decls.Post visit-decls-Inv-loop visit-decls-μ-loop
-visit-decls-visit-decl-requires t c κs = let o = visitItem _ (c .before .before .before .before .before .before .before .before .before .before .before .pre .1 .0) (c .before .before .before .before .before .before .loop .inv .2) (c .before .before .before .before .if1 .taken) (c .before .before .before .nth-decl .ensures) in (let l = o .low in let m = c .before .before .before .before .before .before .before .before .before .before .before .pre .0 in omega arith, (o .ready, c .before .before .before .before .before .before .loop .inv .2 .stands))
+visit-decls-visit-decl-requires t c κs = let o = visitItem _ (c .before .before .before .before .before .before .before .before .before .before .pre .1 .0) (c .before .before .before .before .before .before .loop .inv .1) (c .before .before .before .before .if1 .taken) (c .before .before .before .nth-decl .ensures) in (let l = o .low in let m = c .before .before .before .before .before .before .before .before .before .before .pre .0 in omega arith, (o .ready, c .before .before .before .before .before .before .loop .inv .1 .stands))
 
 visit-decls-enum-known-visited : (t : ℕ) → visit-decls-lts.Need-enum-known-visited (visit-decls-claims t) (visit-decls-at t) visit-decls.Post visit-decls-Inv-loop visit-decls-μ-loop
 visit-decls-enum-known-visited t c = search needs
@@ -233,56 +215,50 @@ visit-decls-enum-known-name : (t : ℕ) → visit-decls-lts.Need-enum-known-name
 visit-decls-enum-known-name t c = search needs
 
 visit-decls-same-length : (t : ℕ) → visit-decls-lts.Need-same-length (visit-decls-claims t) (visit-decls-at t) visit-decls.Post visit-decls-Inv-loop visit-decls-μ-loop
-visit-decls-same-length t c = c .before .before .before .before .before .before .before .before .before .visit-decl .kept .1 .0 ∙ c .before .before .before .before .before .before .before .before .before .before .before .before .before .before .before .before .loop .inv .2 .long
+visit-decls-same-length t c = c .before .before .before .before .before .before .before .visit-decl .kept .1 .0 ∙ c .before .before .before .before .before .before .before .before .before .before .before .before .before .before .loop .inv .1 .long
 
 visit-decls-same-length-2 : (t : ℕ) → visit-decls-lts.Need-same-length-2 (visit-decls-claims t) (visit-decls-at t) visit-decls.Post visit-decls-Inv-loop visit-decls-μ-loop
-visit-decls-same-length-2 t c = c .before .before .before .before .before .before .before .before .before .visit-decl .kept .1 .1 .0 ∙ c .before .before .before .before .before .before .before .before .before .before .before .before .before .before .before .before .loop .inv .0
-
-visit-decls-same-length-3 : (t : ℕ) → visit-decls-lts.Need-same-length-3 (visit-decls-claims t) (visit-decls-at t) visit-decls.Post visit-decls-Inv-loop visit-decls-μ-loop
-visit-decls-same-length-3 t c = c .before .before .before .before .before .before .before .before .before .visit-decl .kept .1 .1 .1 .0 ∙ c .before .before .before .before .before .before .before .before .before .before .before .before .before .before .before .before .loop .inv .1
+visit-decls-same-length-2 t c = c .before .before .before .before .before .before .before .visit-decl .kept .1 .1 .0 ∙ c .before .before .before .before .before .before .before .before .before .before .before .before .before .before .loop .inv .0
 
 visit-decls-returns : (t : ℕ) → visit-decls-lts.Need-returns (visit-decls-claims t) (visit-decls-at t) visit-decls.Post visit-decls-Inv-loop visit-decls-μ-loop
-visit-decls-returns t c = (visitItem _ (c .before .before .before .before .before .before .before .before .before .before .before .before .before .before .before .before .before .before .before .before .before .pre .1 .0) (c .before .before .before .before .before .before .before .before .before .before .before .before .before .before .before .before .loop .inv .2) (c .before .before .before .before .before .before .before .before .before .before .before .before .before .before .if1 .taken) (c .before .before .before .before .before .before .before .before .before .before .before .before .before .nth-decl .ensures)) .stop _ _ _ (c .before .name .given .1) (c .before .before .before .before .before .before .before .before .before .visit-decl .ensures)
+visit-decls-returns t c = (visitItem _ (c .before .before .before .before .before .before .before .before .before .before .before .before .before .before .before .before .before .before .pre .1 .0) (c .before .before .before .before .before .before .before .before .before .before .before .before .before .before .loop .inv .1) (c .before .before .before .before .before .before .before .before .before .before .before .before .if1 .taken) (c .before .before .before .before .before .before .before .before .before .before .before .nth-decl .ensures)) .stop _ _ _ (c .before .name .given .1) (c .before .before .before .before .before .before .before .visit-decl .ensures)
 
 visit-decls-add-i : (t : ℕ) → visit-decls-lts.Need-add-i (visit-decls-claims t) (visit-decls-at t) visit-decls.Post visit-decls-Inv-loop visit-decls-μ-loop
-visit-decls-add-i t c = let b = c .before .before .before .before .before .before .before .before .before .before .before .before .before .before .before .before .before .before .before .before .before .pre .1 .0 .run .short in let t = c .before .before .before .before .before .before .before .before .before .before .before .before .before .before .if1 .taken in omega arith
+visit-decls-add-i t c = let b = c .before .before .before .before .before .before .before .before .before .before .before .before .before .before .before .before .before .before .pre .1 .0 .run .short in let t = c .before .before .before .before .before .before .before .before .before .before .before .before .if1 .taken in omega arith
 
 visit-decls-loop-less : (t : ℕ) → visit-decls-lts.Need-loop-less (visit-decls-claims t) (visit-decls-at t) visit-decls.Post visit-decls-Inv-loop visit-decls-μ-loop
 visit-decls-loop-less t c = search needs
 
 visit-decls-loop-again : (t : ℕ) → visit-decls-lts.Need-loop-again (visit-decls-claims t) (visit-decls-at t) visit-decls.Post visit-decls-Inv-loop visit-decls-μ-loop
-visit-decls-loop-again t c = (c .before .before .before .before .before .before .before .before .before .visit-decl .kept .1 .1 .0 ∙ c .before .before .before .before .before .before .before .before .before .before .before .before .before .before .before .before .loop .inv .0, c .before .before .before .before .before .before .before .before .before .visit-decl .kept .1 .1 .1 .0 ∙ c .before .before .before .before .before .before .before .before .before .before .before .before .before .before .before .before .loop .inv .1, (visitItem _ (c .before .before .before .before .before .before .before .before .before .before .before .before .before .before .before .before .before .before .before .before .before .pre .1 .0) (c .before .before .before .before .before .before .before .before .before .before .before .before .before .before .before .before .loop .inv .2) (c .before .before .before .before .before .before .before .before .before .before .before .before .before .before .if1 .taken) (c .before .before .before .before .before .before .before .before .before .before .before .before .before .nth-decl .ensures)) .more _ (c .before .visited .given .1) (c .before .before .before .before .before .before .before .before .before .visit-decl .ensures))
+visit-decls-loop-again t c = (c .before .before .before .before .before .before .before .visit-decl .kept .1 .1 .0 ∙ c .before .before .before .before .before .before .before .before .before .before .before .before .before .before .loop .inv .0, (visitItem _ (c .before .before .before .before .before .before .before .before .before .before .before .before .before .before .before .before .before .before .pre .1 .0) (c .before .before .before .before .before .before .before .before .before .before .before .before .before .before .loop .inv .1) (c .before .before .before .before .before .before .before .before .before .before .before .before .if1 .taken) (c .before .before .before .before .before .before .before .before .before .before .before .nth-decl .ensures)) .more _ (c .before .visited .given .1) (c .before .before .before .before .before .before .before .visit-decl .ensures))
+
+visit-decls-same-length-3 : (t : ℕ) → visit-decls-lts.Need-same-length-3 (visit-decls-claims t) (visit-decls-at t) visit-decls.Post visit-decls-Inv-loop visit-decls-μ-loop
+visit-decls-same-length-3 t c = c .before .before .loop .inv .1 .long
 
 visit-decls-same-length-4 : (t : ℕ) → visit-decls-lts.Need-same-length-4 (visit-decls-claims t) (visit-decls-at t) visit-decls.Post visit-decls-Inv-loop visit-decls-μ-loop
-visit-decls-same-length-4 t c = c .before .before .loop .inv .2 .long
-
-visit-decls-same-length-5 : (t : ℕ) → visit-decls-lts.Need-same-length-5 (visit-decls-claims t) (visit-decls-at t) visit-decls.Post visit-decls-Inv-loop visit-decls-μ-loop
-visit-decls-same-length-5 t c = c .before .before .loop .inv .0
-
-visit-decls-same-length-6 : (t : ℕ) → visit-decls-lts.Need-same-length-6 (visit-decls-claims t) (visit-decls-at t) visit-decls.Post visit-decls-Inv-loop visit-decls-μ-loop
-visit-decls-same-length-6 t c = c .before .before .loop .inv .1
+visit-decls-same-length-4 t c = c .before .before .loop .inv .0
 
 visit-decls-returns-2 : (t : ℕ) → visit-decls-lts.Need-returns-2 (visit-decls-claims t) (visit-decls-at t) visit-decls.Post visit-decls-Inv-loop visit-decls-μ-loop
-visit-decls-returns-2 t c = visit-ended _ _ (c .before .before .loop .inv .2) (c .if1 .left)
+visit-decls-returns-2 t c = visit-ended _ _ (c .before .before .loop .inv .1) (c .if1 .left)
 
 visit-model-decl-model-decl-requires : (t : ℕ) → visit-model-decl-lts.Need-model-decl-requires (visit-model-decl-claims t) (visit-model-decl-at t) visit-model-decl.Post
 visit-model-decl-model-decl-requires t c κs = search needs
 
 visit-model-decl-new-scope-requires : (t : ℕ) → visit-model-decl-lts.Need-new-scope-requires (visit-model-decl-claims t) (visit-model-decl-at t) visit-model-decl.Post
-visit-model-decl-new-scope-requires t c κs = model-room _ (c .before .before .before .before .before .before .before .pre .1 .0)
+visit-model-decl-new-scope-requires t c κs = model-room _ (c .before .before .before .before .before .before .pre .1 .0)
 
 visit-model-decl-insert-unordered-requires :
     (t : ℕ) → visit-model-decl-lts.Need-insert-unordered-requires (visit-model-decl-claims t) (visit-model-decl-at t) visit-model-decl.Post
 visit-model-decl-insert-unordered-requires t c κs = search needs
 
 visit-model-decl-walk-decls-requires : (t : ℕ) → visit-model-decl-lts.Need-walk-decls-requires (visit-model-decl-claims t) (visit-model-decl-at t) visit-model-decl.Post
-visit-model-decl-walk-decls-requires t c κs = let m = modelVisit _ (c .before .before .before .before .before .before .before .before .before .before .before .before .before .before .before .before .before .pre .1 .0) (c .before .before .before .before .before .before .before .before .before .before .before .before .model-decl .ensures .list) (opened-is _ _ _ (c .before .before .before .before .before .before .before .before .before .new-scope .ensures) (c .before .before .before .before .before .insert-unordered .ensures)) in (let q = m .own in let l = c .before .before .before .before .before .before .before .before .before .before .before .before .before .before .before .before .before .pre .0 in omega arith, (m .list, m .opens (c .before .before .before .before .before .before .before .before .before .before .before .before .before .before .before .before .before .pre .1 .1)))
+visit-model-decl-walk-decls-requires t c κs = let m = modelVisit _ (c .before .before .before .before .before .before .before .before .before .before .before .before .before .before .before .before .pre .1 .0) (c .before .before .before .before .before .before .before .before .before .before .before .before .model-decl .ensures .list) (opened-is _ _ _ (c .before .before .before .before .before .before .before .before .before .new-scope .ensures) (c .before .before .before .before .before .insert-unordered .ensures)) in (let q = m .own in let l = c .before .before .before .before .before .before .before .before .before .before .before .before .before .before .before .before .pre .0 in omega arith, (m .list, m .opens (c .before .before .before .before .before .before .before .before .before .before .before .before .before .before .before .before .pre .1 .1)))
 
 visit-model-decl-enum-known-visited : (t : ℕ) → visit-model-decl-lts.Need-enum-known-visited (visit-model-decl-claims t) (visit-model-decl-at t) visit-model-decl.Post
 visit-model-decl-enum-known-visited t c = search needs
 
 visit-model-decl-leave-scope-requires : (t : ℕ) → visit-model-decl-lts.Need-leave-scope-requires (visit-model-decl-claims t) (visit-model-decl-at t) visit-model-decl.Post
-visit-model-decl-leave-scope-requires t c κs = let m = modelVisit _ (c .before .before .before .before .before .before .before .before .before .before .before .before .before .before .before .before .before .before .before .before .before .before .before .before .before .before .before .before .before .pre .1 .0) (c .before .before .before .before .before .before .before .before .before .before .before .before .before .before .before .before .before .before .before .before .before .before .before .before .model-decl .ensures .list) (opened-is _ _ _ (c .before .before .before .before .before .before .before .before .before .before .before .before .before .before .before .before .before .before .before .before .before .new-scope .ensures) (c .before .before .before .before .before .before .before .before .before .before .before .before .before .before .before .before .before .insert-unordered .ensures)) in m .leaves _ (c .before .before .before .visited .given .1) (c .before .before .before .before .before .before .before .before .before .before .before .walk-decls .ensures) (c .before .before .before .before .before .before .before .before .before .before .before .before .before .before .before .before .before .before .before .before .before .before .before .before .before .before .before .before .before .pre .1 .1)
+visit-model-decl-leave-scope-requires t c κs = let m = modelVisit _ (c .before .before .before .before .before .before .before .before .before .before .before .before .before .before .before .before .before .before .before .before .before .before .before .before .before .before .pre .1 .0) (c .before .before .before .before .before .before .before .before .before .before .before .before .before .before .before .before .before .before .before .before .before .before .model-decl .ensures .list) (opened-is _ _ _ (c .before .before .before .before .before .before .before .before .before .before .before .before .before .before .before .before .before .before .before .new-scope .ensures) (c .before .before .before .before .before .before .before .before .before .before .before .before .before .before .before .insert-unordered .ensures)) in m .leaves _ (c .before .before .before .visited .given .1) (c .before .before .before .before .before .before .before .before .before .walk-decls .ensures) (c .before .before .before .before .before .before .before .before .before .before .before .before .before .before .before .before .before .before .before .before .before .before .before .before .before .before .pre .1 .1)
 
 visit-model-decl-dropped-requires : (t : ℕ) → visit-model-decl-lts.Need-dropped-requires (visit-model-decl-claims t) (visit-model-decl-at t) visit-model-decl.Post
 visit-model-decl-dropped-requires t c κs = search needs
@@ -291,37 +267,31 @@ visit-model-decl-enum-known-name : (t : ℕ) → visit-model-decl-lts.Need-enum-
 visit-model-decl-enum-known-name t c = search needs
 
 visit-model-decl-same-length : (t : ℕ) → visit-model-decl-lts.Need-same-length (visit-model-decl-claims t) (visit-model-decl-at t) visit-model-decl.Post
-visit-model-decl-same-length t c = c .before .before .before .before .before .before .before .before .before .before .before .before .before .before .before .walk-decls .kept .1 .0 ∙ c .before .before .before .before .before .before .before .before .before .before .before .before .before .before .before .before .before .before .before .before .before .insert-unordered .kept .1 .0 ∙ c .before .before .before .before .before .before .before .before .before .before .before .before .before .before .before .before .before .before .before .before .before .before .before .before .before .new-scope .kept .1 .0
+visit-model-decl-same-length t c = c .before .before .before .before .before .before .before .before .before .before .before .walk-decls .kept .1 .0 ∙ c .before .before .before .before .before .before .before .before .before .before .before .before .before .before .before .before .before .insert-unordered .kept .1 .0 ∙ c .before .before .before .before .before .before .before .before .before .before .before .before .before .before .before .before .before .before .before .before .before .new-scope .kept .1 .0
 
 visit-model-decl-same-length-2 : (t : ℕ) → visit-model-decl-lts.Need-same-length-2 (visit-model-decl-claims t) (visit-model-decl-at t) visit-model-decl.Post
 visit-model-decl-same-length-2 t c = search needs
 
+visit-model-decl-returns : (t : ℕ) → visit-model-decl-lts.Need-returns (visit-model-decl-claims t) (visit-model-decl-at t) visit-model-decl.Post
+visit-model-decl-returns t c = let m = modelVisit _ (c .before .before .before .before .before .before .before .before .before .before .before .before .before .before .before .before .before .before .before .before .before .before .before .before .before .before .before .before .pre .1 .0) (c .before .before .before .before .before .before .before .before .before .before .before .before .before .before .before .before .before .before .before .before .before .before .before .before .model-decl .ensures .list) (opened-is _ _ _ (c .before .before .before .before .before .before .before .before .before .before .before .before .before .before .before .before .before .before .before .before .before .new-scope .ensures) (c .before .before .before .before .before .before .before .before .before .before .before .before .before .before .before .before .before .insert-unordered .ensures)) in m .back-in _ _ (c .before .before .before .before .before .visited .given .1) (c .before .before .before .before .before .before .before .before .before .before .before .walk-decls .ensures) refl (c .before .before .before .before .before .before .before .before .before .before .before .before .before .before .before .before .before .before .before .before .before .before .before .before .before .before .before .before .pre .1 .1) (c .before .leave-scope .ensures) (dropped-is (c .before .before .before .before .before .before .before .before .before .before .before .before .before .before .before .before .before .before .before .before .before .before .before .before .before .before .before .before .args .image .now) (c .dropped .result) (c .before .before .before .before .before .before .before .before .before .before .before .before .before .before .before .before .before .before .before .before .before .before .before .before .before .before .before .before .args .current) (c .before .before .before .before .before .visited .given .0 .0) _ (c .dropped .ensures))
+
 visit-model-decl-same-length-3 : (t : ℕ) → visit-model-decl-lts.Need-same-length-3 (visit-model-decl-claims t) (visit-model-decl-at t) visit-model-decl.Post
 visit-model-decl-same-length-3 t c = search needs
-
-visit-model-decl-returns : (t : ℕ) → visit-model-decl-lts.Need-returns (visit-model-decl-claims t) (visit-model-decl-at t) visit-model-decl.Post
-visit-model-decl-returns t c = let m = modelVisit _ (c .before .before .before .before .before .before .before .before .before .before .before .before .before .before .before .before .before .before .before .before .before .before .before .before .before .before .before .before .before .before .before .before .before .pre .1 .0) (c .before .before .before .before .before .before .before .before .before .before .before .before .before .before .before .before .before .before .before .before .before .before .before .before .before .before .before .before .model-decl .ensures .list) (opened-is _ _ _ (c .before .before .before .before .before .before .before .before .before .before .before .before .before .before .before .before .before .before .before .before .before .before .before .before .before .new-scope .ensures) (c .before .before .before .before .before .before .before .before .before .before .before .before .before .before .before .before .before .before .before .before .before .insert-unordered .ensures)) in m .back-in _ _ (c .before .before .before .before .before .before .before .visited .given .1) (c .before .before .before .before .before .before .before .before .before .before .before .before .before .before .before .walk-decls .ensures) refl (c .before .before .before .before .before .before .before .before .before .before .before .before .before .before .before .before .before .before .before .before .before .before .before .before .before .before .before .before .before .before .before .before .before .pre .1 .1) (c .before .before .before .leave-scope .ensures) (dropped-is (c .before .before .before .before .before .before .before .before .before .before .before .before .before .before .before .before .before .before .before .before .before .before .before .before .before .before .before .before .before .before .before .before .before .args .image .now) (c .dropped .result) (c .before .before .before .before .before .before .before .before .before .before .before .before .before .before .before .before .before .before .before .before .before .before .before .before .before .before .before .before .before .before .before .before .before .args .current) (c .before .before .before .before .before .before .before .visited .given .0 .0) _ (c .dropped .ensures))
 
 visit-model-decl-same-length-4 : (t : ℕ) → visit-model-decl-lts.Need-same-length-4 (visit-model-decl-claims t) (visit-model-decl-at t) visit-model-decl.Post
 visit-model-decl-same-length-4 t c = search needs
 
-visit-model-decl-same-length-5 : (t : ℕ) → visit-model-decl-lts.Need-same-length-5 (visit-model-decl-claims t) (visit-model-decl-at t) visit-model-decl.Post
-visit-model-decl-same-length-5 t c = search needs
-
-visit-model-decl-same-length-6 : (t : ℕ) → visit-model-decl-lts.Need-same-length-6 (visit-model-decl-claims t) (visit-model-decl-at t) visit-model-decl.Post
-visit-model-decl-same-length-6 t c = search needs
-
 visit-model-decl-returns-2 : (t : ℕ) → visit-model-decl-lts.Need-returns-2 (visit-model-decl-claims t) (visit-model-decl-at t) visit-model-decl.Post
-visit-model-decl-returns-2 t c = let m = modelVisit _ (c .before .before .before .before .before .before .before .before .before .before .before .before .before .before .before .before .before .before .before .before .before .before .before .before .before .before .before .pre .1 .0) (c .before .before .before .before .before .before .before .before .before .before .before .before .before .before .before .before .before .before .before .before .before .before .model-decl .ensures .list) (opened-is _ _ _ (c .before .before .before .before .before .before .before .before .before .before .before .before .before .before .before .before .before .before .before .new-scope .ensures) (c .before .before .before .before .before .before .before .before .before .before .before .before .before .before .before .insert-unordered .ensures)) in m .stop _ _ _ (c .before .name .given .1) (c .before .before .before .before .before .before .before .before .before .walk-decls .ensures) refl
+visit-model-decl-returns-2 t c = let m = modelVisit _ (c .before .before .before .before .before .before .before .before .before .before .before .before .before .before .before .before .before .before .before .before .before .before .before .before .pre .1 .0) (c .before .before .before .before .before .before .before .before .before .before .before .before .before .before .before .before .before .before .before .before .model-decl .ensures .list) (opened-is _ _ _ (c .before .before .before .before .before .before .before .before .before .before .before .before .before .before .before .before .before .new-scope .ensures) (c .before .before .before .before .before .before .before .before .before .before .before .before .before .insert-unordered .ensures)) in m .stop _ _ _ (c .before .name .given .1) (c .before .before .before .before .before .before .before .walk-decls .ensures) refl
 
 walk-decls-enter-decls-requires : (t : ℕ) → walk-decls-lts.Need-enter-decls-requires (walk-decls-claims t) (walk-decls-at t) walk-decls.Post
-walk-decls-enter-decls-requires t c κs = list-enter _ _ (c .before .before .before .before .before .before .before .pre .1 .0) (c .before .before .before .before .before .before .before .pre .1 .1)
+walk-decls-enter-decls-requires t c κs = list-enter _ _ (c .before .before .before .before .before .before .pre .1 .0) (c .before .before .before .before .before .before .pre .1 .1)
 
 walk-decls-enum-known-entered : (t : ℕ) → walk-decls-lts.Need-enum-known-entered (walk-decls-claims t) (walk-decls-at t) walk-decls.Post
 walk-decls-enum-known-entered t c = search needs
 
 walk-decls-visit-decls-requires : (t : ℕ) → walk-decls-lts.Need-visit-decls-requires (walk-decls-claims t) (walk-decls-at t) walk-decls.Post
-walk-decls-visit-decls-requires t c κs = (let m = c .before .before .before .before .before .before .before .before .before .before .before .before .before .before .before .before .before .before .before .before .pre .0 in omega arith, let v = listVisit _ _ (c .before .before .before .before .before .before .before .before .before .before .before .before .before .before .before .before .before .before .before .before .pre .1 .0) (c .before .before .before .before .entered .given .1) (c .before .before .before .before .before .before .before .before .before .before .before .before .enter-decls .ensures) in (v .run, v .stands))
+walk-decls-visit-decls-requires t c κs = (let m = c .before .before .before .before .before .before .before .before .before .before .before .before .before .before .before .before .before .pre .0 in omega arith, let v = listVisit _ _ (c .before .before .before .before .before .before .before .before .before .before .before .before .before .before .before .before .before .pre .1 .0) (c .before .before .before .before .entered .given .1) (c .before .before .before .before .before .before .before .before .before .before .enter-decls .ensures) in (v .run, v .stands))
 
 walk-decls-enum-known-name : (t : ℕ) → walk-decls-lts.Need-enum-known-name (walk-decls-claims t) (walk-decls-at t) walk-decls.Post
 walk-decls-enum-known-name t c = search needs
@@ -332,23 +302,17 @@ walk-decls-same-length t c = search needs
 walk-decls-same-length-2 : (t : ℕ) → walk-decls-lts.Need-same-length-2 (walk-decls-claims t) (walk-decls-at t) walk-decls.Post
 walk-decls-same-length-2 t c = search needs
 
+walk-decls-returns : (t : ℕ) → walk-decls-lts.Need-returns (walk-decls-claims t) (walk-decls-at t) walk-decls.Post
+walk-decls-returns t c = (listVisit _ _ (c .before .before .before .before .before .before .before .before .before .before .before .before .before .before .before .before .before .before .before .before .before .before .pre .1 .0) (c .before .before .before .before .before .before .before .before .before .entered .given .1) (c .before .before .before .before .before .before .before .before .before .before .before .before .before .before .before .enter-decls .ensures)) .visits (c .before .before .before .before .visit-decls .ensures)
+
 walk-decls-same-length-3 : (t : ℕ) → walk-decls-lts.Need-same-length-3 (walk-decls-claims t) (walk-decls-at t) walk-decls.Post
 walk-decls-same-length-3 t c = search needs
-
-walk-decls-returns : (t : ℕ) → walk-decls-lts.Need-returns (walk-decls-claims t) (walk-decls-at t) walk-decls.Post
-walk-decls-returns t c = (listVisit _ _ (c .before .before .before .before .before .before .before .before .before .before .before .before .before .before .before .before .before .before .before .before .before .before .before .before .before .before .before .pre .1 .0) (c .before .before .before .before .before .before .before .before .before .before .before .entered .given .1) (c .before .before .before .before .before .before .before .before .before .before .before .before .before .before .before .before .before .before .before .enter-decls .ensures)) .visits (c .before .before .before .before .before .before .visit-decls .ensures)
 
 walk-decls-same-length-4 : (t : ℕ) → walk-decls-lts.Need-same-length-4 (walk-decls-claims t) (walk-decls-at t) walk-decls.Post
 walk-decls-same-length-4 t c = search needs
 
-walk-decls-same-length-5 : (t : ℕ) → walk-decls-lts.Need-same-length-5 (walk-decls-claims t) (walk-decls-at t) walk-decls.Post
-walk-decls-same-length-5 t c = search needs
-
-walk-decls-same-length-6 : (t : ℕ) → walk-decls-lts.Need-same-length-6 (walk-decls-claims t) (walk-decls-at t) walk-decls.Post
-walk-decls-same-length-6 t c = search needs
-
 walk-decls-returns-2 : (t : ℕ) → walk-decls-lts.Need-returns-2 (walk-decls-claims t) (walk-decls-at t) walk-decls.Post
-walk-decls-returns-2 t c = list-stop _ _ _ _ _ _ _ _ (c .before .name .given .1) (c .before .before .before .before .before .before .before .before .before .enter-decls .ensures)
+walk-decls-returns-2 t c = list-stop _ _ _ _ _ _ _ _ (c .before .name .given .1) (c .before .before .before .before .before .before .before .enter-decls .ensures)
 
 pub +visit-decl+visit-decls+visit-model-decl+walk-decls-spec : {M : Type 1} → statement M
 +visit-decl+visit-decls+visit-model-decl+walk-decls-spec =
@@ -371,23 +335,17 @@ pub +visit-decl+visit-decls+visit-model-decl+walk-decls-spec : {M : Type 1} → 
     (visit-decl-visit-model-decl-requires t)
     (visit-decl-returns t)
     (visit-decl-same-length t)
-    (visit-decl-same-length-2 t)
     (visit-decl-returns-2 t)
-    (visit-decl-same-length-3 t)
-    (visit-decl-same-length-4 t)
+    (visit-decl-same-length-2 t)
     (visit-decl-returns-3 t)
-    (visit-decl-same-length-5 t)
-    (visit-decl-same-length-6 t)
+    (visit-decl-same-length-3 t)
     (visit-decl-returns-4 t)
-    (visit-decl-same-length-7 t)
-    (visit-decl-same-length-8 t)
+    (visit-decl-same-length-4 t)
     (visit-decl-returns-5 t)
-    (visit-decl-same-length-9 t)
-    (visit-decl-same-length-10 t)
+    (visit-decl-same-length-5 t)
     (visit-decl-returns-6 t)
-    (visit-decl-same-length-11 t)
-    (visit-decl-same-length-12 t)
-    (visit-decl-same-length-13 t)
+    (visit-decl-same-length-6 t)
+    (visit-decl-same-length-7 t)
     (visit-decl-returns-7 t))
     (λ t. visit-decls-lts.spec (visit-decls-claims t)
     (visit-decls-at t)
@@ -401,14 +359,12 @@ pub +visit-decl+visit-decls+visit-model-decl+walk-decls-spec : {M : Type 1} → 
     (visit-decls-enum-known-name t)
     (visit-decls-same-length t)
     (visit-decls-same-length-2 t)
-    (visit-decls-same-length-3 t)
     (visit-decls-returns t)
     (visit-decls-add-i t)
     (visit-decls-loop-less t)
     (visit-decls-loop-again t)
+    (visit-decls-same-length-3 t)
     (visit-decls-same-length-4 t)
-    (visit-decls-same-length-5 t)
-    (visit-decls-same-length-6 t)
     (visit-decls-returns-2 t))
     (λ t. visit-model-decl-lts.spec (visit-model-decl-claims t)
     (visit-model-decl-at t)
@@ -423,11 +379,9 @@ pub +visit-decl+visit-decls+visit-model-decl+walk-decls-spec : {M : Type 1} → 
     (visit-model-decl-enum-known-name t)
     (visit-model-decl-same-length t)
     (visit-model-decl-same-length-2 t)
-    (visit-model-decl-same-length-3 t)
     (visit-model-decl-returns t)
+    (visit-model-decl-same-length-3 t)
     (visit-model-decl-same-length-4 t)
-    (visit-model-decl-same-length-5 t)
-    (visit-model-decl-same-length-6 t)
     (visit-model-decl-returns-2 t))
     λ t. walk-decls-lts.spec (walk-decls-claims t)
     (walk-decls-at t)
@@ -438,9 +392,7 @@ pub +visit-decl+visit-decls+visit-model-decl+walk-decls-spec : {M : Type 1} → 
     (walk-decls-enum-known-name t)
     (walk-decls-same-length t)
     (walk-decls-same-length-2 t)
-    (walk-decls-same-length-3 t)
     (walk-decls-returns t)
+    (walk-decls-same-length-3 t)
     (walk-decls-same-length-4 t)
-    (walk-decls-same-length-5 t)
-    (walk-decls-same-length-6 t)
     (walk-decls-returns-2 t)

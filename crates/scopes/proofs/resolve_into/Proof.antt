@@ -14,10 +14,10 @@ words-for-requires : tie.Need-words-for-requires
 words-for-requires c κs = search needs
 
 clear-requires : tie.Need-clear-requires
-clear-requires c κs = let l = table-long _ _ (c .before .before .before .before .before .before .pre .0) in omega arith
+clear-requires c κs = let l = table-long _ _ (c .before .before .before .before .before .pre .0) in omega arith
 
 walk-module-requires : tie.Need-walk-module-requires
-walk-module-requires c κs = lent _ _ (c .before .before .before .before .before .before .before .before .before .before .before .pre .0) _ _ (c .before .before .before .before .before .before .words-for .ensures ∙ ap tableLength (c .before .before .before .before .before .before .before .node-count .ensures)) (c .before .before .before .before .clear .ensures) (c .before .before .before .before .clear .kept .0) (c .before .before .before .before .before .before .before .before .before .before .before .pre .1)
+walk-module-requires c κs = lent _ _ (c .before .before .before .before .before .before .before .before .before .before .pre .0) _ _ (c .before .before .before .before .before .before .words-for .ensures ∙ ap tableLength (c .before .before .before .before .before .before .before .node-count .ensures)) (c .before .before .before .before .clear .ensures) (c .before .before .before .before .clear .kept .0) (c .before .before .before .before .before .before .before .before .before .before .pre .1)
 
 enum-known-walked : tie.Need-enum-known-walked
 enum-known-walked c = search needs
@@ -29,25 +29,19 @@ enum-known-name : tie.Need-enum-known-name
 enum-known-name c = search needs
 
 clear-requires-2 : tie.Need-clear-requires-2
-clear-requires-2 c κs = let l = table-long _ _ (c .before .before .before .before .before .before .before .before .before .before .before .before .before .before .before .before .before .before .before .before .pre .0) in let a = c .before .before .before .before .before .before .before .before .before .before .before .before .before .clear .kept .0 in let b = c .before .before .before .before .before .before .before .before .walk-module .kept .1 .0 in omega arith
+clear-requires-2 c κs = let l = table-long _ _ (c .before .before .before .before .before .before .before .before .before .before .before .before .before .before .before .before .before .pre .0) in let a = c .before .before .before .before .before .before .before .before .before .before .before .clear .kept .0 in let b = c .before .before .before .before .before .before .walk-module .kept .1 .0 in omega arith
 
 same-length : tie.Need-same-length
 same-length c = search needs
 
+returns : tie.Need-returns
+returns c = (resolved-done _ _ (c .before .before .before .before .before .before .before .before .before .before .before .before .before .before .before .before .before .before .before .before .pre .0) _ _ (c .before .before .before .before .before .before .before .before .before .before .before .before .before .before .before .before .words-for .ensures ∙ ap tableLength (c .before .before .before .before .before .before .before .before .before .before .before .before .before .before .before .before .before .node-count .ensures)) (c .before .before .before .before .before .before .before .before .before .before .before .before .before .before .clear .ensures) (c .before .before .before .before .before .before .before .before .before .walk-module .ensures) _ (c .before .before .before .before .before .walked .given .1) (c .before .before .insert-counts .ensures), noted-done _ _ (c .before .before .before .before .before .before .before .before .before .before .before .before .before .before .before .before .before .before .before .before .pre .0) _ _ (c .before .before .before .before .before .before .before .before .before .before .before .before .before .before .before .before .words-for .ensures ∙ ap tableLength (c .before .before .before .before .before .before .before .before .before .before .before .before .before .before .before .before .before .node-count .ensures)) (c .before .before .before .before .before .before .before .before .before .before .before .before .before .before .clear .ensures) (c .before .before .before .before .before .before .before .before .before .walk-module .ensures) _ (c .before .before .before .before .before .walked .given .1) (c .before .before .insert-counts .ensures))
+
 same-length-2 : tie.Need-same-length-2
 same-length-2 c = search needs
 
-returns : tie.Need-returns
-returns c = (resolved-done _ _ (c .before .before .before .before .before .before .before .before .before .before .before .before .before .before .before .before .before .before .before .before .before .before .before .pre .0) _ _ (c .before .before .before .before .before .before .before .before .before .before .before .before .before .before .before .before .before .before .words-for .ensures ∙ ap tableLength (c .before .before .before .before .before .before .before .before .before .before .before .before .before .before .before .before .before .before .before .node-count .ensures)) (c .before .before .before .before .before .before .before .before .before .before .before .before .before .before .before .before .clear .ensures) (c .before .before .before .before .before .before .before .before .before .before .before .walk-module .ensures) _ (c .before .before .before .before .before .walked .given .1) (c .before .before .insert-counts .ensures), noted-done _ _ (c .before .before .before .before .before .before .before .before .before .before .before .before .before .before .before .before .before .before .before .before .before .before .before .pre .0) _ _ (c .before .before .before .before .before .before .before .before .before .before .before .before .before .before .before .before .before .before .words-for .ensures ∙ ap tableLength (c .before .before .before .before .before .before .before .before .before .before .before .before .before .before .before .before .before .before .before .node-count .ensures)) (c .before .before .before .before .before .before .before .before .before .before .before .before .before .before .before .before .clear .ensures) (c .before .before .before .before .before .before .before .before .before .before .before .walk-module .ensures) _ (c .before .before .before .before .before .walked .given .1) (c .before .before .insert-counts .ensures))
-
-same-length-3 : tie.Need-same-length-3
-same-length-3 c = search needs
-
-same-length-4 : tie.Need-same-length-4
-same-length-4 c = search needs
-
 returns-2 : tie.Need-returns-2
-returns-2 c = (resolved-twice _ _ (c .before .before .before .before .before .before .before .before .before .before .before .before .before .before .before .before .before .before .before .before .before .before .before .pre .0) _ _ (c .before .before .before .before .before .before .before .before .before .before .before .before .before .before .before .before .before .before .words-for .ensures ∙ ap tableLength (c .before .before .before .before .before .before .before .before .before .before .before .before .before .before .before .before .before .before .before .node-count .ensures)) (c .before .before .before .before .before .before .before .before .before .before .before .before .before .before .before .before .clear .ensures) (c .before .before .before .before .before .before .before .before .before .before .before .walk-module .ensures) _ _ _ (c .before .before .before .before .before .name .given .1) (c .before .before .clear2 .ensures), tt)
+returns-2 c = (resolved-twice _ _ (c .before .before .before .before .before .before .before .before .before .before .before .before .before .before .before .before .before .before .before .before .pre .0) _ _ (c .before .before .before .before .before .before .before .before .before .before .before .before .before .before .before .before .words-for .ensures ∙ ap tableLength (c .before .before .before .before .before .before .before .before .before .before .before .before .before .before .before .before .before .node-count .ensures)) (c .before .before .before .before .before .before .before .before .before .before .before .before .before .before .clear .ensures) (c .before .before .before .before .before .before .before .before .before .walk-module .ensures) _ _ _ (c .before .before .before .before .before .name .given .1) (c .before .before .clear2 .ensures), tt)
 
 pub resolve-into-spec : {M : Type 1} → statement M
 resolve-into-spec =
@@ -62,8 +56,6 @@ resolve-into-spec =
     enum-known-name
     clear-requires-2
     same-length
-    same-length-2
     returns
-    same-length-3
-    same-length-4
+    same-length-2
     returns-2)

@@ -13,9 +13,6 @@ same-length c = search needs
 returns : tie.Need-returns
 returns c = resolve-refused _ _ _ (c .before .test-table .ensures) (c .if1 .taken)
 
-slice-aggregate-resolve-into : tie.Need-slice-aggregate-resolve-into
-slice-aggregate-resolve-into c = search needs
-
 resolve-into-requires : tie.Need-resolve-into-requires
 resolve-into-requires c κs = (sym (c .before .before .before .test-table .ensures) ∙ c .before .before .if1 .left, refl)
 
@@ -29,13 +26,13 @@ same-length-2 : tie.Need-same-length-2
 same-length-2 c = search needs
 
 returns-2 : tie.Need-returns-2
-returns-2 c = resolve-done _ _ (sym (c .before .before .before .before .before .before .before .before .before .before .test-table .ensures) ∙ c .before .before .before .before .before .before .before .before .before .if1 .left) (c .before .before .before .before .before .before .resolve-into .ensures .0) (c .before .walked .given .1)
+returns-2 c = resolve-done _ _ (sym (c .before .before .before .before .before .before .before .before .before .test-table .ensures) ∙ c .before .before .before .before .before .before .before .before .if1 .left) (c .before .before .before .before .before .resolve-into .ensures .0) (c .before .walked .given .1)
 
 same-length-3 : tie.Need-same-length-3
 same-length-3 c = search needs
 
 returns-3 : tie.Need-returns-3
-returns-3 c = resolve-twice _ _ (sym (c .before .before .before .before .before .before .before .before .before .before .test-table .ensures) ∙ c .before .before .before .before .before .before .before .before .before .if1 .left) (c .before .before .before .before .before .before .resolve-into .ensures .0) (c .before .name .given .1)
+returns-3 c = resolve-twice _ _ (sym (c .before .before .before .before .before .before .before .before .before .test-table .ensures) ∙ c .before .before .before .before .before .before .before .before .if1 .left) (c .before .before .before .before .before .resolve-into .ensures .0) (c .before .name .given .1)
 
 pub resolve-scopes-spec : {M : Type 1} → statement M
 resolve-scopes-spec =
@@ -44,7 +41,6 @@ resolve-scopes-spec =
     test-table-requires
     same-length
     returns
-    slice-aggregate-resolve-into
     resolve-into-requires
     enum-known-walked
     enum-known-name

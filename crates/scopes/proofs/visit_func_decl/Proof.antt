@@ -11,22 +11,19 @@ func-decl-requires : tie.Need-func-decl-requires
 func-decl-requires c κs = search needs
 
 walk-arg-decl-list-requires : tie.Need-walk-arg-decl-list-requires
-walk-arg-decl-list-requires c κs = ((sigTwo _ (c .before .before .before .before .before .before .before .before .pre .0) (c .before .before .before .before .func-decl .ensures .second) (c .before .before .before .before .func-decl .ensures .third)) .first, c .before .before .before .before .before .before .before .before .pre .1)
+walk-arg-decl-list-requires c κs = ((sigTwo _ (c .before .before .before .before .before .before .before .pre .0) (c .before .before .before .before .func-decl .ensures .second) (c .before .before .before .before .func-decl .ensures .third)) .first, c .before .before .before .before .before .before .before .pre .1)
 
 walk-type-expr-requires : tie.Need-walk-type-expr-requires
-walk-type-expr-requires c κs = (subst (Ready _ (kindOf typeExprKind) _) (sym (c .before .before .before .before .before .before .walk-arg-decl-list .ensures .same)) ((sigTwo _ (c .before .before .before .before .before .before .before .before .before .before .before .before .before .before .before .pre .0) (c .before .before .before .before .before .before .before .before .before .before .before .func-decl .ensures .second) (c .before .before .before .before .before .before .before .before .before .before .before .func-decl .ensures .third)) .second), c .before .before .before .before .before .before .walk-arg-decl-list .ensures .stands)
+walk-type-expr-requires c κs = (subst (Ready _ (kindOf typeExprKind) _) (sym (c .before .before .before .before .walk-arg-decl-list .ensures .same)) ((sigTwo _ (c .before .before .before .before .before .before .before .before .before .before .before .before .pre .0) (c .before .before .before .before .before .before .before .before .before .func-decl .ensures .second) (c .before .before .before .before .before .before .before .before .before .func-decl .ensures .third)) .second), c .before .before .before .before .walk-arg-decl-list .ensures .stands)
 
 put-back-requires : tie.Need-put-back-requires
-put-back-requires c κs = (c .before .before .before .before .before .before .walk-type-expr .ensures .stands, inside-path _ (c .before .before .before .before .before .before .before .before .before .before .before .before .before .before .before .before .before .before .before .before .before .before .pre .0) (c .before .before .before .before .before .before .before .before .before .before .before .before .before .before .before .before .before .before .before .before .before .before .pre .1) (c .before .before .before .before .before .before .walk-type-expr .ensures .same ∙ ap (over _ _) (c .before .before .before .before .before .before .before .before .before .before .before .before .before .walk-arg-decl-list .ensures .same) ∙ sym ((sigTwo _ (c .before .before .before .before .before .before .before .before .before .before .before .before .before .before .before .before .before .before .before .before .before .before .pre .0) (c .before .before .before .before .before .before .before .before .before .before .before .before .before .before .before .before .before .before .func-decl .ensures .second) (c .before .before .before .before .before .before .before .before .before .before .before .before .before .before .before .before .before .before .func-decl .ensures .third)) .inner)))
+put-back-requires c κs = (c .before .before .before .before .walk-type-expr .ensures .stands, inside-path _ (c .before .before .before .before .before .before .before .before .before .before .before .before .before .before .before .before .before .pre .0) (c .before .before .before .before .before .before .before .before .before .before .before .before .before .before .before .before .before .pre .1) (c .before .before .before .before .walk-type-expr .ensures .same ∙ ap (over _ _) (c .before .before .before .before .before .before .before .before .before .walk-arg-decl-list .ensures .same) ∙ sym ((sigTwo _ (c .before .before .before .before .before .before .before .before .before .before .before .before .before .before .before .before .before .pre .0) (c .before .before .before .before .before .before .before .before .before .before .before .before .before .before .func-decl .ensures .second) (c .before .before .before .before .before .before .before .before .before .before .before .before .before .before .func-decl .ensures .third)) .inner)))
 
 same-length : tie.Need-same-length
 same-length c = search needs
 
-same-length-2 : tie.Need-same-length-2
-same-length-2 c = search needs
-
 returns : tie.Need-returns
-returns c = put-ends _ _ _ (c .before .before .put-back .ensures) (c .before .before .before .before .before .before .before .before .before .walk-type-expr .ensures .same ∙ ap (over _ _) (c .before .before .before .before .before .before .before .before .before .before .before .before .before .before .before .before .walk-arg-decl-list .ensures .same) ∙ sym ((sigTwo _ (c .before .before .before .before .before .before .before .before .before .before .before .before .before .before .before .before .before .before .before .before .before .before .before .before .before .pre .0) (c .before .before .before .before .before .before .before .before .before .before .before .before .before .before .before .before .before .before .before .before .before .func-decl .ensures .second) (c .before .before .before .before .before .before .before .before .before .before .before .before .before .before .before .before .before .before .before .before .before .func-decl .ensures .third)) .inner))
+returns c = put-ends _ _ _ (c .put-back .ensures) (c .before .before .before .before .before .walk-type-expr .ensures .same ∙ ap (over _ _) (c .before .before .before .before .before .before .before .before .before .before .walk-arg-decl-list .ensures .same) ∙ sym ((sigTwo _ (c .before .before .before .before .before .before .before .before .before .before .before .before .before .before .before .before .before .before .pre .0) (c .before .before .before .before .before .before .before .before .before .before .before .before .before .before .before .func-decl .ensures .second) (c .before .before .before .before .before .before .before .before .before .before .before .before .before .before .before .func-decl .ensures .third)) .inner))
 
 pub visit-func-decl-spec : {M : Type 1} → statement M
 visit-func-decl-spec =
@@ -37,5 +34,4 @@ visit-func-decl-spec =
     walk-type-expr-requires
     put-back-requires
     same-length
-    same-length-2
     returns)

@@ -12,7 +12,7 @@ node-count-requires : tie.Need-node-count-requires
 node-count-requires c κs = search needs
 
 sub-last : tie.Need-sub-last
-sub-last c = let s = sized _ (c .before .before .before .before .pre .accepted) .some in omega arith
+sub-last c = let s = sized _ (c .before .before .before .pre .accepted) .some in omega arith
 
 new-scope-requires : tie.Need-new-scope-requires
 new-scope-requires c κs = search needs
@@ -28,17 +28,14 @@ slice-aggregate-walk-decls c = search needs
 
 walk-decls-requires : tie.Need-walk-decls-requires
 unfolding last
-walk-decls-requires c κs = let v = rootVisit _ (c .before .before .before .before .before .before .before .before .before .before .before .before .before .before .before .before .before .pre) (ap (λ (k : ℕ). k - 1) (c .before .before .before .before .before .before .before .before .before .before .before .before .before .node-count .ensures)) (c .before .before .before .before .before .before .before .before .before .before .before .new-scope .ensures) (c .before .before .before .before .before .before .before .insert-unordered .ensures) (c .before .before .before .before .«module» .ensures) in (v .list, v .opens)
+walk-decls-requires c κs = let v = rootVisit _ (c .before .before .before .before .before .before .before .before .before .before .before .before .before .before .before .before .pre) (ap (λ (k : ℕ). k - 1) (c .before .before .before .before .before .before .before .before .before .before .before .before .before .node-count .ensures)) (c .before .before .before .before .before .before .before .before .before .before .before .new-scope .ensures) (c .before .before .before .before .before .before .before .insert-unordered .ensures) (c .before .before .before .before .«module» .ensures) in (v .list, v .opens)
 
 same-length : tie.Need-same-length
 same-length c = search needs
 
-same-length-2 : tie.Need-same-length-2
-same-length-2 c = search needs
-
 returns : tie.Need-returns
 unfolding last
-returns c = (rootVisit _ (c .before .before .before .before .before .before .before .before .before .before .before .before .before .before .before .before .before .before .before .before .before .before .before .pre) (ap (λ (k : ℕ). k - 1) (c .before .before .before .before .before .before .before .before .before .before .before .before .before .before .before .before .before .before .before .node-count .ensures)) (c .before .before .before .before .before .before .before .before .before .before .before .before .before .before .before .before .before .new-scope .ensures) (c .before .before .before .before .before .before .before .before .before .before .before .before .before .insert-unordered .ensures) (c .before .before .before .before .before .before .before .before .before .before .«module» .ensures)) .visits (c .before .before .before .before .before .walk-decls .ensures) refl
+returns c = (rootVisit _ (c .before .before .before .before .before .before .before .before .before .before .before .before .before .before .before .before .before .before .before .before .pre) (ap (λ (k : ℕ). k - 1) (c .before .before .before .before .before .before .before .before .before .before .before .before .before .before .before .before .before .node-count .ensures)) (c .before .before .before .before .before .before .before .before .before .before .before .before .before .before .before .new-scope .ensures) (c .before .before .before .before .before .before .before .before .before .before .before .insert-unordered .ensures) (c .before .before .before .before .before .before .before .before .«module» .ensures)) .visits (c .before .before .before .walk-decls .ensures) refl
 
 pub walk-module-spec : {M : Type 1} → statement M
 walk-module-spec =
@@ -52,5 +49,4 @@ walk-module-spec =
     slice-aggregate-walk-decls
     walk-decls-requires
     same-length
-    same-length-2
     returns)
