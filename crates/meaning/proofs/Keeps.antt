@@ -32,25 +32,25 @@ module _ (img : List ℕ) where
   pub walks-rise : {ns : List ℕ} {e e′ : Walked} → Walks img ns e e′ → e .table .scopes ≤ e′ .table .scopes
   walks-rise v = (rises img Any Any v) .0
 
-  -- T keeps what t has: its lookups, and the entries and exits of the nodes ns
-  module _ (T : Table) where
+  -- T keeps what t has: its lookups; and, if Q, the entries and exits of the nodes ns, each of which then stands there once
+  module _ (T : Table) (Q : Type 0) where
     pub record Ends (ns : List ℕ) (t : Table) : Type 0 where
       pub few : Bounds img t
       pub small : Small ns
-      pub distinct : Distinct ns
       pub lookups : (s x : ℕ) → s < t .scopes → lookup img T s x ≡ lookup img t s x
-      pub entries : (m : ℕ) → In m ns → entryAt img (T .words) m ≡ entryAt img (t .words) m
-      pub exits : (m : ℕ) → In m ns → exitAt img (T .words) m ≡ exitAt img (t .words) m
+      pub distinct : Q → Distinct ns
+      pub entries : Q → (m : ℕ) → In m ns → entryAt img (T .words) m ≡ entryAt img (t .words) m
+      pub exits : Q → (m : ℕ) → In m ns → exitAt img (T .words) m ≡ exitAt img (t .words) m
 
     pub ends-after : (ns ms : List ℕ) (t : Table) → Ends (ns ++ ms) t → Ends ms t
     ends-after ns ms t k =
         record {
           few = k .few;
           small = λ n j. k .small n (in-right n ns ms j);
-          distinct = distinct-right ns ms (k .distinct);
           lookups = k .lookups;
-          entries = λ m j. k .entries m (in-right m ns ms j);
-          exits = λ m j. k .exits m (in-right m ns ms j);
+          distinct = λ q. distinct-right ns ms (k .distinct q);
+          entries = λ q m j. k .entries q m (in-right m ns ms j);
+          exits = λ q m j. k .exits q m (in-right m ns ms j);
         }
 
     -- of two walks, one after the other: what it keeps at the end, it keeps where the second starts
@@ -66,8 +66,8 @@ module _ (img : List ℕ) where
         record {
           few = (omega arith, omega arith);
           small = λ n j. k .small n (in-left n ns ms j);
-          distinct = distinct-left ns ms (k .distinct);
           lookups = λ s x l. k .lookups s x (omega arith) ∙ g .later .lookups s x l;
-          entries = λ m j. k .entries m (in-left m ns ms j) ∙ g .entries m (k .small m (in-left m ns ms j)) (distinct-apart ns ms (k .distinct) m j);
-          exits = λ m j. k .exits m (in-left m ns ms j) ∙ g .later .exits m (k .small m (in-left m ns ms j)) (distinct-apart ns ms (k .distinct) m j);
+          distinct = λ c. distinct-left ns ms (k .distinct c);
+          entries = λ c m j. k .entries c m (in-left m ns ms j) ∙ g .entries m (k .small m (in-left m ns ms j)) (distinct-apart ns ms (k .distinct c) m j);
+          exits = λ c m j. k .exits c m (in-left m ns ms j) ∙ g .later .exits m (k .small m (in-left m ns ms j)) (distinct-apart ns ms (k .distinct c) m j);
         }

@@ -25,13 +25,14 @@ rules-told img tab e accepted q r i =
     let f = framed img v (d .scopes≤, d .symbols≤) (d .small) (d .sane) (d .inside) in
     let m = walks-rise img v in
     let n = d .inside in
-    rule-told img (counted img (e .table)) (r .statements) (d .body) (w .0)
+    rule-told img (counted img (e .table)) (Unit {0}) (r .statements) (d .body) (w .0)
     (record { sane = d .sane; inside = d .inside; reads = λ x. k .lookups (w .0 .scope) x (omega arith) ∙ f .later .lookups (w .0 .scope) x (d .inside) ∙ w .2 x })
     (record {
       few = (d .scopes≤, d .symbols≤);
       small = d .small;
-      distinct = d .distinct;
       lookups = k .lookups;
-      entries = λ n j. k .entries n (d .small n j) j;
-      exits = λ n j. k .exits n (d .small n j) j;
+      distinct = λ q. d .distinct;
+      entries = λ q n j. k .entries n (d .small n j) j;
+      exits = λ q n j. k .exits n (d .small n j) j;
     })
+    tt

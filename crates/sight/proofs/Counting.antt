@@ -11,7 +11,8 @@ use Rattle.ast.specs.Image.{nodes, last}
 use Rattle.ast.specs.Kinds.{outer, inner, root, decl, signature, rule, enum, model, plain, term, ident, head, headMember, member, case, ifVar, definedThen, arg}
 use Rattle.ast.specs.Tests.{is, times, verdict}
 use Rattle.ast.specs.Tree.{Tree, node, block, Trees, none, _◂_, treeAt}
-use Rattle.ast.proofs.Count.{nodesOf, nodesAll, is-same, times-append, once, nothing-else}
+use Rattle.ast.proofs.Count.{nodesOf, nodesAll, is-same, is-other, times-append, once, nothing-else}
+use Rattle.ast.proofs.Small.{Small, Smalls}
 use Rattle.ordered.proofs.Moves.{numbers, numbersSeq}
 use Rattle.scopes.specs.Walk.{recorded, recordedAll}
 use Rattle.sight.specs.Listing.{Distinct}
@@ -92,6 +93,34 @@ module _ (v : ℕ) where
         let d = marked-once u in
         let e = markedAll-once us in
         omega arith
+
+-- the walk over small trees marks small numbers
+module _ (m v : ℕ) (l : m ≤ v) where
+  mutual
+    unfolding Small nodesOf times
+
+    small-times : (u : Tree) → Small m u → times v (nodesOf u) ≡ 0
+    small-times (node n k c sh ts) h = let a = h .0 in let b = is-other v n (omega arith) in let d = smalls-times ts (h .1) in omega arith
+    small-times (block ts) h = smalls-times ts h
+
+    smalls-times : (us : Trees) → Smalls m us → times v (nodesAll us) ≡ 0
+    smalls-times none h = omega arith
+    smalls-times (u ◂ us) h =
+        let a = times-append v (nodesOf u) (nodesAll us) in
+        let b = small-times u (h .0) in
+        let c = smalls-times us (h .1) in
+        omega arith
+
+pub numbers-small : (m : ℕ) (us : Trees) → Smalls m us → (v : ℕ) → In v (numbersSeq us) → v < m
+numbers-small m us h v i = go (decLt v m)
+  where
+    go : Dec (v < m) → v < m
+    go (yes l) = l
+    go (no f) =
+        let a = in-times v (numbersSeq us) i in
+        let b = numbersSeq-once v us in
+        let c = smalls-times m v (omega arith) us h in
+        absurd (omega arith)
 
 -- the nodes that the walks of rules mark
 unfoldable pub ruleNumbers : List Rule → List ℕ

@@ -11,6 +11,8 @@ use lib.Dec.{T, eqb, eqb→eq, T-not}
 use lib.ListN.{getD}
 use Rattle.ast.specs.Image.{nodes, last, kindAt, startAt, opAt}
 use Rattle.ast.specs.Kinds.{Class, outer, inner, Outer, root, decl, signature, rule, enum, model, plain, term, ident, head, headMember, member, case, ifVar, definedThen, arg, Field, name, optName, child, optChild, list, lists, cases, noChild, Kind, kinds, kindOf}
+use Rattle.ast.specs.Is.{Is}
+use Rattle.ast.specs.Named.{argDeclKind}
 use Rattle.ast.specs.Rows.{Kid, one, many, ones, numbers, opsFrom, after, blockKids, fieldKids, fieldsKids, fieldShape, fieldsShape, fieldsAt, kids, shape}
 use Rattle.ast.specs.Tests.{verdict}
 use Rattle.ast.specs.Tree.{Tree, node, Trees, none, _◂_, swap, swaps, ordered, growAll, grow, classAt, treeAt}
@@ -22,24 +24,6 @@ use Rattle.ast.proofs.Vars.{PlainVar, named, wildcard, Each, AfterFirst, PlainA
 use Rattle.ast.proofs.Bools.{is-false}
 use Rattle.sight.proofs.Steps.{IdentOnly, VarTerm, VarTerms, Idents, Body, Bodies, Members, Defines}
 use Rattle.sight.proofs.Lists.{NoVar, Decl, Decls}
-
--- what stands in a rule body: no declaration, no argument list, and an IdentTerm only where its parent looks for it
-bodyClass : Class → Bool
-bodyClass (outer o) = false
-bodyClass (inner plain) = true
-bodyClass (inner term) = true
-bodyClass (inner ident) = false
-bodyClass (inner head) = true
-bodyClass (inner headMember) = true
-bodyClass (inner member) = true
-bodyClass (inner case) = true
-bodyClass (inner ifVar) = true
-bodyClass (inner definedThen) = true
-bodyClass (inner arg) = false
-
-bodyKind : ℕ → Bool
-unfolding bodyClass
-bodyKind k = bodyClass ((kindOf k) .class) && not (eqb k 11)
 
 -- a test of every kind of child that a field names
 casesAll : (ℕ → Bool) → List ℕ → Bool
@@ -61,6 +45,34 @@ unfolding fieldAll
 fieldsAll g [] = true
 fieldsAll g (f ∷ fs) = fieldAll g f && fieldsAll g fs
 
+-- what stands in a rule body: no declaration, no argument list, and an IdentTerm only where its parent looks for it
+bodyClass : Class → Bool
+bodyClass (outer o) = false
+bodyClass (inner plain) = true
+bodyClass (inner term) = true
+bodyClass (inner ident) = false
+bodyClass (inner head) = true
+bodyClass (inner headMember) = true
+bodyClass (inner member) = true
+bodyClass (inner case) = true
+bodyClass (inner ifVar) = true
+bodyClass (inner definedThen) = true
+bodyClass (inner arg) = false
+
+-- no child is an ArgDecl
+argless : List Field → Bool
+unfolding fieldsAll
+argless fs = fieldsAll (λ k. not (eqb k argDeclKind)) fs
+
+-- a kind of node that stands there
+unfoldable pub inBody : Kind → Bool
+unfolding bodyClass argless
+inBody kd = bodyClass (kd .class) && argless (kd .fields)
+
+bodyKind : ℕ → Bool
+unfolding inBody
+bodyKind k = inBody (kindOf k)
+
 -- what the walk asks of a kind, by its class
 fitsClass : Class → ℕ → List Field → Bool
 unfolding fieldsAll bodyKind
@@ -70,7 +82,7 @@ fitsClass (outer signature) k fs = not (eqb k 13)
 fitsClass (outer rule) k fs = not (eqb k 13) && fieldsAll bodyKind fs
 fitsClass (outer enum) k fs = not (eqb k 13)
 fitsClass (outer model) k fs = not (eqb k 13)
-fitsClass (inner plain) k fs = eqb k 11 || fieldsAll bodyKind fs
+fitsClass (inner plain) k fs = not (argless fs) || fieldsAll bodyKind fs
 fitsClass (inner term) k fs = eqb k 12
 fitsClass (inner ident) k fs = true
 fitsClass (inner head) k fs = eqb k 15
@@ -318,12 +330,12 @@ module _ (img : List ℕ) (f : Formed img) (n : ℕ) (n<N : n < nodes img)
   abbrev built : Class → ℕ → ℕ → Tree
   built c k p = node n k c (fieldsShape img ((kindOf k) .fields) p) (ordered c (kin k p))
 
-  body-at : (c : Class) (k p : ℕ) → kindAt img n ≡ k → T (bodyClass c) → T (not (eqb k 11)) → T (fitsClass c k ((kindOf k) .fields))
+  body-at : (c : Class) (k p : ℕ) → kindAt img n ≡ k → T (bodyClass c) → T (argless ((kindOf k) .fields)) → T (fitsClass c k ((kindOf k) .fields))
       → FormedFields img n ((kindOf k) .fields) p → PlainAt (built c k p) → Body img (built c k p)
   unfolding bodyClass fitsClass ordered swaps PlainAt Body
   body-at (outer o) k p e b s t h v = absurd b
   body-at (inner plain) k p e b s t h v =
-      elim (or-split (eqb k 11) (fieldsAll bodyKind ((kindOf k) .fields)) t) [ inl z ↦ absurd (T-not (eqb k 11) s z) | inr z ↦ bodies-of ((kindOf k) .fields) p z h ]
+      elim (or-split (not (argless ((kindOf k) .fields))) (fieldsAll bodyKind ((kindOf k) .fields)) t) [ inl z ↦ absurd (T-not (argless ((kindOf k) .fields)) z s) | inr z ↦ bodies-of ((kindOf k) .fields) p z h ]
   body-at (inner term) k p e b s t h v = (e ∙ eqb→eq k 12 t, term-body k p (eqb→eq k 12 t) h)
   body-at (inner ident) k p e b s t h v = absurd b
   body-at (inner head) k p e b s t h v = head-body k k p (e ∙ eqb→eq k 15 t) (eqb→eq k 15 t) h
@@ -362,7 +374,7 @@ module _ (img : List ℕ) (e : verdict img ≡ 0) where
   bodies (suc m) n l h t =
       let f = formed img e in
       let k = kindAt img n in
-      let s = and-both (bodyClass ((kindOf k) .class)) (not (eqb k 11)) t in
+      let s = and-both (bodyClass ((kindOf k) .class)) (argless ((kindOf k) .fields)) t in
       subst (Body img) (sym (treeAt-is img f n h))
       (body-at img f n h (λ c q. bodies m c (omega arith) (omega arith)) ((kindOf k) .class) k (startAt img n + 2) refl (s .0) (s .1)
       (every-fits k (f .each n h .kind)) (f .each n h .row) (subst PlainAt (treeAt-is img f n h) (vars-at img e n h)))
@@ -424,3 +436,8 @@ module _ (img : List ℕ) (e : verdict img ≡ 0) where
         decls = decls-ordered (classAt img n) (grow (treeAt img) (kids img n))
             (decls-grow img (treeAt img) (kids img n) (All-map (λ c q. declared n c q (omega arith)) (kids-below img n (f .each n h))));
       }
+
+-- the tree of a node of such a kind
+pub body-of : {img : List ℕ} {kd : Kind} {n : ℕ} → Is img kd n → T (inBody kd) → Body img (treeAt img n)
+unfolding bodyKind
+body-of {img} {n = n} is b = bodies img (is .accepted) (suc n) n (omega arith) (is .below) (subst (λ (k : Kind). T (inBody k)) (sym (is .kind)) b)
