@@ -7,30 +7,19 @@ use Rattle.ast.specs.Image.{nodes, field, nameOf}
 use Rattle.ast.specs.Kinds.{Class, cases, kindOf}
 use Rattle.ast.specs.Is.{Is, kindBy}
 use Rattle.ast.proofs.Shapes.{child-is, case-child}
-use Rattle.table.specs.Table.{Table, lookup}
+use Rattle.table.specs.Table.{Table}
 use Rattle.table.specs.Values.{sought}
 use Rattle.environment.specs.Layout.{namesMost}
 use Rattle.environment.specs.Asked.{asked}
-use Rattle.environment.specs.Stands.{Tells, Noted}
+use Rattle.environment.specs.Stands.{Noted}
+use Rattle.environment.proofs.Noting.{noted-sought}
 use Rattle.environment.proofs.Asking.{asked-term, asked-head, asked-then, ident-below}
 use Rattle.bindings.specs.Promises.{Asks, Defines}
 
 module _ (img : List ℕ) where
-  -- lookup reads the words and the count of symbols alone
-  tells-sought : {t : Table} {v : ℕ} (s x : ℕ) → Tells img t v (lookup img t s x) → Tells img (sought (t .words) (t .symbols)) v (lookup img (sought (t .words) (t .symbols)) s x)
-  unfolding lookup
-  tells-sought s x h = record { row = h .row; is = h .is }
-
-  noted-sought : {t : Table} {env : List ℕ} → Noted img t env → Noted img (sought (t .words) (t .symbols)) env
-  noted-sought h = record {
-    outer = λ x l. tells-sought 0 x (h .outer x l);
-    entries = λ n x l q z. tells-sought _ x (h .entries n x l q z);
-    exits = λ n x l q z. tells-sought _ x (h .exits n x l q z);
-  }
-
   pub looked : {t : Table} {env : List ℕ} {n i : ℕ} → Noted img t env → Asks img n i
       → Noted img (sought (t .words) (t .symbols)) env × (n < nodes img) × (asked img n ≡ some (nameOf img i)) × (nameOf img i < namesMost)
-  looked h a = (noted-sought h, a .node, a .is, a .below)
+  looked h a = (noted-sought img h, a .node, a .is, a .below)
 
   -- the IdentTerm of a node of case Ident
   name-below : {cl : Class} {ks : List ℕ} {n i : ℕ} → Is img (kindBy cl (cases (13 ∷ ks) ∷ [])) n → 0 ≡ field img n 0 → i ≡ field img n 1 → nameOf img i < namesMost

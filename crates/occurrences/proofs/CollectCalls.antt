@@ -23,7 +23,7 @@ use Rattle.occurrences.specs.Spots.{Spot}
 use Rattle.occurrences.specs.Occurrences.{found, occurrenceRows, lone, rowsByRule, loneAnswer, once}
 use Rattle.occurrences.specs.Promises.{Whole, Nodes}
 use Rattle.occurrences.proofs.Few.{rows-few}
-use Rattle.occurrences.proofs.Fitting.{noted-sought}
+use Rattle.environment.proofs.Noting.{noted-sought}
 use Rattle.occurrences.proofs.CollectRules.{same-lists, same-all}
 
 module _ (img : List ℕ) (t : Table) where
@@ -41,7 +41,7 @@ module _ (img tab : List ℕ) (passes : testTable img tab ≡ 0) {d : Declared} 
   pub whole : {env : List ℕ} → NotedBy img d ws env → Whole img (sought ws (w .symbols)) env
   whole {env} n =
       let f = resolved-filled img tab passes r q in
-      record { accepted = f .accepted; noted = noted-sought img (tableOf w ws) (subst (λ (x : Declared). NotedBy img x ws env) q n); few = rows-few img (sought ws (w .symbols)) (f .accepted) }
+      record { accepted = f .accepted; noted = noted-sought img (subst (λ (x : Declared). NotedBy img x ws env) q n); few = rows-few img (sought ws (w .symbols)) (f .accepted) }
 
   pub symbols : Nodes img (sought ws (w .symbols))
   symbols = (resolved-filled img tab passes r q) .symbols

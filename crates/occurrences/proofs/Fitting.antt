@@ -1,4 +1,4 @@
--- Every number of the answers of Occurrences and Once fits 16 bits; and what the walk noted fits the table that the collectors read.
+-- Every number of the answers of Occurrences and Once fits 16 bits.
 use mathlib.Core.Path.{_≡_, refl}
 use mathlib.Core.List.{List}
 use mathlib.Core.Option.{Option, none as nothing, some}
@@ -7,9 +7,7 @@ use native.Mathlib.Omega.{arith}
 use Rattle.ast.specs.Answer.{Fits}
 use Rattle.ast.specs.Rules.{moduleRules}
 use Rattle.ast.proofs.Accepted.{sized}
-use Rattle.table.specs.Table.{Table, lookup}
-use Rattle.table.specs.Values.{sought}
-use Rattle.environment.specs.Stands.{Tells, Noted}
+use Rattle.table.specs.Table.{Table}
 use Rattle.rows.specs.Rows.{Row}
 use Rattle.scopes.specs.Resolve.{counted, tableCall}
 use Rattle.scopes.proofs.Calls.{rows-table}
@@ -37,17 +35,3 @@ unfolding once tableCall
 once-fits img tab =
     call-fits img tab (λ t. loneAnswer (lone (rowsByRule img t (moduleRules img)))) (table-low img tab) (λ p. p)
     (λ e q h. lone-fits img (counted img (e .table)) (counted-filled img tab q h) _ refl)
-
--- what was noted -------------------------------------------------------------------------------------------------------------
--- it does not need the count of scopes, which lookup does not read
-pub noted-sought : (img : List ℕ) (t : Table) {env : List ℕ} → Noted img t env → Noted img (sought (t .words) (t .symbols)) env
-unfolding lookup
-noted-sought img t h =
-    record {
-      outer = λ x l. tells (h .outer x l);
-      entries = λ n x l a e. tells (h .entries n x l a e);
-      exits = λ n x l a e. tells (h .exits n x l a e);
-    }
-  where
-    tells : {w : ℕ} {o : Option ℕ} → Tells img t w o → Tells img (sought (t .words) (t .symbols)) w o
-    tells k = record { row = k .row; is = k .is }

@@ -119,29 +119,29 @@ check-epic-app-head-app-head-member-requires t c κs = search needs
 
 check-epic-app-head-check-epic-term-requires :
     (t : ℕ) → check-epic-app-head-lts.Need-check-epic-term-requires (check-epic-app-head-claims t) (check-epic-app-head-at t) check-epic-app-head.Post
-check-epic-app-head-check-epic-term-requires t c κs = let s = app-head-is _ (c .before .before .before .before .before .before .before .before .before .before .before .pre .1 .is) (c .before .before .before .before .before .before .app-head .ensures) (c .before .before .before .before .id .given .1) in let o = head-receiver _ _ (c .before .before .before .before .before .before .before .before .before .before .before .pre .1 .is) (s .number) (s .child) (c .before .before .app-head-member .ensures .first) in (let l = o .low in omega arith, record { is = o .is; room = room-as (o .same) (c .before .before .before .before .before .before .before .before .before .before .before .pre .1 .room) })
+check-epic-app-head-check-epic-term-requires t c κs = let s = app-head-is _ (c .before .before .before .before .before .before .before .before .before .before .pre .1 .is) (c .before .before .before .before .before .before .app-head .ensures) (c .before .before .before .before .id .given .1) in let o = head-receiver _ _ (c .before .before .before .before .before .before .before .before .before .before .pre .1 .is) (s .number) (s .child) (c .before .before .app-head-member .ensures .first) in (let l = o .low in omega arith, record { is = o .is; room = room-as (o .same) (c .before .before .before .before .before .before .before .before .before .before .pre .1 .room) })
 
 check-epic-app-head-enum-known-term : (t : ℕ) → check-epic-app-head-lts.Need-enum-known-term (check-epic-app-head-claims t) (check-epic-app-head-at t) check-epic-app-head.Post
 check-epic-app-head-enum-known-term t c = search needs
 
 check-epic-app-head-check-epic-term-requires-2 :
     (t : ℕ) → check-epic-app-head-lts.Need-check-epic-term-requires-2 (check-epic-app-head-claims t) (check-epic-app-head-at t) check-epic-app-head.Post
-check-epic-app-head-check-epic-term-requires-2 t c κs = let s = app-head-is _ (c .before .before .before .before .before .before .before .before .before .pre .1 .is) (c .before .before .before .before .app-head .ensures) (c .before .before .term .given .1) in let o = head-term _ _ (c .before .before .before .before .before .before .before .before .before .pre .1 .is) (s .number) (s .child) in (let l = o .low in omega arith, record { is = o .is; room = room-as (o .same) (c .before .before .before .before .before .before .before .before .before .pre .1 .room) })
+check-epic-app-head-check-epic-term-requires-2 t c κs = let s = app-head-is _ (c .before .before .before .before .before .before .before .before .pre .1 .is) (c .before .before .before .before .app-head .ensures) (c .before .before .term .given .1) in let o = head-term _ _ (c .before .before .before .before .before .before .before .before .pre .1 .is) (s .number) (s .child) in (let l = o .low in omega arith, record { is = o .is; room = room-as (o .same) (c .before .before .before .before .before .before .before .before .pre .1 .room) })
 
 check-epic-app-head-returns : (t : ℕ) → check-epic-app-head-lts.Need-returns (check-epic-app-head-claims t) (check-epic-app-head-at t) check-epic-app-head.Post
-check-epic-app-head-returns t c = appended-no _ _ (head-none _ _ (c .before .before .before .before .before .before .before .pre .1 .is) ((app-head-is _ (c .before .before .before .before .before .before .before .pre .1 .is) (c .before .before .app-head .ensures) (c .enum-told .given .1)) .number))
+check-epic-app-head-returns t c = appended-no _ _ (head-none _ _ (c .before .before .before .before .before .before .pre .1 .is) ((app-head-is _ (c .before .before .before .before .before .before .pre .1 .is) (c .before .before .app-head .ensures) (c .enum-told .given .1)) .number))
 
 check-epic-app-head-same-length : (t : ℕ) → check-epic-app-head-lts.Need-same-length (check-epic-app-head-claims t) (check-epic-app-head-at t) check-epic-app-head.Post
 check-epic-app-head-same-length t c = search needs
 
 check-epic-app-head-returns-2 : (t : ℕ) → check-epic-app-head-lts.Need-returns-2 (check-epic-app-head-claims t) (check-epic-app-head-at t) check-epic-app-head.Post
-check-epic-app-head-returns-2 t c = let s = app-head-is _ (c .before .before .before .before .before .before .before .before .before .before .before .before .before .before .pre .1 .is) (c .before .before .before .before .before .before .before .before .before .app-head .ensures) (c .before .before .before .before .before .before .before .id .given .1) in let o = head-receiver _ _ (c .before .before .before .before .before .before .before .before .before .before .before .before .before .before .pre .1 .is) (s .number) (s .child) (c .before .before .before .before .before .app-head-member .ensures .first) in appended-as (sym (o .same)) (c .before .before .check-epic-term .ensures)
+check-epic-app-head-returns-2 t c = let s = app-head-is _ (c .before .before .before .before .before .before .before .before .before .before .before .before .before .pre .1 .is) (c .before .before .before .before .before .before .before .before .before .app-head .ensures) (c .before .before .before .before .before .before .before .id .given .1) in let o = head-receiver _ _ (c .before .before .before .before .before .before .before .before .before .before .before .before .before .pre .1 .is) (s .number) (s .child) (c .before .before .before .before .before .app-head-member .ensures .first) in appended-as (sym (o .same)) (c .before .before .check-epic-term .ensures)
 
 check-epic-app-head-same-length-2 : (t : ℕ) → check-epic-app-head-lts.Need-same-length-2 (check-epic-app-head-claims t) (check-epic-app-head-at t) check-epic-app-head.Post
 check-epic-app-head-same-length-2 t c = search needs
 
 check-epic-app-head-returns-3 : (t : ℕ) → check-epic-app-head-lts.Need-returns-3 (check-epic-app-head-claims t) (check-epic-app-head-at t) check-epic-app-head.Post
-check-epic-app-head-returns-3 t c = let s = app-head-is _ (c .before .before .before .before .before .before .before .before .before .before .before .before .pre .1 .is) (c .before .before .before .before .before .before .before .app-head .ensures) (c .before .before .before .before .before .term .given .1) in let o = head-term _ _ (c .before .before .before .before .before .before .before .before .before .before .before .before .pre .1 .is) (s .number) (s .child) in appended-as (sym (o .same)) (c .before .before .check-epic-term2 .ensures)
+check-epic-app-head-returns-3 t c = let s = app-head-is _ (c .before .before .before .before .before .before .before .before .before .before .before .pre .1 .is) (c .before .before .before .before .before .before .before .app-head .ensures) (c .before .before .before .before .before .term .given .1) in let o = head-term _ _ (c .before .before .before .before .before .before .before .before .before .before .before .pre .1 .is) (s .number) (s .child) in appended-as (sym (o .same)) (c .before .before .check-epic-term2 .ensures)
 
 check-epic-term-term-requires : (t : ℕ) → check-epic-term-lts.Need-term-requires (check-epic-term-claims t) (check-epic-term-at t) check-epic-term.Post
 check-epic-term-term-requires t c κs = search needs
@@ -151,7 +151,7 @@ check-epic-term-enum-known-id t c = search needs
 
 check-epic-term-check-epic-ident-requires :
     (t : ℕ) → check-epic-term-lts.Need-check-epic-ident-requires (check-epic-term-claims t) (check-epic-term-at t) check-epic-term.Post
-check-epic-term-check-epic-ident-requires t c κs = let s = term-is _ (c .before .before .before .before .before .before .before .before .before .pre .1 .is) (c .before .before .before .before .term .ensures) (c .before .before .id .given .1) in (room-as (epic-ident _ _ (c .before .before .before .before .before .before .before .before .before .pre .1 .is) (s .number) (s .child)) (c .before .before .before .before .before .before .before .before .before .pre .1 .room), term-asks _ (c .before .before .before .before .before .before .before .before .before .pre .1 .is) (s .number) (s .child))
+check-epic-term-check-epic-ident-requires t c κs = let s = term-is _ (c .before .before .before .before .before .before .before .before .pre .1 .is) (c .before .before .before .before .term .ensures) (c .before .before .id .given .1) in (room-as (epic-ident _ _ (c .before .before .before .before .before .before .before .before .pre .1 .is) (s .number) (s .child)) (c .before .before .before .before .before .before .before .before .pre .1 .room), term-asks _ (c .before .before .before .before .before .before .before .before .pre .1 .is) (s .number) (s .child))
 
 check-epic-term-enum-known-id-2 : (t : ℕ) → check-epic-term-lts.Need-enum-known-id-2 (check-epic-term-claims t) (check-epic-term-at t) check-epic-term.Post
 check-epic-term-enum-known-id-2 t c = search needs
@@ -161,7 +161,7 @@ check-epic-term-term-member-requires t c κs = search needs
 
 check-epic-term-check-epic-term-requires :
     (t : ℕ) → check-epic-term-lts.Need-check-epic-term-requires (check-epic-term-claims t) (check-epic-term-at t) check-epic-term.Post
-check-epic-term-check-epic-term-requires t c κs = let s = term-is _ (c .before .before .before .before .before .before .before .before .before .before .before .pre .1 .is) (c .before .before .before .before .before .before .term .ensures) (c .before .before .before .before .id2 .given .1) in let o = epic-member _ _ (c .before .before .before .before .before .before .before .before .before .before .before .pre .1 .is) (s .number) (s .child) (c .before .before .term-member .ensures .first) in (let l = o .low in omega arith, record { is = o .is; room = room-as (o .same) (c .before .before .before .before .before .before .before .before .before .before .before .pre .1 .room) })
+check-epic-term-check-epic-term-requires t c κs = let s = term-is _ (c .before .before .before .before .before .before .before .before .before .before .pre .1 .is) (c .before .before .before .before .before .before .term .ensures) (c .before .before .before .before .id2 .given .1) in let o = epic-member _ _ (c .before .before .before .before .before .before .before .before .before .before .pre .1 .is) (s .number) (s .child) (c .before .before .term-member .ensures .first) in (let l = o .low in omega arith, record { is = o .is; room = room-as (o .same) (c .before .before .before .before .before .before .before .before .before .before .pre .1 .room) })
 
 check-epic-term-enum-told : (t : ℕ) → check-epic-term-lts.Need-enum-told (check-epic-term-claims t) (check-epic-term-at t) check-epic-term.Post
 check-epic-term-enum-told t c = search needs
@@ -174,11 +174,11 @@ check-epic-term-app-term-requires t c κs = search needs
 
 check-epic-term-check-epic-app-head-requires :
     (t : ℕ) → check-epic-term-lts.Need-check-epic-app-head-requires (check-epic-term-claims t) (check-epic-term-at t) check-epic-term.Post
-check-epic-term-check-epic-app-head-requires t c κs = let s = term-is _ (c .before .before .before .before .before .before .before .before .before .before .before .before .pre .1 .is) (c .before .before .before .before .before .before .before .term .ensures) (c .before .before .before .before .before .id3 .given .1) in let o = app-down _ _ (epic-app _ _ (c .before .before .before .before .before .before .before .before .before .before .before .before .pre .1 .is) (s .number) (s .child)) (c .before .before .before .app-term .ensures) in (let l = o .low in omega arith, record { is = o .is; room = room-first _ (o .same) (c .before .before .before .before .before .before .before .before .before .before .before .before .pre .1 .room) })
+check-epic-term-check-epic-app-head-requires t c κs = let s = term-is _ (c .before .before .before .before .before .before .before .before .before .before .before .pre .1 .is) (c .before .before .before .before .before .before .before .term .ensures) (c .before .before .before .before .before .id3 .given .1) in let o = app-down _ _ (epic-app _ _ (c .before .before .before .before .before .before .before .before .before .before .before .pre .1 .is) (s .number) (s .child)) (c .before .before .before .app-term .ensures) in (let l = o .low in omega arith, record { is = o .is; room = room-first _ (o .same) (c .before .before .before .before .before .before .before .before .before .before .before .pre .1 .room) })
 
 check-epic-term-check-epic-terms-requires :
     (t : ℕ) → check-epic-term-lts.Need-check-epic-terms-requires (check-epic-term-claims t) (check-epic-term-at t) check-epic-term.Post
-check-epic-term-check-epic-terms-requires t c κs = let s = term-is _ (c .before .before .before .before .before .before .before .before .before .before .before .before .before .before .before .before .pre .1 .is) (c .before .before .before .before .before .before .before .before .before .before .before .term .ensures) (c .before .before .before .before .before .before .before .before .before .id3 .given .1) in let o = app-down _ _ (epic-app _ _ (c .before .before .before .before .before .before .before .before .before .before .before .before .before .before .before .before .pre .1 .is) (s .number) (s .child)) (c .before .before .before .before .before .before .before .app-term .ensures) in (let l = o .low2 in omega arith, record { is = o .is2; room = room-rest (o .same) (c .before .before .before .before .before .before .before .before .before .before .before .before .before .before .before .before .pre .1 .room) (c .before .before .before .check-epic-app-head .ensures) })
+check-epic-term-check-epic-terms-requires t c κs = let s = term-is _ (c .before .before .before .before .before .before .before .before .before .before .before .before .before .before .before .pre .1 .is) (c .before .before .before .before .before .before .before .before .before .before .before .term .ensures) (c .before .before .before .before .before .before .before .before .before .id3 .given .1) in let o = app-down _ _ (epic-app _ _ (c .before .before .before .before .before .before .before .before .before .before .before .before .before .before .before .pre .1 .is) (s .number) (s .child)) (c .before .before .before .before .before .before .before .app-term .ensures) in (let l = o .low2 in omega arith, record { is = o .is2; room = room-rest (o .same) (c .before .before .before .before .before .before .before .before .before .before .before .before .before .before .before .pre .1 .room) (c .before .before .before .check-epic-app-head .ensures) })
 
 check-epic-term-enum-known-id-4 : (t : ℕ) → check-epic-term-lts.Need-enum-known-id-4 (check-epic-term-claims t) (check-epic-term-at t) check-epic-term.Post
 check-epic-term-enum-known-id-4 t c = search needs
@@ -188,7 +188,7 @@ check-epic-term-id-term-requires t c κs = search needs
 
 check-epic-term-check-epic-term-requires-2 :
     (t : ℕ) → check-epic-term-lts.Need-check-epic-term-requires-2 (check-epic-term-claims t) (check-epic-term-at t) check-epic-term.Post
-check-epic-term-check-epic-term-requires-2 t c κs = let s = term-is _ (c .before .before .before .before .before .before .before .before .before .before .before .pre .1 .is) (c .before .before .before .before .before .before .term .ensures) (c .before .before .before .before .id4 .given .1) in let o = epic-id _ _ (c .before .before .before .before .before .before .before .before .before .before .before .pre .1 .is) (s .number) (s .child) (c .before .before .id-term .ensures) in (let l = o .low in omega arith, record { is = o .is; room = room-as (o .same) (c .before .before .before .before .before .before .before .before .before .before .before .pre .1 .room) })
+check-epic-term-check-epic-term-requires-2 t c κs = let s = term-is _ (c .before .before .before .before .before .before .before .before .before .before .pre .1 .is) (c .before .before .before .before .before .before .term .ensures) (c .before .before .before .before .id4 .given .1) in let o = epic-id _ _ (c .before .before .before .before .before .before .before .before .before .before .pre .1 .is) (s .number) (s .child) (c .before .before .id-term .ensures) in (let l = o .low in omega arith, record { is = o .is; room = room-as (o .same) (c .before .before .before .before .before .before .before .before .before .before .pre .1 .room) })
 
 check-epic-term-enum-known-id-5 : (t : ℕ) → check-epic-term-lts.Need-enum-known-id-5 (check-epic-term-claims t) (check-epic-term-at t) check-epic-term.Post
 check-epic-term-enum-known-id-5 t c = search needs
@@ -198,47 +198,47 @@ check-epic-term-comp-term-requires t c κs = search needs
 
 check-epic-term-check-epic-term-requires-3 :
     (t : ℕ) → check-epic-term-lts.Need-check-epic-term-requires-3 (check-epic-term-claims t) (check-epic-term-at t) check-epic-term.Post
-check-epic-term-check-epic-term-requires-3 t c κs = let s = term-is _ (c .before .before .before .before .before .before .before .before .before .before .before .before .pre .1 .is) (c .before .before .before .before .before .before .before .term .ensures) (c .before .before .before .before .before .id5 .given .1) in let o = two-down _ _ (epic-comp _ _ (c .before .before .before .before .before .before .before .before .before .before .before .before .pre .1 .is) (s .number) (s .child)) (c .before .before .before .comp-term .ensures) in (let l = o .low in omega arith, record { is = o .is; room = room-first _ (o .same) (c .before .before .before .before .before .before .before .before .before .before .before .before .pre .1 .room) })
+check-epic-term-check-epic-term-requires-3 t c κs = let s = term-is _ (c .before .before .before .before .before .before .before .before .before .before .before .pre .1 .is) (c .before .before .before .before .before .before .before .term .ensures) (c .before .before .before .before .before .id5 .given .1) in let o = two-down _ _ (epic-comp _ _ (c .before .before .before .before .before .before .before .before .before .before .before .pre .1 .is) (s .number) (s .child)) (c .before .before .before .comp-term .ensures) in (let l = o .low in omega arith, record { is = o .is; room = room-first _ (o .same) (c .before .before .before .before .before .before .before .before .before .before .before .pre .1 .room) })
 
 check-epic-term-check-epic-term-requires-4 :
     (t : ℕ) → check-epic-term-lts.Need-check-epic-term-requires-4 (check-epic-term-claims t) (check-epic-term-at t) check-epic-term.Post
-check-epic-term-check-epic-term-requires-4 t c κs = let s = term-is _ (c .before .before .before .before .before .before .before .before .before .before .before .before .before .before .before .before .pre .1 .is) (c .before .before .before .before .before .before .before .before .before .before .before .term .ensures) (c .before .before .before .before .before .before .before .before .before .id5 .given .1) in let o = two-down _ _ (epic-comp _ _ (c .before .before .before .before .before .before .before .before .before .before .before .before .before .before .before .before .pre .1 .is) (s .number) (s .child)) (c .before .before .before .before .before .before .before .comp-term .ensures) in (let l = o .low2 in omega arith, record { is = o .is2; room = room-rest (o .same) (c .before .before .before .before .before .before .before .before .before .before .before .before .before .before .before .before .pre .1 .room) (c .before .before .before .check-epic-term3 .ensures) })
+check-epic-term-check-epic-term-requires-4 t c κs = let s = term-is _ (c .before .before .before .before .before .before .before .before .before .before .before .before .before .before .before .pre .1 .is) (c .before .before .before .before .before .before .before .before .before .before .before .term .ensures) (c .before .before .before .before .before .before .before .before .before .id5 .given .1) in let o = two-down _ _ (epic-comp _ _ (c .before .before .before .before .before .before .before .before .before .before .before .before .before .before .before .pre .1 .is) (s .number) (s .child)) (c .before .before .before .before .before .before .before .comp-term .ensures) in (let l = o .low2 in omega arith, record { is = o .is2; room = room-rest (o .same) (c .before .before .before .before .before .before .before .before .before .before .before .before .before .before .before .pre .1 .room) (c .before .before .before .check-epic-term3 .ensures) })
 
 check-epic-term-same-length : (t : ℕ) → check-epic-term-lts.Need-same-length (check-epic-term-claims t) (check-epic-term-at t) check-epic-term.Post
 check-epic-term-same-length t c = search needs
 
 check-epic-term-returns : (t : ℕ) → check-epic-term-lts.Need-returns (check-epic-term-claims t) (check-epic-term-at t) check-epic-term.Post
-check-epic-term-returns t c = let s = term-is _ (c .before .before .before .before .before .before .before .before .before .before .before .before .pre .1 .is) (c .before .before .before .before .before .before .before .term .ensures) (c .before .before .before .before .before .id .given .1) in appended-as (sym (epic-ident _ _ (c .before .before .before .before .before .before .before .before .before .before .before .before .pre .1 .is) (s .number) (s .child))) (c .before .before .check-epic-ident .ensures)
+check-epic-term-returns t c = let s = term-is _ (c .before .before .before .before .before .before .before .before .before .before .before .pre .1 .is) (c .before .before .before .before .before .before .before .term .ensures) (c .before .before .before .before .before .id .given .1) in appended-as (sym (epic-ident _ _ (c .before .before .before .before .before .before .before .before .before .before .before .pre .1 .is) (s .number) (s .child))) (c .before .before .check-epic-ident .ensures)
 
 check-epic-term-same-length-2 : (t : ℕ) → check-epic-term-lts.Need-same-length-2 (check-epic-term-claims t) (check-epic-term-at t) check-epic-term.Post
 check-epic-term-same-length-2 t c = search needs
 
 check-epic-term-returns-2 : (t : ℕ) → check-epic-term-lts.Need-returns-2 (check-epic-term-claims t) (check-epic-term-at t) check-epic-term.Post
-check-epic-term-returns-2 t c = let s = term-is _ (c .before .before .before .before .before .before .before .before .before .before .before .before .before .before .pre .1 .is) (c .before .before .before .before .before .before .before .before .before .term .ensures) (c .before .before .before .before .before .before .before .id2 .given .1) in let o = epic-member _ _ (c .before .before .before .before .before .before .before .before .before .before .before .before .before .before .pre .1 .is) (s .number) (s .child) (c .before .before .before .before .before .term-member .ensures .first) in appended-as (sym (o .same)) (c .before .before .check-epic-term .ensures)
+check-epic-term-returns-2 t c = let s = term-is _ (c .before .before .before .before .before .before .before .before .before .before .before .before .before .pre .1 .is) (c .before .before .before .before .before .before .before .before .before .term .ensures) (c .before .before .before .before .before .before .before .id2 .given .1) in let o = epic-member _ _ (c .before .before .before .before .before .before .before .before .before .before .before .before .before .pre .1 .is) (s .number) (s .child) (c .before .before .before .before .before .term-member .ensures .first) in appended-as (sym (o .same)) (c .before .before .check-epic-term .ensures)
 
 check-epic-term-returns-3 : (t : ℕ) → check-epic-term-lts.Need-returns-3 (check-epic-term-claims t) (check-epic-term-at t) check-epic-term.Post
-check-epic-term-returns-3 t c = appended-no _ _ (epic-wild _ _ (c .before .before .before .before .before .before .before .pre .1 .is) (term-is _ (c .before .before .before .before .before .before .before .pre .1 .is) (c .before .before .term .ensures) (c .enum-told .given .1)))
+check-epic-term-returns-3 t c = appended-no _ _ (epic-wild _ _ (c .before .before .before .before .before .before .pre .1 .is) (term-is _ (c .before .before .before .before .before .before .pre .1 .is) (c .before .before .term .ensures) (c .enum-told .given .1)))
 
 check-epic-term-same-length-3 : (t : ℕ) → check-epic-term-lts.Need-same-length-3 (check-epic-term-claims t) (check-epic-term-at t) check-epic-term.Post
 check-epic-term-same-length-3 t c = search needs
 
 check-epic-term-returns-4 : (t : ℕ) → check-epic-term-lts.Need-returns-4 (check-epic-term-claims t) (check-epic-term-at t) check-epic-term.Post
-check-epic-term-returns-4 t c = let s = term-is _ (c .before .before .before .before .before .before .before .before .before .before .before .before .before .before .before .before .before .before .before .pre .1 .is) (c .before .before .before .before .before .before .before .before .before .before .before .before .before .before .term .ensures) (c .before .before .before .before .before .before .before .before .before .before .before .before .id3 .given .1) in let o = app-down _ _ (epic-app _ _ (c .before .before .before .before .before .before .before .before .before .before .before .before .before .before .before .before .before .before .before .pre .1 .is) (s .number) (s .child)) (c .before .before .before .before .before .before .before .before .before .before .app-term .ensures) in appended-as (sym (o .same)) (appended-next (c .before .before .before .before .before .before .check-epic-app-head .ensures) (c .before .before .check-epic-terms .ensures))
+check-epic-term-returns-4 t c = let s = term-is _ (c .before .before .before .before .before .before .before .before .before .before .before .before .before .before .before .before .before .before .pre .1 .is) (c .before .before .before .before .before .before .before .before .before .before .before .before .before .before .term .ensures) (c .before .before .before .before .before .before .before .before .before .before .before .before .id3 .given .1) in let o = app-down _ _ (epic-app _ _ (c .before .before .before .before .before .before .before .before .before .before .before .before .before .before .before .before .before .before .pre .1 .is) (s .number) (s .child)) (c .before .before .before .before .before .before .before .before .before .before .app-term .ensures) in appended-as (sym (o .same)) (appended-next (c .before .before .before .before .before .before .check-epic-app-head .ensures) (c .before .before .check-epic-terms .ensures))
 
 check-epic-term-returns-5 : (t : ℕ) → check-epic-term-lts.Need-returns-5 (check-epic-term-claims t) (check-epic-term-at t) check-epic-term.Post
-check-epic-term-returns-5 t c = appended-no _ _ (epic-below _ _ (c .before .before .before .before .before .before .pre .1 .is) (dom-or-cod _ (c .before .before .before .before .before .before .pre .1 .is) (c .before .term .ensures) (c .match .keys5)))
+check-epic-term-returns-5 t c = appended-no _ _ (epic-below _ _ (c .before .before .before .before .before .pre .1 .is) (dom-or-cod _ (c .before .before .before .before .before .pre .1 .is) (c .before .term .ensures) (c .match .keys5)))
 
 check-epic-term-same-length-4 : (t : ℕ) → check-epic-term-lts.Need-same-length-4 (check-epic-term-claims t) (check-epic-term-at t) check-epic-term.Post
 check-epic-term-same-length-4 t c = search needs
 
 check-epic-term-returns-6 : (t : ℕ) → check-epic-term-lts.Need-returns-6 (check-epic-term-claims t) (check-epic-term-at t) check-epic-term.Post
-check-epic-term-returns-6 t c = let s = term-is _ (c .before .before .before .before .before .before .before .before .before .before .before .before .before .before .pre .1 .is) (c .before .before .before .before .before .before .before .before .before .term .ensures) (c .before .before .before .before .before .before .before .id4 .given .1) in let o = epic-id _ _ (c .before .before .before .before .before .before .before .before .before .before .before .before .before .before .pre .1 .is) (s .number) (s .child) (c .before .before .before .before .before .id-term .ensures) in appended-as (sym (o .same)) (c .before .before .check-epic-term2 .ensures)
+check-epic-term-returns-6 t c = let s = term-is _ (c .before .before .before .before .before .before .before .before .before .before .before .before .before .pre .1 .is) (c .before .before .before .before .before .before .before .before .before .term .ensures) (c .before .before .before .before .before .before .before .id4 .given .1) in let o = epic-id _ _ (c .before .before .before .before .before .before .before .before .before .before .before .before .before .pre .1 .is) (s .number) (s .child) (c .before .before .before .before .before .id-term .ensures) in appended-as (sym (o .same)) (c .before .before .check-epic-term2 .ensures)
 
 check-epic-term-same-length-5 : (t : ℕ) → check-epic-term-lts.Need-same-length-5 (check-epic-term-claims t) (check-epic-term-at t) check-epic-term.Post
 check-epic-term-same-length-5 t c = search needs
 
 check-epic-term-returns-7 : (t : ℕ) → check-epic-term-lts.Need-returns-7 (check-epic-term-claims t) (check-epic-term-at t) check-epic-term.Post
-check-epic-term-returns-7 t c = let s = term-is _ (c .before .before .before .before .before .before .before .before .before .before .before .before .before .before .before .before .before .before .before .pre .1 .is) (c .before .before .before .before .before .before .before .before .before .before .before .before .before .before .term .ensures) (c .before .before .before .before .before .before .before .before .before .before .before .before .id5 .given .1) in let o = two-down _ _ (epic-comp _ _ (c .before .before .before .before .before .before .before .before .before .before .before .before .before .before .before .before .before .before .before .pre .1 .is) (s .number) (s .child)) (c .before .before .before .before .before .before .before .before .before .before .comp-term .ensures) in appended-as (sym (o .same)) (appended-next (c .before .before .before .before .before .before .check-epic-term3 .ensures) (c .before .before .check-epic-term4 .ensures))
+check-epic-term-returns-7 t c = let s = term-is _ (c .before .before .before .before .before .before .before .before .before .before .before .before .before .before .before .before .before .before .pre .1 .is) (c .before .before .before .before .before .before .before .before .before .before .before .before .before .before .term .ensures) (c .before .before .before .before .before .before .before .before .before .before .before .before .id5 .given .1) in let o = two-down _ _ (epic-comp _ _ (c .before .before .before .before .before .before .before .before .before .before .before .before .before .before .before .before .before .before .pre .1 .is) (s .number) (s .child)) (c .before .before .before .before .before .before .before .before .before .before .comp-term .ensures) in appended-as (sym (o .same)) (appended-next (c .before .before .before .before .before .before .check-epic-term3 .ensures) (c .before .before .check-epic-term4 .ensures))
 
 abbrev check-epic-terms-Inv-loop : check-epic-terms-lts.InvT-loop
 check-epic-terms-Inv-loop image table w env rows₀ written terms i₀ after₀ rows i after = (i ≤ terms .0 .count) × Left (nodes image) (listed image (tableOf w table) true (terms .0 .node .0) (terms .0 .count) (terms .0 .first)) (listed image (tableOf w table) true (terms .0 .node .0) (terms .0 .count - i) (terms .0 .first + i)) written rows₀ after rows
@@ -250,10 +250,10 @@ check-epic-terms-term-list-requires : (t : ℕ) → check-epic-terms-lts.Need-te
 check-epic-terms-term-list-requires t c κs = search needs
 
 check-epic-terms-loop-holds : (t : ℕ) → check-epic-terms-lts.Need-loop-holds (check-epic-terms-claims t) (check-epic-terms-at t) check-epic-terms.Post check-epic-terms-Inv-loop check-epic-terms-μ-loop
-check-epic-terms-loop-holds t c = let o = terms-list _ (tableOf (c .before .before .before .before .before .before .args .w) (c .before .before .before .before .before .before .args .table .now)) (c .before .before .before .before .before .before .pre .1 .is) (c .before .term-list .ensures) in (omega arith, left-start _ _ (listed-start _ _ _ _ _ _) (fits-as _ (o .same) (c .before .before .before .before .before .before .pre .1 .room .fits)))
+check-epic-terms-loop-holds t c = let o = terms-list _ (tableOf (c .before .before .before .before .before .args .w) (c .before .before .before .before .before .args .table .now)) (c .before .before .before .before .before .pre .1 .is) (c .before .term-list .ensures) in (omega arith, left-start _ _ (listed-start _ _ _ _ _ _) (fits-as _ (o .same) (c .before .before .before .before .before .pre .1 .room .fits)))
 
 check-epic-terms-nth-term-requires : (t : ℕ) → check-epic-terms-lts.Need-nth-term-requires (check-epic-terms-claims t) (check-epic-terms-at t) check-epic-terms.Post check-epic-terms-Inv-loop check-epic-terms-μ-loop
-check-epic-terms-nth-term-requires t c κs = let o = terms-list _ (tableOf (c .before .before .before .before .before .before .before .before .before .args .w) (c .before .before .before .before .before .before .before .before .before .args .table .now)) (c .before .before .before .before .before .before .before .before .before .pre .1 .is) (c .before .before .before .before .term-list .ensures) in let s = o .run .short in omega arith
+check-epic-terms-nth-term-requires t c κs = let o = terms-list _ (tableOf (c .before .before .before .before .before .before .before .before .args .w) (c .before .before .before .before .before .before .before .before .args .table .now)) (c .before .before .before .before .before .before .before .before .pre .1 .is) (c .before .before .before .before .term-list .ensures) in let s = o .run .short in omega arith
 
 check-epic-terms-check-epic-term-requires :
     (t : ℕ) → check-epic-terms-lts.Need-check-epic-term-requires (check-epic-terms-claims t)
@@ -261,7 +261,7 @@ check-epic-terms-check-epic-term-requires :
     check-epic-terms.Post
     check-epic-terms-Inv-loop
     check-epic-terms-μ-loop
-check-epic-terms-check-epic-term-requires t c κs = let o = terms-list _ (tableOf (c .before .before .before .before .before .before .before .before .before .before .before .args .w) (c .before .before .before .before .before .before .before .before .before .before .before .args .table .now)) (c .before .before .before .before .before .before .before .before .before .before .before .pre .1 .is) (c .before .before .before .before .before .before .term-list .ensures) in let q = terms-item _ _ (c .before .before .before .before .loop .i) (o .run) (omega arith) (c .before .nth-term .ensures) in (let l = q .low in let k = o .low in omega arith, record { is = q .is; room = room-left _ (c .before .before .before .before .before .before .before .before .before .before .before .pre .1 .room .noted) (c .before .before .before .before .loop .inv .1) (q .same) })
+check-epic-terms-check-epic-term-requires t c κs = let o = terms-list _ (tableOf (c .before .before .before .before .before .before .before .before .before .before .args .w) (c .before .before .before .before .before .before .before .before .before .before .args .table .now)) (c .before .before .before .before .before .before .before .before .before .before .pre .1 .is) (c .before .before .before .before .before .before .term-list .ensures) in let q = terms-item _ _ (c .before .before .before .before .loop .i) (o .run) (omega arith) (c .before .nth-term .ensures) in (let l = q .low in let k = o .low in omega arith, record { is = q .is; room = room-left _ (c .before .before .before .before .before .before .before .before .before .before .pre .1 .room .noted) (c .before .before .before .before .loop .inv .1) (q .same) })
 
 check-epic-terms-add-i : (t : ℕ) → check-epic-terms-lts.Need-add-i (check-epic-terms-claims t) (check-epic-terms-at t) check-epic-terms.Post check-epic-terms-Inv-loop check-epic-terms-μ-loop
 check-epic-terms-add-i t c = search needs
@@ -270,13 +270,13 @@ check-epic-terms-loop-less : (t : ℕ) → check-epic-terms-lts.Need-loop-less (
 check-epic-terms-loop-less t c = search needs
 
 check-epic-terms-loop-again : (t : ℕ) → check-epic-terms-lts.Need-loop-again (check-epic-terms-claims t) (check-epic-terms-at t) check-epic-terms.Post check-epic-terms-Inv-loop check-epic-terms-μ-loop
-check-epic-terms-loop-again t c = let o = terms-list _ (tableOf (c .before .before .before .before .before .before .before .before .before .before .before .before .before .before .args .w) (c .before .before .before .before .before .before .before .before .before .before .before .before .before .before .args .table .now)) (c .before .before .before .before .before .before .before .before .before .before .before .before .before .before .pre .1 .is) (c .before .before .before .before .before .before .before .before .before .term-list .ensures) in (omega arith, left-next (c .before .before .before .before .before .before .before .loop .inv .1) ((terms-item _ _ (c .before .before .before .before .before .before .before .loop .i) (o .run) (omega arith) (c .before .before .before .before .nth-term .ensures)) .same) (c .before .before .check-epic-term .ensures) (c .before .before .check-epic-term .kept .1 .1 .1 .1 .0))
+check-epic-terms-loop-again t c = let o = terms-list _ (tableOf (c .before .before .before .before .before .before .before .before .before .before .before .before .before .args .w) (c .before .before .before .before .before .before .before .before .before .before .before .before .before .args .table .now)) (c .before .before .before .before .before .before .before .before .before .before .before .before .before .pre .1 .is) (c .before .before .before .before .before .before .before .before .before .term-list .ensures) in (omega arith, left-next (c .before .before .before .before .before .before .before .loop .inv .1) ((terms-item _ _ (c .before .before .before .before .before .before .before .loop .i) (o .run) (omega arith) (c .before .before .before .before .nth-term .ensures)) .same) (c .before .before .check-epic-term .ensures) (c .before .before .check-epic-term .kept .1 .1 .1 .1 .0))
 
 check-epic-terms-same-length : (t : ℕ) → check-epic-terms-lts.Need-same-length (check-epic-terms-claims t) (check-epic-terms-at t) check-epic-terms.Post check-epic-terms-Inv-loop check-epic-terms-μ-loop
 check-epic-terms-same-length t c = c .before .before .loop .inv .1 .long
 
 check-epic-terms-returns : (t : ℕ) → check-epic-terms-lts.Need-returns (check-epic-terms-claims t) (check-epic-terms-at t) check-epic-terms.Post check-epic-terms-Inv-loop check-epic-terms-μ-loop
-check-epic-terms-returns t c = let o = terms-list _ (tableOf (c .before .before .before .before .before .before .before .before .before .args .w) (c .before .before .before .before .before .before .before .before .before .args .table .now)) (c .before .before .before .before .before .before .before .before .before .pre .1 .is) (c .before .before .before .before .term-list .ensures) in appended-as (sym (o .same)) (left-end (c .before .before .loop .inv .1) (listed-end _ _ true _ _ _ (c .before .before .loop .i) (omega arith)))
+check-epic-terms-returns t c = let o = terms-list _ (tableOf (c .before .before .before .before .before .before .before .before .args .w) (c .before .before .before .before .before .before .before .before .args .table .now)) (c .before .before .before .before .before .before .before .before .pre .1 .is) (c .before .before .before .before .term-list .ensures) in appended-as (sym (o .same)) (left-end (c .before .before .loop .inv .1) (listed-end _ _ true _ _ _ (c .before .before .loop .i) (omega arith)))
 
 pub +check-epic-app-head+check-epic-term+check-epic-terms-spec : {M : Type 1} → statement M
 +check-epic-app-head+check-epic-term+check-epic-terms-spec =

@@ -139,16 +139,16 @@ walk-branch-branch-stmt-requires : (t : ℕ) → walk-branch-lts.Need-branch-stm
 walk-branch-branch-stmt-requires t c κs = search needs
 
 walk-branch-loop-holds : (t : ℕ) → walk-branch-lts.Need-loop-holds (walk-branch-claims t) (walk-branch-at t) walk-branch.Post walk-branch-Inv-loop walk-branch-μ-loop
-walk-branch-loop-holds t c = let o = block-list _ (tableOf (c .before .before .before .before .before .before .args .w) (c .before .before .before .before .before .before .args .table .now)) (c .before .before .before .before .before .before .pre .1 .is) (c .before .branch-stmt .ensures) in (o .from, left-start _ _ (blocks-start _ _ _ _ _) (fits-as _ (o .same) (c .before .before .before .before .before .before .pre .1 .room .fits)))
+walk-branch-loop-holds t c = let o = block-list _ (tableOf (c .before .before .before .before .before .args .w) (c .before .before .before .before .before .args .table .now)) (c .before .before .before .before .before .pre .1 .is) (c .before .branch-stmt .ensures) in (o .from, left-start _ _ (blocks-start _ _ _ _ _) (fits-as _ (o .same) (c .before .before .before .before .before .pre .1 .room .fits)))
 
 walk-branch-block-requires : (t : ℕ) → walk-branch-lts.Need-block-requires (walk-branch-claims t) (walk-branch-at t) walk-branch.Post walk-branch-Inv-loop walk-branch-μ-loop
 walk-branch-block-requires t c κs = blocks-place _ (c .before .before .loop .inv .0)
 
 walk-branch-walk-stmt-block-requires : (t : ℕ) → walk-branch-lts.Need-walk-stmt-block-requires (walk-branch-claims t) (walk-branch-at t) walk-branch.Post walk-branch-Inv-loop walk-branch-μ-loop
-walk-branch-walk-stmt-block-requires t c κs = let o = block-list _ (tableOf (c .before .before .before .before .before .before .before .before .before .before .before .args .w) (c .before .before .before .before .before .before .before .before .before .before .before .args .table .now)) (c .before .before .before .before .before .before .before .before .before .before .before .pre .1 .is) (c .before .before .before .before .before .before .branch-stmt .ensures) in let q = block-item _ (tableOf (c .before .before .before .before .before .before .before .before .before .before .before .args .w) (c .before .before .before .before .before .before .before .before .before .before .before .args .table .now)) (c .before .before .before .before .loop .inv .0) (omega arith) (c .before .block .ensures) in (let l = q .low in let k = o .low in omega arith, record { run = q .run; room = room-left _ (c .before .before .before .before .before .before .before .before .before .before .before .pre .1 .room .noted) (c .before .before .before .before .loop .inv .1) (q .same) })
+walk-branch-walk-stmt-block-requires t c κs = let o = block-list _ (tableOf (c .before .before .before .before .before .before .before .before .before .before .args .w) (c .before .before .before .before .before .before .before .before .before .before .args .table .now)) (c .before .before .before .before .before .before .before .before .before .before .pre .1 .is) (c .before .before .before .before .before .before .branch-stmt .ensures) in let q = block-item _ (tableOf (c .before .before .before .before .before .before .before .before .before .before .args .w) (c .before .before .before .before .before .before .before .before .before .before .args .table .now)) (c .before .before .before .before .loop .inv .0) (omega arith) (c .before .block .ensures) in (let l = q .low in let k = o .low in omega arith, record { run = q .run; room = room-left _ (c .before .before .before .before .before .before .before .before .before .before .pre .1 .room .noted) (c .before .before .before .before .loop .inv .1) (q .same) })
 
 walk-branch-add-place : (t : ℕ) → walk-branch-lts.Need-add-place (walk-branch-claims t) (walk-branch-at t) walk-branch.Post walk-branch-Inv-loop walk-branch-μ-loop
-walk-branch-add-place t c = let q = block-item _ (tableOf (c .before .before .before .before .before .before .before .before .before .before .before .before .before .before .before .args .w) (c .before .before .before .before .before .before .before .before .before .before .before .before .before .before .before .args .table .now)) (c .before .before .before .before .before .before .before .before .loop .inv .0) (omega arith) (c .before .before .before .before .before .block .ensures) in let s = q .run .short in omega arith
+walk-branch-add-place t c = let q = block-item _ (tableOf (c .before .before .before .before .before .before .before .before .before .before .before .before .before .before .args .w) (c .before .before .before .before .before .before .before .before .before .before .before .before .before .before .args .table .now)) (c .before .before .before .before .before .before .before .before .loop .inv .0) (omega arith) (c .before .before .before .before .before .block .ensures) in let s = q .run .short in omega arith
 
 walk-branch-add-i : (t : ℕ) → walk-branch-lts.Need-add-i (walk-branch-claims t) (walk-branch-at t) walk-branch.Post walk-branch-Inv-loop walk-branch-μ-loop
 walk-branch-add-i t c = search needs
@@ -157,13 +157,13 @@ walk-branch-loop-less : (t : ℕ) → walk-branch-lts.Need-loop-less (walk-branc
 walk-branch-loop-less t c = search needs
 
 walk-branch-loop-again : (t : ℕ) → walk-branch-lts.Need-loop-again (walk-branch-claims t) (walk-branch-at t) walk-branch.Post walk-branch-Inv-loop walk-branch-μ-loop
-walk-branch-loop-again t c = let q = block-item _ (tableOf (c .before .before .before .before .before .before .before .before .before .before .before .before .before .before .before .args .w) (c .before .before .before .before .before .before .before .before .before .before .before .before .before .before .before .args .table .now)) (c .before .before .before .before .before .before .before .before .loop .inv .0) (omega arith) (c .before .before .before .before .before .block .ensures) in (q .from, left-next (c .before .before .before .before .before .before .before .before .loop .inv .1) (q .same) (c .before .before .before .walk-stmt-block .ensures) (c .before .before .before .walk-stmt-block .kept .1 .1 .1 .1 .0))
+walk-branch-loop-again t c = let q = block-item _ (tableOf (c .before .before .before .before .before .before .before .before .before .before .before .before .before .before .args .w) (c .before .before .before .before .before .before .before .before .before .before .before .before .before .before .args .table .now)) (c .before .before .before .before .before .before .before .before .loop .inv .0) (omega arith) (c .before .before .before .before .before .block .ensures) in (q .from, left-next (c .before .before .before .before .before .before .before .before .loop .inv .1) (q .same) (c .before .before .before .walk-stmt-block .ensures) (c .before .before .before .walk-stmt-block .kept .1 .1 .1 .1 .0))
 
 walk-branch-same-length : (t : ℕ) → walk-branch-lts.Need-same-length (walk-branch-claims t) (walk-branch-at t) walk-branch.Post walk-branch-Inv-loop walk-branch-μ-loop
 walk-branch-same-length t c = c .before .before .loop .inv .1 .long
 
 walk-branch-returns : (t : ℕ) → walk-branch-lts.Need-returns (walk-branch-claims t) (walk-branch-at t) walk-branch.Post walk-branch-Inv-loop walk-branch-μ-loop
-walk-branch-returns t c = let o = block-list _ (tableOf (c .before .before .before .before .before .before .before .before .before .args .w) (c .before .before .before .before .before .before .before .before .before .args .table .now)) (c .before .before .before .before .before .before .before .before .before .pre .1 .is) (c .before .before .before .before .branch-stmt .ensures) in appended-as (sym (o .same)) (left-end (c .before .before .loop .inv .1) (blocks-end _ _ _ _ (c .before .before .loop .i) (c .before .before .loop .place) (omega arith)))
+walk-branch-returns t c = let o = block-list _ (tableOf (c .before .before .before .before .before .before .before .before .args .w) (c .before .before .before .before .before .before .before .before .args .table .now)) (c .before .before .before .before .before .before .before .before .pre .1 .is) (c .before .before .before .before .branch-stmt .ensures) in appended-as (sym (o .same)) (left-end (c .before .before .loop .inv .1) (blocks-end _ _ _ _ (c .before .before .loop .i) (c .before .before .loop .place) (omega arith)))
 
 abbrev walk-match-Inv-loop : walk-match-lts.InvT-loop
 walk-match-Inv-loop image table w env rows₀ written cases i₀ after₀ rows i after = (i ≤ cases .0 .count) × Left (nodes image) (ofStmts image (tableOf w table) (cases .0)) (listed image (tableOf w table) false (cases .0 .node .0) (cases .0 .count - i) (cases .0 .first + i)) written rows₀ after rows
@@ -175,13 +175,13 @@ walk-match-match-stmt-requires : (t : ℕ) → walk-match-lts.Need-match-stmt-re
 walk-match-match-stmt-requires t c κs = search needs
 
 walk-match-loop-holds : (t : ℕ) → walk-match-lts.Need-loop-holds (walk-match-claims t) (walk-match-at t) walk-match.Post walk-match-Inv-loop walk-match-μ-loop
-walk-match-loop-holds t c = let o = cases-list _ (tableOf (c .before .before .before .before .before .before .args .w) (c .before .before .before .before .before .before .args .table .now)) (c .before .before .before .before .before .before .pre .1 .is) (c .before .match-stmt .ensures .list) in (omega arith, left-start _ _ (listed-start _ _ _ _ _ _) (fits-as _ (o .same) (c .before .before .before .before .before .before .pre .1 .room .fits)))
+walk-match-loop-holds t c = let o = cases-list _ (tableOf (c .before .before .before .before .before .args .w) (c .before .before .before .before .before .args .table .now)) (c .before .before .before .before .before .pre .1 .is) (c .before .match-stmt .ensures .list) in (omega arith, left-start _ _ (listed-start _ _ _ _ _ _) (fits-as _ (o .same) (c .before .before .before .before .before .pre .1 .room .fits)))
 
 walk-match-nth-case-requires : (t : ℕ) → walk-match-lts.Need-nth-case-requires (walk-match-claims t) (walk-match-at t) walk-match.Post walk-match-Inv-loop walk-match-μ-loop
-walk-match-nth-case-requires t c κs = let o = cases-list _ (tableOf (c .before .before .before .before .before .before .before .before .before .args .w) (c .before .before .before .before .before .before .before .before .before .args .table .now)) (c .before .before .before .before .before .before .before .before .before .pre .1 .is) (c .before .before .before .before .match-stmt .ensures .list) in let s = (o .run) .short in omega arith
+walk-match-nth-case-requires t c κs = let o = cases-list _ (tableOf (c .before .before .before .before .before .before .before .before .args .w) (c .before .before .before .before .before .before .before .before .args .table .now)) (c .before .before .before .before .before .before .before .before .pre .1 .is) (c .before .before .before .before .match-stmt .ensures .list) in let s = (o .run) .short in omega arith
 
 walk-match-walk-match-case-requires : (t : ℕ) → walk-match-lts.Need-walk-match-case-requires (walk-match-claims t) (walk-match-at t) walk-match.Post walk-match-Inv-loop walk-match-μ-loop
-walk-match-walk-match-case-requires t c κs = let o = cases-list _ (tableOf (c .before .before .before .before .before .before .before .before .before .before .before .args .w) (c .before .before .before .before .before .before .before .before .before .before .before .args .table .now)) (c .before .before .before .before .before .before .before .before .before .before .before .pre .1 .is) (c .before .before .before .before .before .before .match-stmt .ensures .list) in let q = cases-item _ _ (c .before .before .before .before .loop .i) (o .run) (omega arith) (c .before .nth-case .ensures) in (let l = q .low in let k = o .low in omega arith, record { is = q .is; room = room-left _ (c .before .before .before .before .before .before .before .before .before .before .before .pre .1 .room .noted) (c .before .before .before .before .loop .inv .1) (q .same) })
+walk-match-walk-match-case-requires t c κs = let o = cases-list _ (tableOf (c .before .before .before .before .before .before .before .before .before .before .args .w) (c .before .before .before .before .before .before .before .before .before .before .args .table .now)) (c .before .before .before .before .before .before .before .before .before .before .pre .1 .is) (c .before .before .before .before .before .before .match-stmt .ensures .list) in let q = cases-item _ _ (c .before .before .before .before .loop .i) (o .run) (omega arith) (c .before .nth-case .ensures) in (let l = q .low in let k = o .low in omega arith, record { is = q .is; room = room-left _ (c .before .before .before .before .before .before .before .before .before .before .pre .1 .room .noted) (c .before .before .before .before .loop .inv .1) (q .same) })
 
 walk-match-add-i : (t : ℕ) → walk-match-lts.Need-add-i (walk-match-claims t) (walk-match-at t) walk-match.Post walk-match-Inv-loop walk-match-μ-loop
 walk-match-add-i t c = search needs
@@ -190,30 +190,30 @@ walk-match-loop-less : (t : ℕ) → walk-match-lts.Need-loop-less (walk-match-c
 walk-match-loop-less t c = search needs
 
 walk-match-loop-again : (t : ℕ) → walk-match-lts.Need-loop-again (walk-match-claims t) (walk-match-at t) walk-match.Post walk-match-Inv-loop walk-match-μ-loop
-walk-match-loop-again t c = let o = cases-list _ (tableOf (c .before .before .before .before .before .before .before .before .before .before .before .before .before .before .args .w) (c .before .before .before .before .before .before .before .before .before .before .before .before .before .before .args .table .now)) (c .before .before .before .before .before .before .before .before .before .before .before .before .before .before .pre .1 .is) (c .before .before .before .before .before .before .before .before .before .match-stmt .ensures .list) in (omega arith, left-next (c .before .before .before .before .before .before .before .loop .inv .1) ((cases-item _ _ (c .before .before .before .before .before .before .before .loop .i) (o .run) (omega arith) (c .before .before .before .before .nth-case .ensures)) .same) (c .before .before .walk-match-case .ensures) (c .before .before .walk-match-case .kept .1 .1 .1 .1 .0))
+walk-match-loop-again t c = let o = cases-list _ (tableOf (c .before .before .before .before .before .before .before .before .before .before .before .before .before .args .w) (c .before .before .before .before .before .before .before .before .before .before .before .before .before .args .table .now)) (c .before .before .before .before .before .before .before .before .before .before .before .before .before .pre .1 .is) (c .before .before .before .before .before .before .before .before .before .match-stmt .ensures .list) in (omega arith, left-next (c .before .before .before .before .before .before .before .loop .inv .1) ((cases-item _ _ (c .before .before .before .before .before .before .before .loop .i) (o .run) (omega arith) (c .before .before .before .before .nth-case .ensures)) .same) (c .before .before .walk-match-case .ensures) (c .before .before .walk-match-case .kept .1 .1 .1 .1 .0))
 
 walk-match-same-length : (t : ℕ) → walk-match-lts.Need-same-length (walk-match-claims t) (walk-match-at t) walk-match.Post walk-match-Inv-loop walk-match-μ-loop
 walk-match-same-length t c = c .before .before .loop .inv .1 .long
 
 walk-match-returns : (t : ℕ) → walk-match-lts.Need-returns (walk-match-claims t) (walk-match-at t) walk-match.Post walk-match-Inv-loop walk-match-μ-loop
-walk-match-returns t c = let o = cases-list _ (tableOf (c .before .before .before .before .before .before .before .before .before .args .w) (c .before .before .before .before .before .before .before .before .before .args .table .now)) (c .before .before .before .before .before .before .before .before .before .pre .1 .is) (c .before .before .before .before .match-stmt .ensures .list) in appended-as (sym (o .same)) (left-end (c .before .before .loop .inv .1) (listed-end _ _ false _ _ _ (c .before .before .loop .i) (omega arith)))
+walk-match-returns t c = let o = cases-list _ (tableOf (c .before .before .before .before .before .before .before .before .args .w) (c .before .before .before .before .before .before .before .before .args .table .now)) (c .before .before .before .before .before .before .before .before .pre .1 .is) (c .before .before .before .before .match-stmt .ensures .list) in appended-as (sym (o .same)) (left-end (c .before .before .loop .inv .1) (listed-end _ _ false _ _ _ (c .before .before .loop .i) (omega arith)))
 
 walk-match-case-check-match-case-pattern-requires :
     (t : ℕ) → walk-match-case-lts.Need-check-match-case-pattern-requires (walk-match-case-claims t) (walk-match-case-at t) walk-match-case.Post
-walk-match-case-check-match-case-pattern-requires t c κs = record { is = c .before .before .before .before .before .pre .1 .is; room = room-first _ refl (c .before .before .before .before .before .pre .1 .room) }
+walk-match-case-check-match-case-pattern-requires t c κs = record { is = c .before .before .before .before .pre .1 .is; room = room-first _ refl (c .before .before .before .before .pre .1 .room) }
 
 walk-match-case-match-case-requires : (t : ℕ) → walk-match-case-lts.Need-match-case-requires (walk-match-case-claims t) (walk-match-case-at t) walk-match-case.Post
 walk-match-case-match-case-requires t c κs = search needs
 
 walk-match-case-walk-stmt-block-requires :
     (t : ℕ) → walk-match-case-lts.Need-walk-stmt-block-requires (walk-match-case-claims t) (walk-match-case-at t) walk-match-case.Post
-walk-match-case-walk-stmt-block-requires t c κs = let o = case-list _ _ (c .before .before .before .before .before .before .before .before .before .before .before .pre .1 .is) (c .before .before .match-case .ensures .list) in (let l = o .low in omega arith, record { run = o .run; room = room-rest (o .same) (c .before .before .before .before .before .before .before .before .before .before .before .pre .1 .room) (c .before .before .before .before .before .check-match-case-pattern .ensures) })
+walk-match-case-walk-stmt-block-requires t c κs = let o = case-list _ _ (c .before .before .before .before .before .before .before .before .before .before .pre .1 .is) (c .before .before .match-case .ensures .list) in (let l = o .low in omega arith, record { run = o .run; room = room-rest (o .same) (c .before .before .before .before .before .before .before .before .before .before .pre .1 .room) (c .before .before .before .before .before .check-match-case-pattern .ensures) })
 
 walk-match-case-same-length : (t : ℕ) → walk-match-case-lts.Need-same-length (walk-match-case-claims t) (walk-match-case-at t) walk-match-case.Post
 walk-match-case-same-length t c = search needs
 
 walk-match-case-returns : (t : ℕ) → walk-match-case-lts.Need-returns (walk-match-case-claims t) (walk-match-case-at t) walk-match-case.Post
-walk-match-case-returns t c = let o = case-list _ _ (c .before .before .before .before .before .before .before .before .before .before .before .before .before .before .pre .1 .is) (c .before .before .before .before .before .match-case .ensures .list) in appended-as (sym (o .same)) (appended-next (c .before .before .before .before .before .before .before .before .check-match-case-pattern .ensures) (c .before .before .walk-stmt-block .ensures))
+walk-match-case-returns t c = let o = case-list _ _ (c .before .before .before .before .before .before .before .before .before .before .before .before .before .pre .1 .is) (c .before .before .before .before .before .match-case .ensures .list) in appended-as (sym (o .same)) (appended-next (c .before .before .before .before .before .before .before .before .check-match-case-pattern .ensures) (c .before .before .walk-stmt-block .ensures))
 
 walk-stmt-stmt-requires : (t : ℕ) → walk-stmt-lts.Need-stmt-requires (walk-stmt-claims t) (walk-stmt-at t) walk-stmt.Post
 walk-stmt-stmt-requires t c κs = search needs
@@ -228,40 +228,40 @@ walk-stmt-then-stmt-requires : (t : ℕ) → walk-stmt-lts.Need-then-stmt-requir
 walk-stmt-then-stmt-requires t c κs = search needs
 
 walk-stmt-check-then-atom-requires : (t : ℕ) → walk-stmt-lts.Need-check-then-atom-requires (walk-stmt-claims t) (walk-stmt-at t) walk-stmt.Post
-walk-stmt-check-then-atom-requires t c κs = let s = stmt-is _ (c .before .before .before .before .before .before .before .before .before .before .before .pre .1 .is) (c .before .before .before .before .before .before .stmt .ensures) (c .before .before .before .before .id .given .1) in let o = stmt-then _ _ (c .before .before .before .before .before .before .before .before .before .before .before .pre .1 .is) (s .number) (s .child) (c .before .before .then-stmt .ensures) in record { is = o .is; room = room-as (o .same) (c .before .before .before .before .before .before .before .before .before .before .before .pre .1 .room) }
+walk-stmt-check-then-atom-requires t c κs = let s = stmt-is _ (c .before .before .before .before .before .before .before .before .before .before .pre .1 .is) (c .before .before .before .before .before .before .stmt .ensures) (c .before .before .before .before .id .given .1) in let o = stmt-then _ _ (c .before .before .before .before .before .before .before .before .before .before .pre .1 .is) (s .number) (s .child) (c .before .before .then-stmt .ensures) in record { is = o .is; room = room-as (o .same) (c .before .before .before .before .before .before .before .before .before .before .pre .1 .room) }
 
 walk-stmt-enum-known-id-2 : (t : ℕ) → walk-stmt-lts.Need-enum-known-id-2 (walk-stmt-claims t) (walk-stmt-at t) walk-stmt.Post
 walk-stmt-enum-known-id-2 t c = search needs
 
 walk-stmt-walk-branch-requires : (t : ℕ) → walk-stmt-lts.Need-walk-branch-requires (walk-stmt-claims t) (walk-stmt-at t) walk-stmt.Post
-walk-stmt-walk-branch-requires t c κs = let s = stmt-is _ (c .before .before .before .before .before .before .before .before .before .pre .1 .is) (c .before .before .before .before .stmt .ensures) (c .before .before .id2 .given .1) in let o = stmt-branch _ _ (c .before .before .before .before .before .before .before .before .before .pre .1 .is) (s .number) (s .child) in (let l = o .low in omega arith, record { is = o .is; room = room-as (o .same) (c .before .before .before .before .before .before .before .before .before .pre .1 .room) })
+walk-stmt-walk-branch-requires t c κs = let s = stmt-is _ (c .before .before .before .before .before .before .before .before .pre .1 .is) (c .before .before .before .before .stmt .ensures) (c .before .before .id2 .given .1) in let o = stmt-branch _ _ (c .before .before .before .before .before .before .before .before .pre .1 .is) (s .number) (s .child) in (let l = o .low in omega arith, record { is = o .is; room = room-as (o .same) (c .before .before .before .before .before .before .before .before .pre .1 .room) })
 
 walk-stmt-enum-known-id-3 : (t : ℕ) → walk-stmt-lts.Need-enum-known-id-3 (walk-stmt-claims t) (walk-stmt-at t) walk-stmt.Post
 walk-stmt-enum-known-id-3 t c = search needs
 
 walk-stmt-walk-match-requires : (t : ℕ) → walk-stmt-lts.Need-walk-match-requires (walk-stmt-claims t) (walk-stmt-at t) walk-stmt.Post
-walk-stmt-walk-match-requires t c κs = let s = stmt-is _ (c .before .before .before .before .before .before .before .before .before .pre .1 .is) (c .before .before .before .before .stmt .ensures) (c .before .before .id3 .given .1) in let o = stmt-match _ _ (c .before .before .before .before .before .before .before .before .before .pre .1 .is) (s .number) (s .child) in (let l = o .low in omega arith, record { is = o .is; room = room-as (o .same) (c .before .before .before .before .before .before .before .before .before .pre .1 .room) })
+walk-stmt-walk-match-requires t c κs = let s = stmt-is _ (c .before .before .before .before .before .before .before .before .pre .1 .is) (c .before .before .before .before .stmt .ensures) (c .before .before .id3 .given .1) in let o = stmt-match _ _ (c .before .before .before .before .before .before .before .before .pre .1 .is) (s .number) (s .child) in (let l = o .low in omega arith, record { is = o .is; room = room-as (o .same) (c .before .before .before .before .before .before .before .before .pre .1 .room) })
 
 walk-stmt-returns : (t : ℕ) → walk-stmt-lts.Need-returns (walk-stmt-claims t) (walk-stmt-at t) walk-stmt.Post
-walk-stmt-returns t c = let s = stmt-is _ (c .before .before .before .before .before .before .before .pre .1 .is) (c .before .before .stmt .ensures) (c .enum-told .given .1) in appended-no _ _ (stmt-if _ _ (c .before .before .before .before .before .before .before .pre .1 .is) (s .number))
+walk-stmt-returns t c = let s = stmt-is _ (c .before .before .before .before .before .before .pre .1 .is) (c .before .before .stmt .ensures) (c .enum-told .given .1) in appended-no _ _ (stmt-if _ _ (c .before .before .before .before .before .before .pre .1 .is) (s .number))
 
 walk-stmt-same-length : (t : ℕ) → walk-stmt-lts.Need-same-length (walk-stmt-claims t) (walk-stmt-at t) walk-stmt.Post
 walk-stmt-same-length t c = search needs
 
 walk-stmt-returns-2 : (t : ℕ) → walk-stmt-lts.Need-returns-2 (walk-stmt-claims t) (walk-stmt-at t) walk-stmt.Post
-walk-stmt-returns-2 t c = let s = stmt-is _ (c .before .before .before .before .before .before .before .before .before .before .before .before .before .before .pre .1 .is) (c .before .before .before .before .before .before .before .before .before .stmt .ensures) (c .before .before .before .before .before .before .before .id .given .1) in let o = stmt-then _ _ (c .before .before .before .before .before .before .before .before .before .before .before .before .before .before .pre .1 .is) (s .number) (s .child) (c .before .before .before .before .before .then-stmt .ensures) in appended-as (sym (o .same)) (c .before .before .check-then-atom .ensures)
+walk-stmt-returns-2 t c = let s = stmt-is _ (c .before .before .before .before .before .before .before .before .before .before .before .before .before .pre .1 .is) (c .before .before .before .before .before .before .before .before .before .stmt .ensures) (c .before .before .before .before .before .before .before .id .given .1) in let o = stmt-then _ _ (c .before .before .before .before .before .before .before .before .before .before .before .before .before .pre .1 .is) (s .number) (s .child) (c .before .before .before .before .before .then-stmt .ensures) in appended-as (sym (o .same)) (c .before .before .check-then-atom .ensures)
 
 walk-stmt-same-length-2 : (t : ℕ) → walk-stmt-lts.Need-same-length-2 (walk-stmt-claims t) (walk-stmt-at t) walk-stmt.Post
 walk-stmt-same-length-2 t c = search needs
 
 walk-stmt-returns-3 : (t : ℕ) → walk-stmt-lts.Need-returns-3 (walk-stmt-claims t) (walk-stmt-at t) walk-stmt.Post
-walk-stmt-returns-3 t c = let s = stmt-is _ (c .before .before .before .before .before .before .before .before .before .before .before .before .pre .1 .is) (c .before .before .before .before .before .before .before .stmt .ensures) (c .before .before .before .before .before .id2 .given .1) in let o = stmt-branch _ _ (c .before .before .before .before .before .before .before .before .before .before .before .before .pre .1 .is) (s .number) (s .child) in appended-as (sym (o .same)) (c .before .before .walk-branch .ensures)
+walk-stmt-returns-3 t c = let s = stmt-is _ (c .before .before .before .before .before .before .before .before .before .before .before .pre .1 .is) (c .before .before .before .before .before .before .before .stmt .ensures) (c .before .before .before .before .before .id2 .given .1) in let o = stmt-branch _ _ (c .before .before .before .before .before .before .before .before .before .before .before .pre .1 .is) (s .number) (s .child) in appended-as (sym (o .same)) (c .before .before .walk-branch .ensures)
 
 walk-stmt-same-length-3 : (t : ℕ) → walk-stmt-lts.Need-same-length-3 (walk-stmt-claims t) (walk-stmt-at t) walk-stmt.Post
 walk-stmt-same-length-3 t c = search needs
 
 walk-stmt-returns-4 : (t : ℕ) → walk-stmt-lts.Need-returns-4 (walk-stmt-claims t) (walk-stmt-at t) walk-stmt.Post
-walk-stmt-returns-4 t c = let s = stmt-is _ (c .before .before .before .before .before .before .before .before .before .before .before .before .pre .1 .is) (c .before .before .before .before .before .before .before .stmt .ensures) (c .before .before .before .before .before .id3 .given .1) in let o = stmt-match _ _ (c .before .before .before .before .before .before .before .before .before .before .before .before .pre .1 .is) (s .number) (s .child) in appended-as (sym (o .same)) (c .before .before .walk-match .ensures)
+walk-stmt-returns-4 t c = let s = stmt-is _ (c .before .before .before .before .before .before .before .before .before .before .before .pre .1 .is) (c .before .before .before .before .before .before .before .stmt .ensures) (c .before .before .before .before .before .id3 .given .1) in let o = stmt-match _ _ (c .before .before .before .before .before .before .before .before .before .before .before .pre .1 .is) (s .number) (s .child) in appended-as (sym (o .same)) (c .before .before .walk-match .ensures)
 
 abbrev walk-stmt-block-Inv-loop : walk-stmt-block-lts.InvT-loop
 walk-stmt-block-Inv-loop image table w env rows₀ written stmts i₀ after₀ rows i after = (i ≤ stmts .0 .count) × Left (nodes image) (ofStmts image (tableOf w table) (stmts .0)) (listed image (tableOf w table) false (stmts .0 .node .0) (stmts .0 .count - i) (stmts .0 .first + i)) written rows₀ after rows
@@ -270,13 +270,13 @@ abbrev walk-stmt-block-μ-loop : walk-stmt-block-lts.MeasureT-loop
 walk-stmt-block-μ-loop image table w env rows₀ written stmts i₀ after₀ rows i after = stmts .0 .count - i
 
 walk-stmt-block-loop-holds : (t : ℕ) → walk-stmt-block-lts.Need-loop-holds (walk-stmt-block-claims t) (walk-stmt-block-at t) walk-stmt-block.Post walk-stmt-block-Inv-loop walk-stmt-block-μ-loop
-walk-stmt-block-loop-holds t c = (omega arith, left-start _ _ (listed-start _ _ _ _ _ _) (c .before .before .before .before .pre .1 .room .fits))
+walk-stmt-block-loop-holds t c = (omega arith, left-start _ _ (listed-start _ _ _ _ _ _) (c .before .before .before .pre .1 .room .fits))
 
 walk-stmt-block-nth-stmt-requires : (t : ℕ) → walk-stmt-block-lts.Need-nth-stmt-requires (walk-stmt-block-claims t) (walk-stmt-block-at t) walk-stmt-block.Post walk-stmt-block-Inv-loop walk-stmt-block-μ-loop
-walk-stmt-block-nth-stmt-requires t c κs = let s = (c .before .before .before .before .before .before .before .pre .1 .run) .short in omega arith
+walk-stmt-block-nth-stmt-requires t c κs = let s = (c .before .before .before .before .before .before .pre .1 .run) .short in omega arith
 
 walk-stmt-block-walk-stmt-requires : (t : ℕ) → walk-stmt-block-lts.Need-walk-stmt-requires (walk-stmt-block-claims t) (walk-stmt-block-at t) walk-stmt-block.Post walk-stmt-block-Inv-loop walk-stmt-block-μ-loop
-walk-stmt-block-walk-stmt-requires t c κs = let q = stmts-item _ _ (c .before .before .before .before .loop .i) (c .before .before .before .before .before .before .before .before .before .pre .1 .run) (omega arith) (c .before .nth-stmt .ensures) in (let l = q .low in omega arith, record { is = q .is; room = room-left _ (c .before .before .before .before .before .before .before .before .before .pre .1 .room .noted) (c .before .before .before .before .loop .inv .1) (q .same) })
+walk-stmt-block-walk-stmt-requires t c κs = let q = stmts-item _ _ (c .before .before .before .before .loop .i) (c .before .before .before .before .before .before .before .before .pre .1 .run) (omega arith) (c .before .nth-stmt .ensures) in (let l = q .low in omega arith, record { is = q .is; room = room-left _ (c .before .before .before .before .before .before .before .before .pre .1 .room .noted) (c .before .before .before .before .loop .inv .1) (q .same) })
 
 walk-stmt-block-add-i : (t : ℕ) → walk-stmt-block-lts.Need-add-i (walk-stmt-block-claims t) (walk-stmt-block-at t) walk-stmt-block.Post walk-stmt-block-Inv-loop walk-stmt-block-μ-loop
 walk-stmt-block-add-i t c = search needs
@@ -285,7 +285,7 @@ walk-stmt-block-loop-less : (t : ℕ) → walk-stmt-block-lts.Need-loop-less (wa
 walk-stmt-block-loop-less t c = search needs
 
 walk-stmt-block-loop-again : (t : ℕ) → walk-stmt-block-lts.Need-loop-again (walk-stmt-block-claims t) (walk-stmt-block-at t) walk-stmt-block.Post walk-stmt-block-Inv-loop walk-stmt-block-μ-loop
-walk-stmt-block-loop-again t c = (omega arith, left-next (c .before .before .before .before .before .before .before .loop .inv .1) ((stmts-item _ _ (c .before .before .before .before .before .before .before .loop .i) (c .before .before .before .before .before .before .before .before .before .before .before .before .pre .1 .run) (omega arith) (c .before .before .before .before .nth-stmt .ensures)) .same) (c .before .before .walk-stmt .ensures) (c .before .before .walk-stmt .kept .1 .1 .1 .1 .0))
+walk-stmt-block-loop-again t c = (omega arith, left-next (c .before .before .before .before .before .before .before .loop .inv .1) ((stmts-item _ _ (c .before .before .before .before .before .before .before .loop .i) (c .before .before .before .before .before .before .before .before .before .before .before .pre .1 .run) (omega arith) (c .before .before .before .before .nth-stmt .ensures)) .same) (c .before .before .walk-stmt .ensures) (c .before .before .walk-stmt .kept .1 .1 .1 .1 .0))
 
 walk-stmt-block-same-length : (t : ℕ) → walk-stmt-block-lts.Need-same-length (walk-stmt-block-claims t) (walk-stmt-block-at t) walk-stmt-block.Post walk-stmt-block-Inv-loop walk-stmt-block-μ-loop
 walk-stmt-block-same-length t c = c .before .before .loop .inv .1 .long

@@ -65,7 +65,7 @@ walk-decl-rule-decl-requires : (t : ℕ) → walk-decl-lts.Need-rule-decl-requir
 walk-decl-rule-decl-requires t c κs = search needs
 
 walk-decl-walk-stmt-block-requires : (t : ℕ) → walk-decl-lts.Need-walk-stmt-block-requires (walk-decl-claims t) (walk-decl-at t) walk-decl.Post
-walk-decl-walk-stmt-block-requires t c κs = let s = decl-is _ (c .before .before .before .before .before .before .before .before .before .before .before .pre .1 .is) (c .before .before .before .before .before .before .decl .ensures) (c .before .before .before .before .id .given .1) in let o = decl-rule _ _ (c .before .before .before .before .before .before .before .before .before .before .before .pre .1 .is) (s .number) (s .child) (c .before .before .rule-decl .ensures .list) in record { run = o .run; room = room-as (o .same) (c .before .before .before .before .before .before .before .before .before .before .before .pre .1 .room) }
+walk-decl-walk-stmt-block-requires t c κs = let s = decl-is _ (c .before .before .before .before .before .before .before .before .before .before .pre .1 .is) (c .before .before .before .before .before .before .decl .ensures) (c .before .before .before .before .id .given .1) in let o = decl-rule _ _ (c .before .before .before .before .before .before .before .before .before .before .pre .1 .is) (s .number) (s .child) (c .before .before .rule-decl .ensures .list) in record { run = o .run; room = room-as (o .same) (c .before .before .before .before .before .before .before .before .before .before .pre .1 .room) }
 
 walk-decl-enum-known-id-2 : (t : ℕ) → walk-decl-lts.Need-enum-known-id-2 (walk-decl-claims t) (walk-decl-at t) walk-decl.Post
 walk-decl-enum-known-id-2 t c = search needs
@@ -74,22 +74,22 @@ walk-decl-model-decl-requires : (t : ℕ) → walk-decl-lts.Need-model-decl-requ
 walk-decl-model-decl-requires t c κs = search needs
 
 walk-decl-walk-decls-requires : (t : ℕ) → walk-decl-lts.Need-walk-decls-requires (walk-decl-claims t) (walk-decl-at t) walk-decl.Post
-walk-decl-walk-decls-requires t c κs = let s = decl-is _ (c .before .before .before .before .before .before .before .before .before .before .before .pre .1 .is) (c .before .before .before .before .before .before .decl .ensures) (c .before .before .before .before .id2 .given .1) in let o = decl-model _ _ (c .before .before .before .before .before .before .before .before .before .before .before .pre .1 .is) (s .number) (s .child) (c .before .before .model-decl .ensures .list) in (let l = o .low in omega arith, record { run = o .run; room = room-as (o .same) (c .before .before .before .before .before .before .before .before .before .before .before .pre .1 .room) })
+walk-decl-walk-decls-requires t c κs = let s = decl-is _ (c .before .before .before .before .before .before .before .before .before .before .pre .1 .is) (c .before .before .before .before .before .before .decl .ensures) (c .before .before .before .before .id2 .given .1) in let o = decl-model _ _ (c .before .before .before .before .before .before .before .before .before .before .pre .1 .is) (s .number) (s .child) (c .before .before .model-decl .ensures .list) in (let l = o .low in omega arith, record { run = o .run; room = room-as (o .same) (c .before .before .before .before .before .before .before .before .before .before .pre .1 .room) })
 
 walk-decl-returns : (t : ℕ) → walk-decl-lts.Need-returns (walk-decl-claims t) (walk-decl-at t) walk-decl.Post
-walk-decl-returns t c = let h = no-body _ (c .before .before .before .before .before .before .pre .1 .is) (c .before .decl .ensures) (c .match .keys1) in appended-no _ _ (decl-none _ _ (c .before .before .before .before .before .before .pre .1 .is) (h .0) (h .1))
+walk-decl-returns t c = let h = no-body _ (c .before .before .before .before .before .pre .1 .is) (c .before .decl .ensures) (c .match .keys1) in appended-no _ _ (decl-none _ _ (c .before .before .before .before .before .pre .1 .is) (h .0) (h .1))
 
 walk-decl-same-length : (t : ℕ) → walk-decl-lts.Need-same-length (walk-decl-claims t) (walk-decl-at t) walk-decl.Post
 walk-decl-same-length t c = search needs
 
 walk-decl-returns-2 : (t : ℕ) → walk-decl-lts.Need-returns-2 (walk-decl-claims t) (walk-decl-at t) walk-decl.Post
-walk-decl-returns-2 t c = let s = decl-is _ (c .before .before .before .before .before .before .before .before .before .before .before .before .before .before .pre .1 .is) (c .before .before .before .before .before .before .before .before .before .decl .ensures) (c .before .before .before .before .before .before .before .id .given .1) in let o = decl-rule _ _ (c .before .before .before .before .before .before .before .before .before .before .before .before .before .before .pre .1 .is) (s .number) (s .child) (c .before .before .before .before .before .rule-decl .ensures .list) in appended-as (sym (o .same)) (c .before .before .walk-stmt-block .ensures)
+walk-decl-returns-2 t c = let s = decl-is _ (c .before .before .before .before .before .before .before .before .before .before .before .before .before .pre .1 .is) (c .before .before .before .before .before .before .before .before .before .decl .ensures) (c .before .before .before .before .before .before .before .id .given .1) in let o = decl-rule _ _ (c .before .before .before .before .before .before .before .before .before .before .before .before .before .pre .1 .is) (s .number) (s .child) (c .before .before .before .before .before .rule-decl .ensures .list) in appended-as (sym (o .same)) (c .before .before .walk-stmt-block .ensures)
 
 walk-decl-same-length-2 : (t : ℕ) → walk-decl-lts.Need-same-length-2 (walk-decl-claims t) (walk-decl-at t) walk-decl.Post
 walk-decl-same-length-2 t c = search needs
 
 walk-decl-returns-3 : (t : ℕ) → walk-decl-lts.Need-returns-3 (walk-decl-claims t) (walk-decl-at t) walk-decl.Post
-walk-decl-returns-3 t c = let s = decl-is _ (c .before .before .before .before .before .before .before .before .before .before .before .before .before .before .pre .1 .is) (c .before .before .before .before .before .before .before .before .before .decl .ensures) (c .before .before .before .before .before .before .before .id2 .given .1) in let o = decl-model _ _ (c .before .before .before .before .before .before .before .before .before .before .before .before .before .before .pre .1 .is) (s .number) (s .child) (c .before .before .before .before .before .model-decl .ensures .list) in appended-as (sym (o .same)) (c .before .before .walk-decls .ensures)
+walk-decl-returns-3 t c = let s = decl-is _ (c .before .before .before .before .before .before .before .before .before .before .before .before .before .pre .1 .is) (c .before .before .before .before .before .before .before .before .before .decl .ensures) (c .before .before .before .before .before .before .before .id2 .given .1) in let o = decl-model _ _ (c .before .before .before .before .before .before .before .before .before .before .before .before .before .pre .1 .is) (s .number) (s .child) (c .before .before .before .before .before .model-decl .ensures .list) in appended-as (sym (o .same)) (c .before .before .walk-decls .ensures)
 
 abbrev walk-decls-Inv-loop : walk-decls-lts.InvT-loop
 walk-decls-Inv-loop image table w env rows₀ written decls i₀ after₀ rows i after = (i ≤ decls .0 .count) × Left (nodes image) (ofDecls image (tableOf w table) (decls .0)) (declared image (tableOf w table) (decls .0 .node .0) (decls .0 .count - i) (decls .0 .first + i)) written rows₀ after rows
@@ -98,13 +98,13 @@ abbrev walk-decls-μ-loop : walk-decls-lts.MeasureT-loop
 walk-decls-μ-loop image table w env rows₀ written decls i₀ after₀ rows i after = decls .0 .count - i
 
 walk-decls-loop-holds : (t : ℕ) → walk-decls-lts.Need-loop-holds (walk-decls-claims t) (walk-decls-at t) walk-decls.Post walk-decls-Inv-loop walk-decls-μ-loop
-walk-decls-loop-holds t c = (omega arith, left-start _ _ (declared-start _ _ _ _ _) (c .before .before .before .before .pre .1 .room .fits))
+walk-decls-loop-holds t c = (omega arith, left-start _ _ (declared-start _ _ _ _ _) (c .before .before .before .pre .1 .room .fits))
 
 walk-decls-nth-decl-requires : (t : ℕ) → walk-decls-lts.Need-nth-decl-requires (walk-decls-claims t) (walk-decls-at t) walk-decls.Post walk-decls-Inv-loop walk-decls-μ-loop
-walk-decls-nth-decl-requires t c κs = let s = c .before .before .before .before .before .before .before .pre .1 .run .short in omega arith
+walk-decls-nth-decl-requires t c κs = let s = c .before .before .before .before .before .before .pre .1 .run .short in omega arith
 
 walk-decls-walk-decl-requires : (t : ℕ) → walk-decls-lts.Need-walk-decl-requires (walk-decls-claims t) (walk-decls-at t) walk-decls.Post walk-decls-Inv-loop walk-decls-μ-loop
-walk-decls-walk-decl-requires t c κs = let q = decls-item _ _ (c .before .before .before .before .loop .i) (c .before .before .before .before .before .before .before .before .before .pre .1 .run) (omega arith) (c .before .nth-decl .ensures) in (let l = q .low in omega arith, record { is = q .is; room = room-left _ (c .before .before .before .before .before .before .before .before .before .pre .1 .room .noted) (c .before .before .before .before .loop .inv .1) (q .same) })
+walk-decls-walk-decl-requires t c κs = let q = decls-item _ _ (c .before .before .before .before .loop .i) (c .before .before .before .before .before .before .before .before .pre .1 .run) (omega arith) (c .before .nth-decl .ensures) in (let l = q .low in omega arith, record { is = q .is; room = room-left _ (c .before .before .before .before .before .before .before .before .pre .1 .room .noted) (c .before .before .before .before .loop .inv .1) (q .same) })
 
 walk-decls-add-i : (t : ℕ) → walk-decls-lts.Need-add-i (walk-decls-claims t) (walk-decls-at t) walk-decls.Post walk-decls-Inv-loop walk-decls-μ-loop
 walk-decls-add-i t c = search needs
@@ -113,7 +113,7 @@ walk-decls-loop-less : (t : ℕ) → walk-decls-lts.Need-loop-less (walk-decls-c
 walk-decls-loop-less t c = search needs
 
 walk-decls-loop-again : (t : ℕ) → walk-decls-lts.Need-loop-again (walk-decls-claims t) (walk-decls-at t) walk-decls.Post walk-decls-Inv-loop walk-decls-μ-loop
-walk-decls-loop-again t c = (omega arith, left-next (c .before .before .before .before .before .before .before .loop .inv .1) ((decls-item _ _ (c .before .before .before .before .before .before .before .loop .i) (c .before .before .before .before .before .before .before .before .before .before .before .before .pre .1 .run) (omega arith) (c .before .before .before .before .nth-decl .ensures)) .same) (c .before .before .walk-decl .ensures) (c .before .before .walk-decl .kept .1 .1 .1 .1 .0))
+walk-decls-loop-again t c = (omega arith, left-next (c .before .before .before .before .before .before .before .loop .inv .1) ((decls-item _ _ (c .before .before .before .before .before .before .before .loop .i) (c .before .before .before .before .before .before .before .before .before .before .before .pre .1 .run) (omega arith) (c .before .before .before .before .nth-decl .ensures)) .same) (c .before .before .walk-decl .ensures) (c .before .before .walk-decl .kept .1 .1 .1 .1 .0))
 
 walk-decls-same-length : (t : ℕ) → walk-decls-lts.Need-same-length (walk-decls-claims t) (walk-decls-at t) walk-decls.Post walk-decls-Inv-loop walk-decls-μ-loop
 walk-decls-same-length t c = c .before .before .loop .inv .1 .long

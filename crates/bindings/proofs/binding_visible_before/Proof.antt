@@ -9,7 +9,7 @@ use Rattle.bindings.proofs.binding_visible_before.Statement.{statement}
 use Rattle.bindings.proofs.binding_visible_before.Tie as tie
 
 at-entry-requires : tie.Need-at-entry-requires
-at-entry-requires c κs = looked _ (c .before .before .before .pre .0) (c .before .before .before .pre .1)
+at-entry-requires c κs = looked _ (c .before .before .pre .0) (c .before .before .pre .1)
 
 enum-known-node : tie.Need-enum-known-node
 enum-known-node c = search needs
@@ -19,11 +19,11 @@ enum-told c = search needs
 
 returns : tie.Need-returns
 unfolding sameNode lookup
-returns c = sym (ap (sameNode (some (c .before .before .before .before .before .before .before .before .before .args .binding .0 .0))) (sym (c .before .before .before .before .before .at-entry .ensures) ∙ ap optionOf (c .before .before .before .node .given .1)))
+returns c = sym (ap (sameNode (some (c .before .before .before .before .before .before .before .before .args .binding .0 .0))) (sym (c .before .before .before .before .before .at-entry .ensures) ∙ ap optionOf (c .before .before .before .node .given .1)))
 
 returns-2 : tie.Need-returns-2
 unfolding sameNode lookup
-returns-2 c = sym (ap (sameNode (some (c .before .before .before .before .before .before .args .binding .0 .0))) (sym (c .before .before .at-entry .ensures) ∙ ap optionOf (c .enum-told .given .1)))
+returns-2 c = sym (ap (sameNode (some (c .before .before .before .before .before .args .binding .0 .0))) (sym (c .before .before .at-entry .ensures) ∙ ap optionOf (c .enum-told .given .1)))
 
 pub binding-visible-before-spec : {M : Type 1} → statement M
 binding-visible-before-spec =

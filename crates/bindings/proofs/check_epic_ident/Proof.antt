@@ -6,13 +6,13 @@ use Rattle.bindings.proofs.check_epic_ident.Statement.{statement}
 use Rattle.bindings.proofs.check_epic_ident.Tie as tie
 
 is-introduced-requires : tie.Need-is-introduced-requires
-is-introduced-requires c κs = (c .before .before .before .before .pre .0 .noted, c .before .before .before .before .pre .1)
+is-introduced-requires c κs = (c .before .before .before .pre .0 .noted, c .before .before .before .pre .1)
 
 row-number-requires : tie.Need-row-number-requires
 row-number-requires c κs = search needs
 
 put-if-requires : tie.Need-put-if-requires
-put-if-requires c κs = fits-as (c .before .before .before .before .before .before .before .args .written) (introduced-is _ _ _ _ (c .before .before .is-introduced .ensures) ∙ when-number _ _ (sym (c .before .row-number .ensures))) (c .before .before .before .before .before .before .before .pre .0 .fits)
+put-if-requires c κs = fits-as (c .before .before .before .before .before .before .args .written) (introduced-is _ _ _ _ (c .before .before .is-introduced .ensures) ∙ when-number _ _ (sym (c .before .row-number .ensures))) (c .before .before .before .before .before .before .pre .0 .fits)
 
 same-length : tie.Need-same-length
 same-length c = search needs

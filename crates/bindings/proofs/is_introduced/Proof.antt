@@ -9,7 +9,7 @@ use Rattle.bindings.proofs.is_introduced.Statement.{statement}
 use Rattle.bindings.proofs.is_introduced.Tie as tie
 
 at-exit-requires : tie.Need-at-exit-requires
-at-exit-requires c κs = looked _ (c .before .before .before .pre .0) (c .before .before .before .pre .1)
+at-exit-requires c κs = looked _ (c .before .before .pre .0) (c .before .before .pre .1)
 
 is-var-requires : tie.Need-is-var-requires
 is-var-requires c κs = search needs

@@ -10,13 +10,13 @@ module-requires : tie.Need-module-requires
 module-requires c κs = search needs
 
 walk-decls-requires : tie.Need-walk-decls-requires
-walk-decls-requires c κs = let o = module-list _ _ (c .before .before .before .before .before .before .before .pre .is) (c .before .before .«module» .ensures) in record { run = o .run; room = room-as (o .same) (c .before .before .before .before .before .before .before .pre .room) }
+walk-decls-requires c κs = let o = module-list _ _ (c .before .before .before .before .before .before .pre .is) (c .before .before .«module» .ensures) in record { run = o .run; room = room-as (o .same) (c .before .before .before .before .before .before .pre .room) }
 
 same-length : tie.Need-same-length
 same-length c = search needs
 
 returns : tie.Need-returns
-returns c = let o = module-list _ _ (c .before .before .before .before .before .before .before .before .before .before .pre .is) (c .before .before .before .before .before .«module» .ensures) in appended-as (sym (o .same)) (c .before .before .walk-decls .ensures)
+returns c = let o = module-list _ _ (c .before .before .before .before .before .before .before .before .before .pre .is) (c .before .before .before .before .before .«module» .ensures) in appended-as (sym (o .same)) (c .before .before .walk-decls .ensures)
 
 pub walk-module-spec : {M : Type 1} → statement M
 walk-module-spec = tie.close (tie.spec module-requires walk-decls-requires same-length returns)

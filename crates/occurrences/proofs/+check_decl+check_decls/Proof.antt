@@ -57,7 +57,7 @@ check-decl-enum-known-id : (t : ℕ) → check-decl-lts.Need-enum-known-id (chec
 check-decl-enum-known-id t c = search needs
 
 check-decl-check-rule-requires : (t : ℕ) → check-decl-lts.Need-check-rule-requires (check-decl-claims t) (check-decl-at t) check-decl.Post
-check-decl-check-rule-requires t c κs = ((decl-case _ _ _ (c .before .before .before .before .before .before .before .before .before .before .before .pre .1 .0) (c .before .before .before .before .before .decl .ensures) (c .before .before .before .id .given .1)) .listing, c .before .before .before .before .before .before .before .before .before .before .before .pre .1 .1)
+check-decl-check-rule-requires t c κs = ((decl-case _ _ _ (c .before .before .before .before .before .before .before .before .before .before .pre .1 .0) (c .before .before .before .before .before .decl .ensures) (c .before .before .before .id .given .1)) .listing, c .before .before .before .before .before .before .before .before .before .before .pre .1 .1)
 
 check-decl-enum-known-id-2 : (t : ℕ) → check-decl-lts.Need-enum-known-id-2 (check-decl-claims t) (check-decl-at t) check-decl.Post
 check-decl-enum-known-id-2 t c = search needs
@@ -66,10 +66,10 @@ check-decl-model-decl-requires : (t : ℕ) → check-decl-lts.Need-model-decl-re
 check-decl-model-decl-requires t c κs = search needs
 
 check-decl-check-decls-requires : (t : ℕ) → check-decl-lts.Need-check-decls-requires (check-decl-claims t) (check-decl-at t) check-decl.Post
-check-decl-check-decls-requires t c κs = let d = decl-case _ _ _ (c .before .before .before .before .before .before .before .before .before .before .before .before .before .pre .1 .0) (c .before .before .before .before .before .before .before .decl .ensures) (c .before .before .before .before .before .id2 .given .1) in let m = modelRun _ _ _ (d .listing) (c .before .before .before .model-decl .ensures) in (let l = d .low in let e = m .node in omega arith, (m .run, c .before .before .before .before .before .before .before .before .before .before .before .before .before .pre .1 .1))
+check-decl-check-decls-requires t c κs = let d = decl-case _ _ _ (c .before .before .before .before .before .before .before .before .before .before .before .before .pre .1 .0) (c .before .before .before .before .before .before .before .decl .ensures) (c .before .before .before .before .before .id2 .given .1) in let m = modelRun _ _ _ (d .listing) (c .before .before .before .model-decl .ensures) in (let l = d .low in let e = m .node in omega arith, (m .run, c .before .before .before .before .before .before .before .before .before .before .before .before .pre .1 .1))
 
 check-decl-returns : (t : ℕ) → check-decl-lts.Need-returns (check-decl-claims t) (check-decl-at t) check-decl.Post
-check-decl-returns t c = searched-nothing (decl-none _ _ _ (c .before .before .before .before .before .before .before .pre .1 .0) (c .before .decl .ensures) (c .match .keys1))
+check-decl-returns t c = searched-nothing (decl-none _ _ _ (c .before .before .before .before .before .before .pre .1 .0) (c .before .decl .ensures) (c .match .keys1))
 
 check-decl-same-length : (t : ℕ) → check-decl-lts.Need-same-length (check-decl-claims t) (check-decl-at t) check-decl.Post
 check-decl-same-length t c = search needs
@@ -78,7 +78,7 @@ check-decl-same-length-2 : (t : ℕ) → check-decl-lts.Need-same-length-2 (chec
 check-decl-same-length-2 t c = search needs
 
 check-decl-returns-2 : (t : ℕ) → check-decl-lts.Need-returns-2 (check-decl-claims t) (check-decl-at t) check-decl.Post
-check-decl-returns-2 t c = searched-as ((decl-case _ _ _ (c .before .before .before .before .before .before .before .before .before .before .before .before .before .before .before .before .pre .1 .0) (c .before .before .before .before .before .before .before .before .before .before .decl .ensures) (c .before .before .before .before .before .before .before .before .id .given .1)) .whole) (c .before .before .before .before .check-rule .ensures)
+check-decl-returns-2 t c = searched-as ((decl-case _ _ _ (c .before .before .before .before .before .before .before .before .before .before .before .before .before .before .before .pre .1 .0) (c .before .before .before .before .before .before .before .before .before .before .decl .ensures) (c .before .before .before .before .before .before .before .before .id .given .1)) .whole) (c .before .before .before .before .check-rule .ensures)
 
 check-decl-same-length-3 : (t : ℕ) → check-decl-lts.Need-same-length-3 (check-decl-claims t) (check-decl-at t) check-decl.Post
 check-decl-same-length-3 t c = search needs
@@ -87,7 +87,7 @@ check-decl-same-length-4 : (t : ℕ) → check-decl-lts.Need-same-length-4 (chec
 check-decl-same-length-4 t c = search needs
 
 check-decl-returns-3 : (t : ℕ) → check-decl-lts.Need-returns-3 (check-decl-claims t) (check-decl-at t) check-decl.Post
-check-decl-returns-3 t c = searched-as ((decl-case _ _ _ (c .before .before .before .before .before .before .before .before .before .before .before .before .before .before .before .before .before .before .pre .1 .0) (c .before .before .before .before .before .before .before .before .before .before .before .before .decl .ensures) (c .before .before .before .before .before .before .before .before .before .before .id2 .given .1)) .whole ∙ (modelRun _ _ _ ((decl-case _ _ _ (c .before .before .before .before .before .before .before .before .before .before .before .before .before .before .before .before .before .before .pre .1 .0) (c .before .before .before .before .before .before .before .before .before .before .before .before .decl .ensures) (c .before .before .before .before .before .before .before .before .before .before .id2 .given .1)) .listing) (c .before .before .before .before .before .before .before .before .model-decl .ensures)) .whole) (c .before .before .before .before .check-decls .ensures)
+check-decl-returns-3 t c = searched-as ((decl-case _ _ _ (c .before .before .before .before .before .before .before .before .before .before .before .before .before .before .before .before .before .pre .1 .0) (c .before .before .before .before .before .before .before .before .before .before .before .before .decl .ensures) (c .before .before .before .before .before .before .before .before .before .before .id2 .given .1)) .whole ∙ (modelRun _ _ _ ((decl-case _ _ _ (c .before .before .before .before .before .before .before .before .before .before .before .before .before .before .before .before .before .pre .1 .0) (c .before .before .before .before .before .before .before .before .before .before .before .before .decl .ensures) (c .before .before .before .before .before .before .before .before .before .before .id2 .given .1)) .listing) (c .before .before .before .before .before .before .before .before .model-decl .ensures)) .whole) (c .before .before .before .before .check-decls .ensures)
 
 abbrev check-decls-Inv-loop : check-decls-lts.InvT-loop
 check-decls-Inv-loop image table symbols env rows₀ counts₀ decls i₀ rows counts i = ChecksLeft image (sought table symbols) (decls .0) i rows₀ rows counts₀ counts
@@ -96,13 +96,13 @@ abbrev check-decls-μ-loop : check-decls-lts.MeasureT-loop
 check-decls-μ-loop image table symbols env rows₀ counts₀ decls i₀ rows counts i = decls .0 .count - i
 
 check-decls-loop-holds : (t : ℕ) → check-decls-lts.Need-loop-holds (check-decls-claims t) (check-decls-at t) check-decls.Post check-decls-Inv-loop check-decls-μ-loop
-check-decls-loop-holds t c = checks-start _ _ _ (c .before .before .before .before .before .pre .1 .0)
+check-decls-loop-holds t c = checks-start _ _ _ (c .before .before .before .before .pre .1 .0)
 
 check-decls-nth-decl-requires : (t : ℕ) → check-decls-lts.Need-nth-decl-requires (check-decls-claims t) (check-decls-at t) check-decls.Post check-decls-Inv-loop check-decls-μ-loop
-check-decls-nth-decl-requires t c κs = let s = c .before .before .before .before .before .before .before .before .pre .1 .0 .run .short in omega arith
+check-decls-nth-decl-requires t c κs = let s = c .before .before .before .before .before .before .before .pre .1 .0 .run .short in omega arith
 
 check-decls-check-decl-requires : (t : ℕ) → check-decls-lts.Need-check-decl-requires (check-decls-claims t) (check-decls-at t) check-decls.Post check-decls-Inv-loop check-decls-μ-loop
-check-decls-check-decl-requires t c κs = let o = checks-item _ _ _ (c .before .before .before .before .before .before .before .before .before .before .before .pre .1 .0) (c .before .before .before .before .before .loop .inv) (c .before .before .before .if1 .taken) (c .before .before .nth-decl .ensures) in (let l = o .low in omega arith, (o .listing, checks-scratch _ _ (c .before .before .before .before .before .before .before .before .before .before .before .pre .1 .1) (c .before .before .before .before .before .loop .inv)))
+check-decls-check-decl-requires t c κs = let o = checks-item _ _ _ (c .before .before .before .before .before .before .before .before .before .before .pre .1 .0) (c .before .before .before .before .before .loop .inv) (c .before .before .before .if1 .taken) (c .before .before .nth-decl .ensures) in (let l = o .low in omega arith, (o .listing, checks-scratch _ _ (c .before .before .before .before .before .before .before .before .before .before .pre .1 .1) (c .before .before .before .before .before .loop .inv)))
 
 check-decls-enum-told : (t : ℕ) → check-decls-lts.Need-enum-told (check-decls-claims t) (check-decls-at t) check-decls.Post check-decls-Inv-loop check-decls-μ-loop
 check-decls-enum-told t c = search needs
@@ -117,7 +117,7 @@ check-decls-same-length-2 : (t : ℕ) → check-decls-lts.Need-same-length-2 (ch
 check-decls-same-length-2 t c = c .before .before .before .before .before .before .before .check-decl .kept .1 .1 .1 .1 .1 .0 ∙ ap length (c .before .before .before .before .before .before .before .before .before .before .before .before .before .loop .inv .clean)
 
 check-decls-returns : (t : ℕ) → check-decls-lts.Need-returns (check-decls-claims t) (check-decls-at t) check-decls.Post check-decls-Inv-loop check-decls-μ-loop
-check-decls-returns t c = checks-found _ _ _ (c .before .before .before .before .before .before .before .before .before .before .before .before .before .loop .inv) (checks-item _ _ _ (c .before .before .before .before .before .before .before .before .before .before .before .before .before .before .before .before .before .before .before .pre .1 .0) (c .before .before .before .before .before .before .before .before .before .before .before .before .before .loop .inv) (c .before .before .before .before .before .before .before .before .before .before .before .if1 .taken) (c .before .before .before .before .before .before .before .before .before .before .nth-decl .ensures)) (c .before .before .before .before .before .before .before .check-decl .ensures) (c .before .node .given .1)
+check-decls-returns t c = checks-found _ _ _ (c .before .before .before .before .before .before .before .before .before .before .before .before .before .loop .inv) (checks-item _ _ _ (c .before .before .before .before .before .before .before .before .before .before .before .before .before .before .before .before .before .before .pre .1 .0) (c .before .before .before .before .before .before .before .before .before .before .before .before .before .loop .inv) (c .before .before .before .before .before .before .before .before .before .before .before .if1 .taken) (c .before .before .before .before .before .before .before .before .before .before .nth-decl .ensures)) (c .before .before .before .before .before .before .before .check-decl .ensures) (c .before .node .given .1)
 
 check-decls-add-i : (t : ℕ) → check-decls-lts.Need-add-i (check-decls-claims t) (check-decls-at t) check-decls.Post check-decls-Inv-loop check-decls-μ-loop
 check-decls-add-i t c = search needs
@@ -126,7 +126,7 @@ check-decls-loop-less : (t : ℕ) → check-decls-lts.Need-loop-less (check-decl
 check-decls-loop-less t c = search needs
 
 check-decls-loop-again : (t : ℕ) → check-decls-lts.Need-loop-again (check-decls-claims t) (check-decls-at t) check-decls.Post check-decls-Inv-loop check-decls-μ-loop
-check-decls-loop-again t c = checks-next _ _ _ (c .before .before .before .before .before .before .before .before .before .before .before .before .loop .inv) (checks-item _ _ _ (c .before .before .before .before .before .before .before .before .before .before .before .before .before .before .before .before .before .before .pre .1 .0) (c .before .before .before .before .before .before .before .before .before .before .before .before .loop .inv) (c .before .before .before .before .before .before .before .before .before .before .if1 .taken) (c .before .before .before .before .before .before .before .before .before .nth-decl .ensures)) (c .before .before .before .before .before .before .check-decl .ensures) (c .enum-told .given .1) (c .before .before .before .before .before .before .check-decl .kept .1 .1 .1 .1 .0)
+check-decls-loop-again t c = checks-next _ _ _ (c .before .before .before .before .before .before .before .before .before .before .before .before .loop .inv) (checks-item _ _ _ (c .before .before .before .before .before .before .before .before .before .before .before .before .before .before .before .before .before .pre .1 .0) (c .before .before .before .before .before .before .before .before .before .before .before .before .loop .inv) (c .before .before .before .before .before .before .before .before .before .before .if1 .taken) (c .before .before .before .before .before .before .before .before .before .nth-decl .ensures)) (c .before .before .before .before .before .before .check-decl .ensures) (c .enum-told .given .1) (c .before .before .before .before .before .before .check-decl .kept .1 .1 .1 .1 .0)
 
 check-decls-same-length-3 : (t : ℕ) → check-decls-lts.Need-same-length-3 (check-decls-claims t) (check-decls-at t) check-decls.Post check-decls-Inv-loop check-decls-μ-loop
 check-decls-same-length-3 t c = c .before .before .loop .inv .long

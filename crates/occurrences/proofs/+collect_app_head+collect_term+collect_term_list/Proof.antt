@@ -101,7 +101,7 @@ collect-app-head-enum-known-id t c = search needs
 
 collect-app-head-collect-ident-requires :
     (t : ℕ) → collect-app-head-lts.Need-collect-ident-requires (collect-app-head-claims t) (collect-app-head-at t) collect-app-head.Post
-collect-app-head-collect-ident-requires t c κs = let o = head-case _ _ _ (c .before .before .before .before .before .before .before .before .before .pre .1) (c .before .before .before .before .app-head .ensures) (c .before .before .id .given .1) in (o .room, o .asks)
+collect-app-head-collect-ident-requires t c κs = let o = head-case _ _ _ (c .before .before .before .before .before .before .before .before .pre .1) (c .before .before .before .before .app-head .ensures) (c .before .before .id .given .1) in (o .room, o .asks)
 
 collect-app-head-enum-known-id-2 : (t : ℕ) → collect-app-head-lts.Need-enum-known-id-2 (collect-app-head-claims t) (collect-app-head-at t) collect-app-head.Post
 collect-app-head-enum-known-id-2 t c = search needs
@@ -111,32 +111,32 @@ collect-app-head-app-head-member-requires :
 collect-app-head-app-head-member-requires t c κs = search needs
 
 collect-app-head-collect-term-requires : (t : ℕ) → collect-app-head-lts.Need-collect-term-requires (collect-app-head-claims t) (collect-app-head-at t) collect-app-head.Post
-collect-app-head-collect-term-requires t c κs = let o = head-member _ _ _ (head-case _ _ _ (c .before .before .before .before .before .before .before .before .before .before .before .pre .1) (c .before .before .before .before .before .before .app-head .ensures) (c .before .before .before .before .id2 .given .1)) (c .before .before .app-head-member .ensures) in (let l = o .low in omega arith, o .ready)
+collect-app-head-collect-term-requires t c κs = let o = head-member _ _ _ (head-case _ _ _ (c .before .before .before .before .before .before .before .before .before .before .pre .1) (c .before .before .before .before .before .before .app-head .ensures) (c .before .before .before .before .id2 .given .1)) (c .before .before .app-head-member .ensures) in (let l = o .low in omega arith, o .ready)
 
 collect-app-head-enum-known-term : (t : ℕ) → collect-app-head-lts.Need-enum-known-term (collect-app-head-claims t) (collect-app-head-at t) collect-app-head.Post
 collect-app-head-enum-known-term t c = search needs
 
 collect-app-head-collect-term-requires-2 :
     (t : ℕ) → collect-app-head-lts.Need-collect-term-requires-2 (collect-app-head-claims t) (collect-app-head-at t) collect-app-head.Post
-collect-app-head-collect-term-requires-2 t c κs = let o = head-case _ _ _ (c .before .before .before .before .before .before .before .before .before .pre .1) (c .before .before .before .before .app-head .ensures) (c .before .before .term .given .1) in (let l = o .low in omega arith, o .ready)
+collect-app-head-collect-term-requires-2 t c κs = let o = head-case _ _ _ (c .before .before .before .before .before .before .before .before .pre .1) (c .before .before .before .before .app-head .ensures) (c .before .before .term .given .1) in (let l = o .low in omega arith, o .ready)
 
 collect-app-head-same-length : (t : ℕ) → collect-app-head-lts.Need-same-length (collect-app-head-claims t) (collect-app-head-at t) collect-app-head.Post
 collect-app-head-same-length t c = search needs
 
 collect-app-head-returns : (t : ℕ) → collect-app-head-lts.Need-returns (collect-app-head-claims t) (collect-app-head-at t) collect-app-head.Post
-collect-app-head-returns t c = appended-as ((head-case _ _ _ (c .before .before .before .before .before .before .before .before .before .before .before .before .pre .1) (c .before .before .before .before .before .before .before .app-head .ensures) (c .before .before .before .before .before .id .given .1)) .whole) (c .before .before .collect-ident .ensures)
+collect-app-head-returns t c = appended-as ((head-case _ _ _ (c .before .before .before .before .before .before .before .before .before .before .before .pre .1) (c .before .before .before .before .before .before .before .app-head .ensures) (c .before .before .before .before .before .id .given .1)) .whole) (c .before .before .collect-ident .ensures)
 
 collect-app-head-same-length-2 : (t : ℕ) → collect-app-head-lts.Need-same-length-2 (collect-app-head-claims t) (collect-app-head-at t) collect-app-head.Post
 collect-app-head-same-length-2 t c = search needs
 
 collect-app-head-returns-2 : (t : ℕ) → collect-app-head-lts.Need-returns-2 (collect-app-head-claims t) (collect-app-head-at t) collect-app-head.Post
-collect-app-head-returns-2 t c = appended-as ((head-member _ _ _ (head-case _ _ _ (c .before .before .before .before .before .before .before .before .before .before .before .before .before .before .pre .1) (c .before .before .before .before .before .before .before .before .before .app-head .ensures) (c .before .before .before .before .before .before .before .id2 .given .1)) (c .before .before .before .before .before .app-head-member .ensures)) .whole) (c .before .before .collect-term .ensures)
+collect-app-head-returns-2 t c = appended-as ((head-member _ _ _ (head-case _ _ _ (c .before .before .before .before .before .before .before .before .before .before .before .before .before .pre .1) (c .before .before .before .before .before .before .before .before .before .app-head .ensures) (c .before .before .before .before .before .before .before .id2 .given .1)) (c .before .before .before .before .before .app-head-member .ensures)) .whole) (c .before .before .collect-term .ensures)
 
 collect-app-head-same-length-3 : (t : ℕ) → collect-app-head-lts.Need-same-length-3 (collect-app-head-claims t) (collect-app-head-at t) collect-app-head.Post
 collect-app-head-same-length-3 t c = search needs
 
 collect-app-head-returns-3 : (t : ℕ) → collect-app-head-lts.Need-returns-3 (collect-app-head-claims t) (collect-app-head-at t) collect-app-head.Post
-collect-app-head-returns-3 t c = appended-as ((head-case _ _ _ (c .before .before .before .before .before .before .before .before .before .before .before .before .pre .1) (c .before .before .before .before .before .before .before .app-head .ensures) (c .before .before .before .before .before .term .given .1)) .whole) (c .before .before .collect-term2 .ensures)
+collect-app-head-returns-3 t c = appended-as ((head-case _ _ _ (c .before .before .before .before .before .before .before .before .before .before .before .pre .1) (c .before .before .before .before .before .before .before .app-head .ensures) (c .before .before .before .before .before .term .given .1)) .whole) (c .before .before .collect-term2 .ensures)
 
 collect-term-term-requires : (t : ℕ) → collect-term-lts.Need-term-requires (collect-term-claims t) (collect-term-at t) collect-term.Post
 collect-term-term-requires t c κs = search needs
@@ -145,7 +145,7 @@ collect-term-enum-known-id : (t : ℕ) → collect-term-lts.Need-enum-known-id (
 collect-term-enum-known-id t c = search needs
 
 collect-term-collect-ident-requires : (t : ℕ) → collect-term-lts.Need-collect-ident-requires (collect-term-claims t) (collect-term-at t) collect-term.Post
-collect-term-collect-ident-requires t c κs = let o = term-case _ _ _ (c .before .before .before .before .before .before .before .before .before .pre .1) (c .before .before .before .before .term .ensures) (c .before .before .id .given .1) in (o .room, o .asks)
+collect-term-collect-ident-requires t c κs = let o = term-case _ _ _ (c .before .before .before .before .before .before .before .before .pre .1) (c .before .before .before .before .term .ensures) (c .before .before .id .given .1) in (o .room, o .asks)
 
 collect-term-enum-told : (t : ℕ) → collect-term-lts.Need-enum-told (collect-term-claims t) (collect-term-at t) collect-term.Post
 collect-term-enum-told t c = search needs
@@ -157,11 +157,11 @@ collect-term-app-term-requires : (t : ℕ) → collect-term-lts.Need-app-term-re
 collect-term-app-term-requires t c κs = search needs
 
 collect-term-collect-app-head-requires : (t : ℕ) → collect-term-lts.Need-collect-app-head-requires (collect-term-claims t) (collect-term-at t) collect-term.Post
-collect-term-collect-app-head-requires t c κs = let o = app-term _ _ _ (term-case _ _ _ (c .before .before .before .before .before .before .before .before .before .before .before .before .pre .1) (c .before .before .before .before .before .before .before .term .ensures) (c .before .before .before .before .before .id2 .given .1)) (c .before .before .before .app-term .ensures) in (let l = o .low in omega arith, o .first)
+collect-term-collect-app-head-requires t c κs = let o = app-term _ _ _ (term-case _ _ _ (c .before .before .before .before .before .before .before .before .before .before .before .pre .1) (c .before .before .before .before .before .before .before .term .ensures) (c .before .before .before .before .before .id2 .given .1)) (c .before .before .before .app-term .ensures) in (let l = o .low in omega arith, o .first)
 
 collect-term-collect-term-list-requires :
     (t : ℕ) → collect-term-lts.Need-collect-term-list-requires (collect-term-claims t) (collect-term-at t) collect-term.Post
-collect-term-collect-term-list-requires t c κs = let o = app-term _ _ _ (term-case _ _ _ (c .before .before .before .before .before .before .before .before .before .before .before .before .before .before .before .before .pre .1) (c .before .before .before .before .before .before .before .before .before .before .before .term .ensures) (c .before .before .before .before .before .before .before .before .before .id2 .given .1)) (c .before .before .before .before .before .before .before .app-term .ensures) in (let l = o .low2 in omega arith, o .second (c .before .before .before .collect-app-head .ensures .count))
+collect-term-collect-term-list-requires t c κs = let o = app-term _ _ _ (term-case _ _ _ (c .before .before .before .before .before .before .before .before .before .before .before .before .before .before .before .pre .1) (c .before .before .before .before .before .before .before .before .before .before .before .term .ensures) (c .before .before .before .before .before .before .before .before .before .id2 .given .1)) (c .before .before .before .before .before .before .before .app-term .ensures) in (let l = o .low2 in omega arith, o .second (c .before .before .before .collect-app-head .ensures .count))
 
 collect-term-enum-known-id-3 : (t : ℕ) → collect-term-lts.Need-enum-known-id-3 (collect-term-claims t) (collect-term-at t) collect-term.Post
 collect-term-enum-known-id-3 t c = search needs
@@ -170,14 +170,13 @@ collect-term-term-member-requires : (t : ℕ) → collect-term-lts.Need-term-mem
 collect-term-term-member-requires t c κs = search needs
 
 collect-term-collect-term-requires : (t : ℕ) → collect-term-lts.Need-collect-term-requires (collect-term-claims t) (collect-term-at t) collect-term.Post
-collect-term-collect-term-requires t c κs = let o = term-member _ _ _ (term-case _ _ _ (c .before .before .before .before .before .before .before .before .before .before .before .pre .1) (c .before .before .before .before .before .before .term .ensures) (c .before .before .before .before .id3 .given .1)) (c .before .before .term-member .ensures) in (let l = o .low in omega arith, o .ready)
+collect-term-collect-term-requires t c κs = let o = term-member _ _ _ (term-case _ _ _ (c .before .before .before .before .before .before .before .before .before .before .pre .1) (c .before .before .before .before .before .before .term .ensures) (c .before .before .before .before .id3 .given .1)) (c .before .before .term-member .ensures) in (let l = o .low in omega arith, o .ready)
 
--- src/lib.rt:382:17
 collect-term-argument-requires : (t : ℕ) → collect-term-lts.Need-argument-requires (collect-term-claims t) (collect-term-at t) collect-term.Post
 collect-term-argument-requires t c κs = search needs
 
 collect-term-collect-term-requires-2 : (t : ℕ) → collect-term-lts.Need-collect-term-requires-2 (collect-term-claims t) (collect-term-at t) collect-term.Post
-collect-term-collect-term-requires-2 t c κs = let o = term-one _ _ _ (c .before .before .before .before .before .before .before .before .pre .1) (c .before .before .before .term .ensures) (c .before .before .match .keys5) (c .before .argument .ensures) in (let l = o .low in omega arith, o .ready)
+collect-term-collect-term-requires-2 t c κs = let o = term-one _ _ _ (c .before .before .before .before .before .before .before .pre .1) (c .before .before .before .term .ensures) (c .before .before .match .keys5) (c .before .argument .ensures) in (let l = o .low in omega arith, o .ready)
 
 collect-term-enum-known-id-4 : (t : ℕ) → collect-term-lts.Need-enum-known-id-4 (collect-term-claims t) (collect-term-at t) collect-term.Post
 collect-term-enum-known-id-4 t c = search needs
@@ -186,43 +185,43 @@ collect-term-comp-term-requires : (t : ℕ) → collect-term-lts.Need-comp-term-
 collect-term-comp-term-requires t c κs = search needs
 
 collect-term-collect-term-requires-3 : (t : ℕ) → collect-term-lts.Need-collect-term-requires-3 (collect-term-claims t) (collect-term-at t) collect-term.Post
-collect-term-collect-term-requires-3 t c κs = let o = two-terms _ _ _ (term-case _ _ _ (c .before .before .before .before .before .before .before .before .before .before .before .before .pre .1) (c .before .before .before .before .before .before .before .term .ensures) (c .before .before .before .before .before .id4 .given .1)) (c .before .before .before .comp-term .ensures) in (let l = o .low in omega arith, o .first)
+collect-term-collect-term-requires-3 t c κs = let o = two-terms _ _ _ (term-case _ _ _ (c .before .before .before .before .before .before .before .before .before .before .before .pre .1) (c .before .before .before .before .before .before .before .term .ensures) (c .before .before .before .before .before .id4 .given .1)) (c .before .before .before .comp-term .ensures) in (let l = o .low in omega arith, o .first)
 
 collect-term-collect-term-requires-4 : (t : ℕ) → collect-term-lts.Need-collect-term-requires-4 (collect-term-claims t) (collect-term-at t) collect-term.Post
-collect-term-collect-term-requires-4 t c κs = let o = two-terms _ _ _ (term-case _ _ _ (c .before .before .before .before .before .before .before .before .before .before .before .before .before .before .before .before .pre .1) (c .before .before .before .before .before .before .before .before .before .before .before .term .ensures) (c .before .before .before .before .before .before .before .before .before .id4 .given .1)) (c .before .before .before .before .before .before .before .comp-term .ensures) in (let l = o .low2 in omega arith, o .second (c .before .before .before .collect-term3 .ensures .count))
+collect-term-collect-term-requires-4 t c κs = let o = two-terms _ _ _ (term-case _ _ _ (c .before .before .before .before .before .before .before .before .before .before .before .before .before .before .before .pre .1) (c .before .before .before .before .before .before .before .before .before .before .before .term .ensures) (c .before .before .before .before .before .before .before .before .before .id4 .given .1)) (c .before .before .before .before .before .before .before .comp-term .ensures) in (let l = o .low2 in omega arith, o .second (c .before .before .before .collect-term3 .ensures .count))
 
 collect-term-same-length : (t : ℕ) → collect-term-lts.Need-same-length (collect-term-claims t) (collect-term-at t) collect-term.Post
 collect-term-same-length t c = search needs
 
 collect-term-returns : (t : ℕ) → collect-term-lts.Need-returns (collect-term-claims t) (collect-term-at t) collect-term.Post
-collect-term-returns t c = appended-as ((term-case _ _ _ (c .before .before .before .before .before .before .before .before .before .before .before .before .pre .1) (c .before .before .before .before .before .before .before .term .ensures) (c .before .before .before .before .before .id .given .1)) .whole) (c .before .before .collect-ident .ensures)
+collect-term-returns t c = appended-as ((term-case _ _ _ (c .before .before .before .before .before .before .before .before .before .before .before .pre .1) (c .before .before .before .before .before .before .before .term .ensures) (c .before .before .before .before .before .id .given .1)) .whole) (c .before .before .collect-ident .ensures)
 
 collect-term-returns-2 : (t : ℕ) → collect-term-lts.Need-returns-2 (collect-term-claims t) (collect-term-at t) collect-term.Post
-collect-term-returns-2 t c = appended-no _ _ (term-case _ _ _ (c .before .before .before .before .before .before .before .pre .1) (c .before .before .term .ensures) (c .enum-told .given .1))
+collect-term-returns-2 t c = appended-no _ _ (term-case _ _ _ (c .before .before .before .before .before .before .pre .1) (c .before .before .term .ensures) (c .enum-told .given .1))
 
 collect-term-same-length-2 : (t : ℕ) → collect-term-lts.Need-same-length-2 (collect-term-claims t) (collect-term-at t) collect-term.Post
 collect-term-same-length-2 t c = search needs
 
 collect-term-returns-3 : (t : ℕ) → collect-term-lts.Need-returns-3 (collect-term-claims t) (collect-term-at t) collect-term.Post
-collect-term-returns-3 t c = appended-as ((app-term _ _ _ (term-case _ _ _ (c .before .before .before .before .before .before .before .before .before .before .before .before .before .before .before .before .before .before .before .pre .1) (c .before .before .before .before .before .before .before .before .before .before .before .before .before .before .term .ensures) (c .before .before .before .before .before .before .before .before .before .before .before .before .id2 .given .1)) (c .before .before .before .before .before .before .before .before .before .before .app-term .ensures)) .whole) (appended-next (c .before .before .before .before .before .before .collect-app-head .ensures) (c .before .before .collect-term-list .ensures))
+collect-term-returns-3 t c = appended-as ((app-term _ _ _ (term-case _ _ _ (c .before .before .before .before .before .before .before .before .before .before .before .before .before .before .before .before .before .before .pre .1) (c .before .before .before .before .before .before .before .before .before .before .before .before .before .before .term .ensures) (c .before .before .before .before .before .before .before .before .before .before .before .before .id2 .given .1)) (c .before .before .before .before .before .before .before .before .before .before .app-term .ensures)) .whole) (appended-next (c .before .before .before .before .before .before .collect-app-head .ensures) (c .before .before .collect-term-list .ensures))
 
 collect-term-same-length-3 : (t : ℕ) → collect-term-lts.Need-same-length-3 (collect-term-claims t) (collect-term-at t) collect-term.Post
 collect-term-same-length-3 t c = search needs
 
 collect-term-returns-4 : (t : ℕ) → collect-term-lts.Need-returns-4 (collect-term-claims t) (collect-term-at t) collect-term.Post
-collect-term-returns-4 t c = appended-as ((term-member _ _ _ (term-case _ _ _ (c .before .before .before .before .before .before .before .before .before .before .before .before .before .before .pre .1) (c .before .before .before .before .before .before .before .before .before .term .ensures) (c .before .before .before .before .before .before .before .id3 .given .1)) (c .before .before .before .before .before .term-member .ensures)) .whole) (c .before .before .collect-term .ensures)
+collect-term-returns-4 t c = appended-as ((term-member _ _ _ (term-case _ _ _ (c .before .before .before .before .before .before .before .before .before .before .before .before .before .pre .1) (c .before .before .before .before .before .before .before .before .before .term .ensures) (c .before .before .before .before .before .before .before .id3 .given .1)) (c .before .before .before .before .before .term-member .ensures)) .whole) (c .before .before .collect-term .ensures)
 
 collect-term-same-length-4 : (t : ℕ) → collect-term-lts.Need-same-length-4 (collect-term-claims t) (collect-term-at t) collect-term.Post
 collect-term-same-length-4 t c = search needs
 
 collect-term-returns-5 : (t : ℕ) → collect-term-lts.Need-returns-5 (collect-term-claims t) (collect-term-at t) collect-term.Post
-collect-term-returns-5 t c = appended-as ((term-one _ _ _ (c .before .before .before .before .before .before .before .before .before .before .before .pre .1) (c .before .before .before .before .before .before .term .ensures) (c .before .before .before .before .before .match .keys5) (c .before .before .before .before .argument .ensures)) .whole) (c .before .before .collect-term2 .ensures)
+collect-term-returns-5 t c = appended-as ((term-one _ _ _ (c .before .before .before .before .before .before .before .before .before .before .pre .1) (c .before .before .before .before .before .before .term .ensures) (c .before .before .before .before .before .match .keys5) (c .before .before .before .before .argument .ensures)) .whole) (c .before .before .collect-term2 .ensures)
 
 collect-term-same-length-5 : (t : ℕ) → collect-term-lts.Need-same-length-5 (collect-term-claims t) (collect-term-at t) collect-term.Post
 collect-term-same-length-5 t c = search needs
 
 collect-term-returns-6 : (t : ℕ) → collect-term-lts.Need-returns-6 (collect-term-claims t) (collect-term-at t) collect-term.Post
-collect-term-returns-6 t c = appended-as ((two-terms _ _ _ (term-case _ _ _ (c .before .before .before .before .before .before .before .before .before .before .before .before .before .before .before .before .before .before .before .pre .1) (c .before .before .before .before .before .before .before .before .before .before .before .before .before .before .term .ensures) (c .before .before .before .before .before .before .before .before .before .before .before .before .id4 .given .1)) (c .before .before .before .before .before .before .before .before .before .before .comp-term .ensures)) .whole) (appended-next (c .before .before .before .before .before .before .collect-term3 .ensures) (c .before .before .collect-term4 .ensures))
+collect-term-returns-6 t c = appended-as ((two-terms _ _ _ (term-case _ _ _ (c .before .before .before .before .before .before .before .before .before .before .before .before .before .before .before .before .before .before .pre .1) (c .before .before .before .before .before .before .before .before .before .before .before .before .before .before .term .ensures) (c .before .before .before .before .before .before .before .before .before .before .before .before .id4 .given .1)) (c .before .before .before .before .before .before .before .before .before .before .comp-term .ensures)) .whole) (appended-next (c .before .before .before .before .before .before .collect-term3 .ensures) (c .before .before .collect-term4 .ensures))
 
 abbrev collect-term-list-Inv-loop : collect-term-list-lts.InvT-loop
 collect-term-list-Inv-loop image table symbols env rows₀ written terms i₀ after₀ rows i after = RowsLeft image (sought table symbols) (terms .0) i written rows₀ after rows
@@ -242,14 +241,14 @@ collect-term-list-loop-holds : (t : ℕ) → collect-term-list-lts.Need-loop-hol
     collect-term-list.Post
     collect-term-list-Inv-loop
     collect-term-list-μ-loop
-collect-term-list-loop-holds t c = rows-start _ _ _ ((termList _ _ _ (c .before .before .before .before .before .before .pre .1) (c .before .term-list .ensures)) .run)
+collect-term-list-loop-holds t c = rows-start _ _ _ ((termList _ _ _ (c .before .before .before .before .before .pre .1) (c .before .term-list .ensures)) .run)
 
 collect-term-list-nth-term-requires : (t : ℕ) → collect-term-list-lts.Need-nth-term-requires (collect-term-list-claims t)
     (collect-term-list-at t)
     collect-term-list.Post
     collect-term-list-Inv-loop
     collect-term-list-μ-loop
-collect-term-list-nth-term-requires t c κs = let s = (termList _ _ _ (c .before .before .before .before .before .before .before .before .before .pre .1) (c .before .before .before .before .term-list .ensures)) .run .run .short in omega arith
+collect-term-list-nth-term-requires t c κs = let s = (termList _ _ _ (c .before .before .before .before .before .before .before .before .pre .1) (c .before .before .before .before .term-list .ensures)) .run .run .short in omega arith
 
 collect-term-list-collect-term-requires :
     (t : ℕ) → collect-term-list-lts.Need-collect-term-requires (collect-term-list-claims t)
@@ -257,7 +256,7 @@ collect-term-list-collect-term-requires :
     collect-term-list.Post
     collect-term-list-Inv-loop
     collect-term-list-μ-loop
-collect-term-list-collect-term-requires t c κs = let o = term-item _ _ _ ((termList _ _ _ (c .before .before .before .before .before .before .before .before .before .before .before .pre .1) (c .before .before .before .before .before .before .term-list .ensures)) .run) (c .before .before .before .before .loop .inv) (c .before .before .if1 .taken) (c .before .nth-term .ensures) in (let l = o .low in let e = (termList _ _ _ (c .before .before .before .before .before .before .before .before .before .before .before .pre .1) (c .before .before .before .before .before .before .term-list .ensures)) .node in omega arith, o .ready)
+collect-term-list-collect-term-requires t c κs = let o = term-item _ _ _ ((termList _ _ _ (c .before .before .before .before .before .before .before .before .before .before .pre .1) (c .before .before .before .before .before .before .term-list .ensures)) .run) (c .before .before .before .before .loop .inv) (c .before .before .if1 .taken) (c .before .nth-term .ensures) in (let l = o .low in let e = (termList _ _ _ (c .before .before .before .before .before .before .before .before .before .before .pre .1) (c .before .before .before .before .before .before .term-list .ensures)) .node in omega arith, o .ready)
 
 collect-term-list-add-i : (t : ℕ) → collect-term-list-lts.Need-add-i (collect-term-list-claims t)
     (collect-term-list-at t)
@@ -278,7 +277,7 @@ collect-term-list-loop-again : (t : ℕ) → collect-term-list-lts.Need-loop-aga
     collect-term-list.Post
     collect-term-list-Inv-loop
     collect-term-list-μ-loop
-collect-term-list-loop-again t c = rows-next _ _ _ (c .before .before .before .before .before .before .before .loop .inv) (term-item _ _ _ ((termList _ _ _ (c .before .before .before .before .before .before .before .before .before .before .before .before .before .before .pre .1) (c .before .before .before .before .before .before .before .before .before .term-list .ensures)) .run) (c .before .before .before .before .before .before .before .loop .inv) (c .before .before .before .before .before .if1 .taken) (c .before .before .before .before .nth-term .ensures)) (c .before .before .collect-term .ensures) (c .before .before .collect-term .kept .1 .1 .1 .1 .0)
+collect-term-list-loop-again t c = rows-next _ _ _ (c .before .before .before .before .before .before .before .loop .inv) (term-item _ _ _ ((termList _ _ _ (c .before .before .before .before .before .before .before .before .before .before .before .before .before .pre .1) (c .before .before .before .before .before .before .before .before .before .term-list .ensures)) .run) (c .before .before .before .before .before .before .before .loop .inv) (c .before .before .before .before .before .if1 .taken) (c .before .before .before .before .nth-term .ensures)) (c .before .before .collect-term .ensures) (c .before .before .collect-term .kept .1 .1 .1 .1 .0)
 
 collect-term-list-same-length : (t : ℕ) → collect-term-list-lts.Need-same-length (collect-term-list-claims t)
     (collect-term-list-at t)
@@ -292,7 +291,7 @@ collect-term-list-returns : (t : ℕ) → collect-term-list-lts.Need-returns (co
     collect-term-list.Post
     collect-term-list-Inv-loop
     collect-term-list-μ-loop
-collect-term-list-returns t c = appended-as ((termList _ _ _ (c .before .before .before .before .before .before .before .before .before .pre .1) (c .before .before .before .before .term-list .ensures)) .whole) (rows-end _ _ (c .before .before .loop .inv) (c .if1 .left))
+collect-term-list-returns t c = appended-as ((termList _ _ _ (c .before .before .before .before .before .before .before .before .pre .1) (c .before .before .before .before .term-list .ensures)) .whole) (rows-end _ _ (c .before .before .loop .inv) (c .if1 .left))
 
 pub +collect-app-head+collect-term+collect-term-list-spec : {M : Type 1} → statement M
 +collect-app-head+collect-term+collect-term-list-spec =

@@ -147,16 +147,16 @@ collect-branch-branch-stmt-requires : (t : ℕ) → collect-branch-lts.Need-bran
 collect-branch-branch-stmt-requires t c κs = search needs
 
 collect-branch-loop-holds : (t : ℕ) → collect-branch-lts.Need-loop-holds (collect-branch-claims t) (collect-branch-at t) collect-branch.Post collect-branch-Inv-loop collect-branch-μ-loop
-collect-branch-loop-holds t c = blocks-start _ _ _ (c .before .before .before .before .before .before .pre .1) (c .before .branch-stmt .ensures)
+collect-branch-loop-holds t c = blocks-start _ _ _ (c .before .before .before .before .before .pre .1) (c .before .branch-stmt .ensures)
 
 collect-branch-block-requires : (t : ℕ) → collect-branch-lts.Need-block-requires (collect-branch-claims t) (collect-branch-at t) collect-branch.Post collect-branch-Inv-loop collect-branch-μ-loop
 collect-branch-block-requires t c κs = let l = blocks-place _ _ (c .before .before .loop .inv) in omega arith
 
 collect-branch-collect-stmts-requires : (t : ℕ) → collect-branch-lts.Need-collect-stmts-requires (collect-branch-claims t) (collect-branch-at t) collect-branch.Post collect-branch-Inv-loop collect-branch-μ-loop
-collect-branch-collect-stmts-requires t c κs = let o = blockOf _ _ _ (c .before .before .before .before .before .before .before .before .before .before .before .pre .1) (c .before .before .before .before .loop .inv) (c .before .before .if1 .taken) (c .before .block .ensures) in (let e = o .node in let f = c .before .before .before .before .before .before .branch-stmt .ensures .node in omega arith, o .run)
+collect-branch-collect-stmts-requires t c κs = let o = blockOf _ _ _ (c .before .before .before .before .before .before .before .before .before .before .pre .1) (c .before .before .before .before .loop .inv) (c .before .before .if1 .taken) (c .before .block .ensures) in (let e = o .node in let f = c .before .before .before .before .before .before .branch-stmt .ensures .node in omega arith, o .run)
 
 collect-branch-add-place : (t : ℕ) → collect-branch-lts.Need-add-place (collect-branch-claims t) (collect-branch-at t) collect-branch.Post collect-branch-Inv-loop collect-branch-μ-loop
-collect-branch-add-place t c = let l = (blockOf _ _ _ (c .before .before .before .before .before .before .before .before .before .before .before .before .before .before .before .pre .1) (c .before .before .before .before .before .before .before .before .loop .inv) (c .before .before .before .before .before .before .if1 .taken) (c .before .before .before .before .before .block .ensures)) .run .run .short in omega arith
+collect-branch-add-place t c = let l = (blockOf _ _ _ (c .before .before .before .before .before .before .before .before .before .before .before .before .before .before .pre .1) (c .before .before .before .before .before .before .before .before .loop .inv) (c .before .before .before .before .before .before .if1 .taken) (c .before .before .before .before .before .block .ensures)) .run .run .short in omega arith
 
 collect-branch-add-i : (t : ℕ) → collect-branch-lts.Need-add-i (collect-branch-claims t) (collect-branch-at t) collect-branch.Post collect-branch-Inv-loop collect-branch-μ-loop
 collect-branch-add-i t c = search needs
@@ -165,7 +165,7 @@ collect-branch-loop-less : (t : ℕ) → collect-branch-lts.Need-loop-less (coll
 collect-branch-loop-less t c = search needs
 
 collect-branch-loop-again : (t : ℕ) → collect-branch-lts.Need-loop-again (collect-branch-claims t) (collect-branch-at t) collect-branch.Post collect-branch-Inv-loop collect-branch-μ-loop
-collect-branch-loop-again t c = (blockOf _ _ _ (c .before .before .before .before .before .before .before .before .before .before .before .before .before .before .before .pre .1) (c .before .before .before .before .before .before .before .before .loop .inv) (c .before .before .before .before .before .before .if1 .taken) (c .before .before .before .before .before .block .ensures)) .more (c .before .before .before .collect-stmts .ensures) (c .before .before .before .collect-stmts .kept .1 .1 .1 .1 .0)
+collect-branch-loop-again t c = (blockOf _ _ _ (c .before .before .before .before .before .before .before .before .before .before .before .before .before .before .pre .1) (c .before .before .before .before .before .before .before .before .loop .inv) (c .before .before .before .before .before .before .if1 .taken) (c .before .before .before .before .before .block .ensures)) .more (c .before .before .before .collect-stmts .ensures) (c .before .before .before .collect-stmts .kept .1 .1 .1 .1 .0)
 
 collect-branch-same-length : (t : ℕ) → collect-branch-lts.Need-same-length (collect-branch-claims t) (collect-branch-at t) collect-branch.Post collect-branch-Inv-loop collect-branch-μ-loop
 collect-branch-same-length t c = c .before .before .loop .inv .left .long
@@ -183,17 +183,17 @@ collect-match-match-stmt-requires : (t : ℕ) → collect-match-lts.Need-match-s
 collect-match-match-stmt-requires t c κs = search needs
 
 collect-match-collect-term-requires : (t : ℕ) → collect-match-lts.Need-collect-term-requires (collect-match-claims t) (collect-match-at t) collect-match.Post collect-match-Inv-loop collect-match-μ-loop
-collect-match-collect-term-requires t c κs = (matchOf _ _ _ (c .before .before .before .before .before .before .before .before .pre .1) (c .before .before .before .match-stmt .ensures)) .first
+collect-match-collect-term-requires t c κs = (matchOf _ _ _ (c .before .before .before .before .before .before .before .pre .1) (c .before .before .before .match-stmt .ensures)) .first
 
 collect-match-loop-holds : (t : ℕ) → collect-match-lts.Need-loop-holds (collect-match-claims t) (collect-match-at t) collect-match.Post collect-match-Inv-loop collect-match-μ-loop
-collect-match-loop-holds t c = rows-start _ _ _ ((matchOf _ _ _ (c .before .before .before .before .before .before .before .before .before .before .before .pre .1) (c .before .before .before .before .before .before .match-stmt .ensures)) .second (c .before .before .collect-term .ensures .count))
+collect-match-loop-holds t c = rows-start _ _ _ ((matchOf _ _ _ (c .before .before .before .before .before .before .before .before .before .before .pre .1) (c .before .before .before .before .before .before .match-stmt .ensures)) .second (c .before .before .collect-term .ensures .count))
 
 collect-match-nth-case-requires : (t : ℕ) → collect-match-lts.Need-nth-case-requires (collect-match-claims t) (collect-match-at t) collect-match.Post collect-match-Inv-loop collect-match-μ-loop
-collect-match-nth-case-requires t c κs = let s = ((matchOf _ _ _ (c .before .before .before .before .before .before .before .before .before .before .before .before .before .before .pre .1) (c .before .before .before .before .before .before .before .before .before .match-stmt .ensures)) .second (c .before .before .before .before .before .collect-term .ensures .count)) .run .short in omega arith
+collect-match-nth-case-requires t c κs = let s = ((matchOf _ _ _ (c .before .before .before .before .before .before .before .before .before .before .before .before .before .pre .1) (c .before .before .before .before .before .before .before .before .before .match-stmt .ensures)) .second (c .before .before .before .before .before .collect-term .ensures .count)) .run .short in omega arith
 
 collect-match-collect-match-case-requires :
     (t : ℕ) → collect-match-lts.Need-collect-match-case-requires (collect-match-claims t) (collect-match-at t) collect-match.Post collect-match-Inv-loop collect-match-μ-loop
-collect-match-collect-match-case-requires t c κs = let o = case-item _ _ _ ((matchOf _ _ _ (c .before .before .before .before .before .before .before .before .before .before .before .before .before .before .before .before .pre .1) (c .before .before .before .before .before .before .before .before .before .before .before .match-stmt .ensures)) .second (c .before .before .before .before .before .before .before .collect-term .ensures .count)) (c .before .before .before .before .loop .inv) (c .before .before .if1 .taken) (c .before .nth-case .ensures) in (let l = o .low in let e = (matchOf _ _ _ (c .before .before .before .before .before .before .before .before .before .before .before .before .before .before .before .before .pre .1) (c .before .before .before .before .before .before .before .before .before .before .before .match-stmt .ensures)) .node in omega arith, o .ready)
+collect-match-collect-match-case-requires t c κs = let o = case-item _ _ _ ((matchOf _ _ _ (c .before .before .before .before .before .before .before .before .before .before .before .before .before .before .before .pre .1) (c .before .before .before .before .before .before .before .before .before .before .before .match-stmt .ensures)) .second (c .before .before .before .before .before .before .before .collect-term .ensures .count)) (c .before .before .before .before .loop .inv) (c .before .before .if1 .taken) (c .before .nth-case .ensures) in (let l = o .low in let e = (matchOf _ _ _ (c .before .before .before .before .before .before .before .before .before .before .before .before .before .before .before .pre .1) (c .before .before .before .before .before .before .before .before .before .before .before .match-stmt .ensures)) .node in omega arith, o .ready)
 
 collect-match-add-i : (t : ℕ) → collect-match-lts.Need-add-i (collect-match-claims t) (collect-match-at t) collect-match.Post collect-match-Inv-loop collect-match-μ-loop
 collect-match-add-i t c = search needs
@@ -202,30 +202,30 @@ collect-match-loop-less : (t : ℕ) → collect-match-lts.Need-loop-less (collec
 collect-match-loop-less t c = search needs
 
 collect-match-loop-again : (t : ℕ) → collect-match-lts.Need-loop-again (collect-match-claims t) (collect-match-at t) collect-match.Post collect-match-Inv-loop collect-match-μ-loop
-collect-match-loop-again t c = rows-next _ _ _ (c .before .before .before .before .before .before .before .loop .inv) (case-item _ _ _ ((matchOf _ _ _ (c .before .before .before .before .before .before .before .before .before .before .before .before .before .before .before .before .before .before .before .pre .1) (c .before .before .before .before .before .before .before .before .before .before .before .before .before .before .match-stmt .ensures)) .second (c .before .before .before .before .before .before .before .before .before .before .collect-term .ensures .count)) (c .before .before .before .before .before .before .before .loop .inv) (c .before .before .before .before .before .if1 .taken) (c .before .before .before .before .nth-case .ensures)) (c .before .before .collect-match-case .ensures) (c .before .before .collect-match-case .kept .1 .1 .1 .1 .0)
+collect-match-loop-again t c = rows-next _ _ _ (c .before .before .before .before .before .before .before .loop .inv) (case-item _ _ _ ((matchOf _ _ _ (c .before .before .before .before .before .before .before .before .before .before .before .before .before .before .before .before .before .before .pre .1) (c .before .before .before .before .before .before .before .before .before .before .before .before .before .before .match-stmt .ensures)) .second (c .before .before .before .before .before .before .before .before .before .before .collect-term .ensures .count)) (c .before .before .before .before .before .before .before .loop .inv) (c .before .before .before .before .before .if1 .taken) (c .before .before .before .before .nth-case .ensures)) (c .before .before .collect-match-case .ensures) (c .before .before .collect-match-case .kept .1 .1 .1 .1 .0)
 
 collect-match-same-length : (t : ℕ) → collect-match-lts.Need-same-length (collect-match-claims t) (collect-match-at t) collect-match.Post collect-match-Inv-loop collect-match-μ-loop
 collect-match-same-length t c = c .before .before .loop .inv .left .long ∙ c .before .before .before .before .before .collect-term .kept .1 .1 .1 .1 .0
 
 collect-match-returns : (t : ℕ) → collect-match-lts.Need-returns (collect-match-claims t) (collect-match-at t) collect-match.Post collect-match-Inv-loop collect-match-μ-loop
-collect-match-returns t c = appended-as ((matchOf _ _ _ (c .before .before .before .before .before .before .before .before .before .before .before .before .before .before .pre .1) (c .before .before .before .before .before .before .before .before .before .match-stmt .ensures)) .whole) (appended-next (c .before .before .before .before .before .collect-term .ensures) (rows-end _ _ (c .before .before .loop .inv) (c .if1 .left)))
+collect-match-returns t c = appended-as ((matchOf _ _ _ (c .before .before .before .before .before .before .before .before .before .before .before .before .before .pre .1) (c .before .before .before .before .before .before .before .before .before .match-stmt .ensures)) .whole) (appended-next (c .before .before .before .before .before .collect-term .ensures) (rows-end _ _ (c .before .before .loop .inv) (c .if1 .left)))
 
 collect-match-case-match-case-requires : (t : ℕ) → collect-match-case-lts.Need-match-case-requires (collect-match-case-claims t) (collect-match-case-at t) collect-match-case.Post
 collect-match-case-match-case-requires t c κs = search needs
 
 collect-match-case-collect-term-requires :
     (t : ℕ) → collect-match-case-lts.Need-collect-term-requires (collect-match-case-claims t) (collect-match-case-at t) collect-match-case.Post
-collect-match-case-collect-term-requires t c κs = (matchCase _ _ _ (c .before .before .before .before .before .before .before .before .pre .1) (c .before .before .before .match-case .ensures)) .first
+collect-match-case-collect-term-requires t c κs = (matchCase _ _ _ (c .before .before .before .before .before .before .before .pre .1) (c .before .before .before .match-case .ensures)) .first
 
 collect-match-case-collect-stmts-requires :
     (t : ℕ) → collect-match-case-lts.Need-collect-stmts-requires (collect-match-case-claims t) (collect-match-case-at t) collect-match-case.Post
-collect-match-case-collect-stmts-requires t c κs = let o = matchCase _ _ _ (c .before .before .before .before .before .before .before .before .before .before .before .before .pre .1) (c .before .before .before .before .before .before .before .match-case .ensures) in (let e = o .node in omega arith, o .second (c .before .before .before .collect-term .ensures .count))
+collect-match-case-collect-stmts-requires t c κs = let o = matchCase _ _ _ (c .before .before .before .before .before .before .before .before .before .before .before .pre .1) (c .before .before .before .before .before .before .before .match-case .ensures) in (let e = o .node in omega arith, o .second (c .before .before .before .collect-term .ensures .count))
 
 collect-match-case-same-length : (t : ℕ) → collect-match-case-lts.Need-same-length (collect-match-case-claims t) (collect-match-case-at t) collect-match-case.Post
 collect-match-case-same-length t c = search needs
 
 collect-match-case-returns : (t : ℕ) → collect-match-case-lts.Need-returns (collect-match-case-claims t) (collect-match-case-at t) collect-match-case.Post
-collect-match-case-returns t c = appended-as ((matchCase _ _ _ (c .before .before .before .before .before .before .before .before .before .before .before .before .before .before .before .pre .1) (c .before .before .before .before .before .before .before .before .before .before .match-case .ensures)) .whole) (appended-next (c .before .before .before .before .before .before .collect-term .ensures) (c .before .before .collect-stmts .ensures))
+collect-match-case-returns t c = appended-as ((matchCase _ _ _ (c .before .before .before .before .before .before .before .before .before .before .before .before .before .before .pre .1) (c .before .before .before .before .before .before .before .before .before .before .match-case .ensures)) .whole) (appended-next (c .before .before .before .before .before .before .collect-term .ensures) (c .before .before .collect-stmts .ensures))
 
 collect-stmt-stmt-requires : (t : ℕ) → collect-stmt-lts.Need-stmt-requires (collect-stmt-claims t) (collect-stmt-at t) collect-stmt.Post
 collect-stmt-stmt-requires t c κs = search needs
@@ -237,7 +237,7 @@ collect-stmt-if-stmt-requires : (t : ℕ) → collect-stmt-lts.Need-if-stmt-requ
 collect-stmt-if-stmt-requires t c κs = search needs
 
 collect-stmt-collect-if-atom-requires : (t : ℕ) → collect-stmt-lts.Need-collect-if-atom-requires (collect-stmt-claims t) (collect-stmt-at t) collect-stmt.Post
-collect-stmt-collect-if-atom-requires t c κs = (if-stmt _ _ _ (stmt-case _ _ _ (c .before .before .before .before .before .before .before .before .before .before .before .pre .1) (c .before .before .before .before .before .before .stmt .ensures) (c .before .before .before .before .id .given .1)) (c .before .before .if-stmt .ensures)) .ready
+collect-stmt-collect-if-atom-requires t c κs = (if-stmt _ _ _ (stmt-case _ _ _ (c .before .before .before .before .before .before .before .before .before .before .pre .1) (c .before .before .before .before .before .before .stmt .ensures) (c .before .before .before .before .id .given .1)) (c .before .before .if-stmt .ensures)) .ready
 
 collect-stmt-enum-known-id-2 : (t : ℕ) → collect-stmt-lts.Need-enum-known-id-2 (collect-stmt-claims t) (collect-stmt-at t) collect-stmt.Post
 collect-stmt-enum-known-id-2 t c = search needs
@@ -247,43 +247,43 @@ collect-stmt-then-stmt-requires t c κs = search needs
 
 collect-stmt-collect-then-atom-requires :
     (t : ℕ) → collect-stmt-lts.Need-collect-then-atom-requires (collect-stmt-claims t) (collect-stmt-at t) collect-stmt.Post
-collect-stmt-collect-then-atom-requires t c κs = (then-stmt _ _ _ (stmt-case _ _ _ (c .before .before .before .before .before .before .before .before .before .before .before .pre .1) (c .before .before .before .before .before .before .stmt .ensures) (c .before .before .before .before .id2 .given .1)) (c .before .before .then-stmt .ensures)) .ready
+collect-stmt-collect-then-atom-requires t c κs = (then-stmt _ _ _ (stmt-case _ _ _ (c .before .before .before .before .before .before .before .before .before .before .pre .1) (c .before .before .before .before .before .before .stmt .ensures) (c .before .before .before .before .id2 .given .1)) (c .before .before .then-stmt .ensures)) .ready
 
 collect-stmt-enum-known-id-3 : (t : ℕ) → collect-stmt-lts.Need-enum-known-id-3 (collect-stmt-claims t) (collect-stmt-at t) collect-stmt.Post
 collect-stmt-enum-known-id-3 t c = search needs
 
 collect-stmt-collect-branch-requires : (t : ℕ) → collect-stmt-lts.Need-collect-branch-requires (collect-stmt-claims t) (collect-stmt-at t) collect-stmt.Post
-collect-stmt-collect-branch-requires t c κs = let o = stmt-case _ _ _ (c .before .before .before .before .before .before .before .before .before .pre .1) (c .before .before .before .before .stmt .ensures) (c .before .before .id3 .given .1) in (let l = o .low in omega arith, o .ready)
+collect-stmt-collect-branch-requires t c κs = let o = stmt-case _ _ _ (c .before .before .before .before .before .before .before .before .pre .1) (c .before .before .before .before .stmt .ensures) (c .before .before .id3 .given .1) in (let l = o .low in omega arith, o .ready)
 
 collect-stmt-enum-known-id-4 : (t : ℕ) → collect-stmt-lts.Need-enum-known-id-4 (collect-stmt-claims t) (collect-stmt-at t) collect-stmt.Post
 collect-stmt-enum-known-id-4 t c = search needs
 
 collect-stmt-collect-match-requires : (t : ℕ) → collect-stmt-lts.Need-collect-match-requires (collect-stmt-claims t) (collect-stmt-at t) collect-stmt.Post
-collect-stmt-collect-match-requires t c κs = let o = stmt-case _ _ _ (c .before .before .before .before .before .before .before .before .before .pre .1) (c .before .before .before .before .stmt .ensures) (c .before .before .id4 .given .1) in (let l = o .low in omega arith, o .ready)
+collect-stmt-collect-match-requires t c κs = let o = stmt-case _ _ _ (c .before .before .before .before .before .before .before .before .pre .1) (c .before .before .before .before .stmt .ensures) (c .before .before .id4 .given .1) in (let l = o .low in omega arith, o .ready)
 
 collect-stmt-same-length : (t : ℕ) → collect-stmt-lts.Need-same-length (collect-stmt-claims t) (collect-stmt-at t) collect-stmt.Post
 collect-stmt-same-length t c = search needs
 
 collect-stmt-returns : (t : ℕ) → collect-stmt-lts.Need-returns (collect-stmt-claims t) (collect-stmt-at t) collect-stmt.Post
-collect-stmt-returns t c = appended-as ((if-stmt _ _ _ (stmt-case _ _ _ (c .before .before .before .before .before .before .before .before .before .before .before .before .before .before .pre .1) (c .before .before .before .before .before .before .before .before .before .stmt .ensures) (c .before .before .before .before .before .before .before .id .given .1)) (c .before .before .before .before .before .if-stmt .ensures)) .whole) (c .before .before .collect-if-atom .ensures)
+collect-stmt-returns t c = appended-as ((if-stmt _ _ _ (stmt-case _ _ _ (c .before .before .before .before .before .before .before .before .before .before .before .before .before .pre .1) (c .before .before .before .before .before .before .before .before .before .stmt .ensures) (c .before .before .before .before .before .before .before .id .given .1)) (c .before .before .before .before .before .if-stmt .ensures)) .whole) (c .before .before .collect-if-atom .ensures)
 
 collect-stmt-same-length-2 : (t : ℕ) → collect-stmt-lts.Need-same-length-2 (collect-stmt-claims t) (collect-stmt-at t) collect-stmt.Post
 collect-stmt-same-length-2 t c = search needs
 
 collect-stmt-returns-2 : (t : ℕ) → collect-stmt-lts.Need-returns-2 (collect-stmt-claims t) (collect-stmt-at t) collect-stmt.Post
-collect-stmt-returns-2 t c = appended-as ((then-stmt _ _ _ (stmt-case _ _ _ (c .before .before .before .before .before .before .before .before .before .before .before .before .before .before .pre .1) (c .before .before .before .before .before .before .before .before .before .stmt .ensures) (c .before .before .before .before .before .before .before .id2 .given .1)) (c .before .before .before .before .before .then-stmt .ensures)) .whole) (c .before .before .collect-then-atom .ensures)
+collect-stmt-returns-2 t c = appended-as ((then-stmt _ _ _ (stmt-case _ _ _ (c .before .before .before .before .before .before .before .before .before .before .before .before .before .pre .1) (c .before .before .before .before .before .before .before .before .before .stmt .ensures) (c .before .before .before .before .before .before .before .id2 .given .1)) (c .before .before .before .before .before .then-stmt .ensures)) .whole) (c .before .before .collect-then-atom .ensures)
 
 collect-stmt-same-length-3 : (t : ℕ) → collect-stmt-lts.Need-same-length-3 (collect-stmt-claims t) (collect-stmt-at t) collect-stmt.Post
 collect-stmt-same-length-3 t c = search needs
 
 collect-stmt-returns-3 : (t : ℕ) → collect-stmt-lts.Need-returns-3 (collect-stmt-claims t) (collect-stmt-at t) collect-stmt.Post
-collect-stmt-returns-3 t c = appended-as ((stmt-case _ _ _ (c .before .before .before .before .before .before .before .before .before .before .before .before .pre .1) (c .before .before .before .before .before .before .before .stmt .ensures) (c .before .before .before .before .before .id3 .given .1)) .whole) (c .before .before .collect-branch .ensures)
+collect-stmt-returns-3 t c = appended-as ((stmt-case _ _ _ (c .before .before .before .before .before .before .before .before .before .before .before .pre .1) (c .before .before .before .before .before .before .before .stmt .ensures) (c .before .before .before .before .before .id3 .given .1)) .whole) (c .before .before .collect-branch .ensures)
 
 collect-stmt-same-length-4 : (t : ℕ) → collect-stmt-lts.Need-same-length-4 (collect-stmt-claims t) (collect-stmt-at t) collect-stmt.Post
 collect-stmt-same-length-4 t c = search needs
 
 collect-stmt-returns-4 : (t : ℕ) → collect-stmt-lts.Need-returns-4 (collect-stmt-claims t) (collect-stmt-at t) collect-stmt.Post
-collect-stmt-returns-4 t c = appended-as ((stmt-case _ _ _ (c .before .before .before .before .before .before .before .before .before .before .before .before .pre .1) (c .before .before .before .before .before .before .before .stmt .ensures) (c .before .before .before .before .before .id4 .given .1)) .whole) (c .before .before .collect-match .ensures)
+collect-stmt-returns-4 t c = appended-as ((stmt-case _ _ _ (c .before .before .before .before .before .before .before .before .before .before .before .pre .1) (c .before .before .before .before .before .before .before .stmt .ensures) (c .before .before .before .before .before .id4 .given .1)) .whole) (c .before .before .collect-match .ensures)
 
 abbrev collect-stmts-Inv-loop : collect-stmts-lts.InvT-loop
 collect-stmts-Inv-loop image table symbols env rows₀ written stmts i₀ after₀ rows i after = RowsLeft image (sought table symbols) (stmts .0) i written rows₀ after rows
@@ -292,13 +292,13 @@ abbrev collect-stmts-μ-loop : collect-stmts-lts.MeasureT-loop
 collect-stmts-μ-loop image table symbols env rows₀ written stmts i₀ after₀ rows i after = stmts .0 .count - i
 
 collect-stmts-loop-holds : (t : ℕ) → collect-stmts-lts.Need-loop-holds (collect-stmts-claims t) (collect-stmts-at t) collect-stmts.Post collect-stmts-Inv-loop collect-stmts-μ-loop
-collect-stmts-loop-holds t c = rows-start _ _ _ (c .before .before .before .before .pre .1)
+collect-stmts-loop-holds t c = rows-start _ _ _ (c .before .before .before .pre .1)
 
 collect-stmts-nth-stmt-requires : (t : ℕ) → collect-stmts-lts.Need-nth-stmt-requires (collect-stmts-claims t) (collect-stmts-at t) collect-stmts.Post collect-stmts-Inv-loop collect-stmts-μ-loop
-collect-stmts-nth-stmt-requires t c κs = let s = c .before .before .before .before .before .before .before .pre .1 .run .short in omega arith
+collect-stmts-nth-stmt-requires t c κs = let s = c .before .before .before .before .before .before .pre .1 .run .short in omega arith
 
 collect-stmts-collect-stmt-requires : (t : ℕ) → collect-stmts-lts.Need-collect-stmt-requires (collect-stmts-claims t) (collect-stmts-at t) collect-stmts.Post collect-stmts-Inv-loop collect-stmts-μ-loop
-collect-stmts-collect-stmt-requires t c κs = let o = stmt-item _ _ _ (c .before .before .before .before .before .before .before .before .before .pre .1) (c .before .before .before .before .loop .inv) (c .before .before .if1 .taken) (c .before .nth-stmt .ensures) in (let l = o .low in omega arith, o .ready)
+collect-stmts-collect-stmt-requires t c κs = let o = stmt-item _ _ _ (c .before .before .before .before .before .before .before .before .pre .1) (c .before .before .before .before .loop .inv) (c .before .before .if1 .taken) (c .before .nth-stmt .ensures) in (let l = o .low in omega arith, o .ready)
 
 collect-stmts-add-i : (t : ℕ) → collect-stmts-lts.Need-add-i (collect-stmts-claims t) (collect-stmts-at t) collect-stmts.Post collect-stmts-Inv-loop collect-stmts-μ-loop
 collect-stmts-add-i t c = search needs
@@ -307,7 +307,7 @@ collect-stmts-loop-less : (t : ℕ) → collect-stmts-lts.Need-loop-less (collec
 collect-stmts-loop-less t c = search needs
 
 collect-stmts-loop-again : (t : ℕ) → collect-stmts-lts.Need-loop-again (collect-stmts-claims t) (collect-stmts-at t) collect-stmts.Post collect-stmts-Inv-loop collect-stmts-μ-loop
-collect-stmts-loop-again t c = rows-next _ _ _ (c .before .before .before .before .before .before .before .loop .inv) (stmt-item _ _ _ (c .before .before .before .before .before .before .before .before .before .before .before .before .pre .1) (c .before .before .before .before .before .before .before .loop .inv) (c .before .before .before .before .before .if1 .taken) (c .before .before .before .before .nth-stmt .ensures)) (c .before .before .collect-stmt .ensures) (c .before .before .collect-stmt .kept .1 .1 .1 .1 .0)
+collect-stmts-loop-again t c = rows-next _ _ _ (c .before .before .before .before .before .before .before .loop .inv) (stmt-item _ _ _ (c .before .before .before .before .before .before .before .before .before .before .before .pre .1) (c .before .before .before .before .before .before .before .loop .inv) (c .before .before .before .before .before .if1 .taken) (c .before .before .before .before .nth-stmt .ensures)) (c .before .before .collect-stmt .ensures) (c .before .before .collect-stmt .kept .1 .1 .1 .1 .0)
 
 collect-stmts-same-length : (t : ℕ) → collect-stmts-lts.Need-same-length (collect-stmts-claims t) (collect-stmts-at t) collect-stmts.Post collect-stmts-Inv-loop collect-stmts-μ-loop
 collect-stmts-same-length t c = c .before .before .loop .inv .left .long

@@ -70,7 +70,7 @@ collect-decl-rule-decl-requires : (t : ℕ) → collect-decl-lts.Need-rule-decl-
 collect-decl-rule-decl-requires t c κs = search needs
 
 collect-decl-collect-stmts-requires : (t : ℕ) → collect-decl-lts.Need-collect-stmts-requires (collect-decl-claims t) (collect-decl-at t) collect-decl.Post
-collect-decl-collect-stmts-requires t c κs = (ruleRun _ _ _ ((decl-case _ _ _ (c .before .before .before .before .before .before .before .before .before .before .before .pre .1) (c .before .before .before .before .before .before .decl .ensures) (c .before .before .before .before .id .given .1)) .listing) (c .before .before .rule-decl .ensures)) .run
+collect-decl-collect-stmts-requires t c κs = (ruleRun _ _ _ ((decl-case _ _ _ (c .before .before .before .before .before .before .before .before .before .before .pre .1) (c .before .before .before .before .before .before .decl .ensures) (c .before .before .before .before .id .given .1)) .listing) (c .before .before .rule-decl .ensures)) .run
 
 collect-decl-enum-known-id-2 : (t : ℕ) → collect-decl-lts.Need-enum-known-id-2 (collect-decl-claims t) (collect-decl-at t) collect-decl.Post
 collect-decl-enum-known-id-2 t c = search needs
@@ -79,23 +79,23 @@ collect-decl-model-decl-requires : (t : ℕ) → collect-decl-lts.Need-model-dec
 collect-decl-model-decl-requires t c κs = search needs
 
 collect-decl-collect-decls-requires : (t : ℕ) → collect-decl-lts.Need-collect-decls-requires (collect-decl-claims t) (collect-decl-at t) collect-decl.Post
-collect-decl-collect-decls-requires t c κs = let d = decl-case _ _ _ (c .before .before .before .before .before .before .before .before .before .before .before .pre .1) (c .before .before .before .before .before .before .decl .ensures) (c .before .before .before .before .id2 .given .1) in let m = modelRun _ _ _ (d .listing) (c .before .before .model-decl .ensures) in (let l = d .low in let e = m .node in omega arith, m .run)
+collect-decl-collect-decls-requires t c κs = let d = decl-case _ _ _ (c .before .before .before .before .before .before .before .before .before .before .pre .1) (c .before .before .before .before .before .before .decl .ensures) (c .before .before .before .before .id2 .given .1) in let m = modelRun _ _ _ (d .listing) (c .before .before .model-decl .ensures) in (let l = d .low in let e = m .node in omega arith, m .run)
 
 collect-decl-returns : (t : ℕ) → collect-decl-lts.Need-returns (collect-decl-claims t) (collect-decl-at t) collect-decl.Post
 unfolding joined
-collect-decl-returns t c = appended-no _ _ (ap joined (decl-none _ _ _ (c .before .before .before .before .before .before .pre .1) (c .before .decl .ensures) (c .match .keys1)))
+collect-decl-returns t c = appended-no _ _ (ap joined (decl-none _ _ _ (c .before .before .before .before .before .pre .1) (c .before .decl .ensures) (c .match .keys1)))
 
 collect-decl-same-length : (t : ℕ) → collect-decl-lts.Need-same-length (collect-decl-claims t) (collect-decl-at t) collect-decl.Post
 collect-decl-same-length t c = search needs
 
 collect-decl-returns-2 : (t : ℕ) → collect-decl-lts.Need-returns-2 (collect-decl-claims t) (collect-decl-at t) collect-decl.Post
-collect-decl-returns-2 t c = appended-as (ap joined ((decl-case _ _ _ (c .before .before .before .before .before .before .before .before .before .before .before .before .before .before .pre .1) (c .before .before .before .before .before .before .before .before .before .decl .ensures) (c .before .before .before .before .before .before .before .id .given .1)) .whole) ∙ (ruleRun _ _ _ ((decl-case _ _ _ (c .before .before .before .before .before .before .before .before .before .before .before .before .before .before .pre .1) (c .before .before .before .before .before .before .before .before .before .decl .ensures) (c .before .before .before .before .before .before .before .id .given .1)) .listing) (c .before .before .before .before .before .rule-decl .ensures)) .whole) (c .before .before .collect-stmts .ensures)
+collect-decl-returns-2 t c = appended-as (ap joined ((decl-case _ _ _ (c .before .before .before .before .before .before .before .before .before .before .before .before .before .pre .1) (c .before .before .before .before .before .before .before .before .before .decl .ensures) (c .before .before .before .before .before .before .before .id .given .1)) .whole) ∙ (ruleRun _ _ _ ((decl-case _ _ _ (c .before .before .before .before .before .before .before .before .before .before .before .before .before .pre .1) (c .before .before .before .before .before .before .before .before .before .decl .ensures) (c .before .before .before .before .before .before .before .id .given .1)) .listing) (c .before .before .before .before .before .rule-decl .ensures)) .whole) (c .before .before .collect-stmts .ensures)
 
 collect-decl-same-length-2 : (t : ℕ) → collect-decl-lts.Need-same-length-2 (collect-decl-claims t) (collect-decl-at t) collect-decl.Post
 collect-decl-same-length-2 t c = search needs
 
 collect-decl-returns-3 : (t : ℕ) → collect-decl-lts.Need-returns-3 (collect-decl-claims t) (collect-decl-at t) collect-decl.Post
-collect-decl-returns-3 t c = appended-as (ap joined ((decl-case _ _ _ (c .before .before .before .before .before .before .before .before .before .before .before .before .before .before .pre .1) (c .before .before .before .before .before .before .before .before .before .decl .ensures) (c .before .before .before .before .before .before .before .id2 .given .1)) .whole ∙ (modelRun _ _ _ ((decl-case _ _ _ (c .before .before .before .before .before .before .before .before .before .before .before .before .before .before .pre .1) (c .before .before .before .before .before .before .before .before .before .decl .ensures) (c .before .before .before .before .before .before .before .id2 .given .1)) .listing) (c .before .before .before .before .before .model-decl .ensures)) .whole)) (c .before .before .collect-decls .ensures)
+collect-decl-returns-3 t c = appended-as (ap joined ((decl-case _ _ _ (c .before .before .before .before .before .before .before .before .before .before .before .before .before .pre .1) (c .before .before .before .before .before .before .before .before .before .decl .ensures) (c .before .before .before .before .before .before .before .id2 .given .1)) .whole ∙ (modelRun _ _ _ ((decl-case _ _ _ (c .before .before .before .before .before .before .before .before .before .before .before .before .before .pre .1) (c .before .before .before .before .before .before .before .before .before .decl .ensures) (c .before .before .before .before .before .before .before .id2 .given .1)) .listing) (c .before .before .before .before .before .model-decl .ensures)) .whole)) (c .before .before .collect-decls .ensures)
 
 abbrev collect-decls-Inv-loop : collect-decls-lts.InvT-loop
 collect-decls-Inv-loop image table symbols env rows₀ written decls i₀ after₀ rows i after = DeclsLeft image (sought table symbols) (decls .0) i written rows₀ after rows
@@ -104,13 +104,13 @@ abbrev collect-decls-μ-loop : collect-decls-lts.MeasureT-loop
 collect-decls-μ-loop image table symbols env rows₀ written decls i₀ after₀ rows i after = decls .0 .count - i
 
 collect-decls-loop-holds : (t : ℕ) → collect-decls-lts.Need-loop-holds (collect-decls-claims t) (collect-decls-at t) collect-decls.Post collect-decls-Inv-loop collect-decls-μ-loop
-collect-decls-loop-holds t c = decls-start _ _ _ (c .before .before .before .before .pre .1)
+collect-decls-loop-holds t c = decls-start _ _ _ (c .before .before .before .pre .1)
 
 collect-decls-nth-decl-requires : (t : ℕ) → collect-decls-lts.Need-nth-decl-requires (collect-decls-claims t) (collect-decls-at t) collect-decls.Post collect-decls-Inv-loop collect-decls-μ-loop
-collect-decls-nth-decl-requires t c κs = let s = c .before .before .before .before .before .before .before .pre .1 .run .short in omega arith
+collect-decls-nth-decl-requires t c κs = let s = c .before .before .before .before .before .before .pre .1 .run .short in omega arith
 
 collect-decls-collect-decl-requires : (t : ℕ) → collect-decls-lts.Need-collect-decl-requires (collect-decls-claims t) (collect-decls-at t) collect-decls.Post collect-decls-Inv-loop collect-decls-μ-loop
-collect-decls-collect-decl-requires t c κs = let o = decls-item _ _ _ (c .before .before .before .before .before .before .before .before .before .pre .1) (c .before .before .before .before .loop .inv) (c .before .before .if1 .taken) (c .before .nth-decl .ensures) in (let l = o .low in omega arith, o .listing)
+collect-decls-collect-decl-requires t c κs = let o = decls-item _ _ _ (c .before .before .before .before .before .before .before .before .pre .1) (c .before .before .before .before .loop .inv) (c .before .before .if1 .taken) (c .before .nth-decl .ensures) in (let l = o .low in omega arith, o .listing)
 
 collect-decls-add-i : (t : ℕ) → collect-decls-lts.Need-add-i (collect-decls-claims t) (collect-decls-at t) collect-decls.Post collect-decls-Inv-loop collect-decls-μ-loop
 collect-decls-add-i t c = search needs
@@ -119,7 +119,7 @@ collect-decls-loop-less : (t : ℕ) → collect-decls-lts.Need-loop-less (collec
 collect-decls-loop-less t c = search needs
 
 collect-decls-loop-again : (t : ℕ) → collect-decls-lts.Need-loop-again (collect-decls-claims t) (collect-decls-at t) collect-decls.Post collect-decls-Inv-loop collect-decls-μ-loop
-collect-decls-loop-again t c = decls-next _ _ _ (c .before .before .before .before .before .before .before .loop .inv) (decls-item _ _ _ (c .before .before .before .before .before .before .before .before .before .before .before .before .pre .1) (c .before .before .before .before .before .before .before .loop .inv) (c .before .before .before .before .before .if1 .taken) (c .before .before .before .before .nth-decl .ensures)) (c .before .before .collect-decl .ensures) (c .before .before .collect-decl .kept .1 .1 .1 .1 .0)
+collect-decls-loop-again t c = decls-next _ _ _ (c .before .before .before .before .before .before .before .loop .inv) (decls-item _ _ _ (c .before .before .before .before .before .before .before .before .before .before .before .pre .1) (c .before .before .before .before .before .before .before .loop .inv) (c .before .before .before .before .before .if1 .taken) (c .before .before .before .before .nth-decl .ensures)) (c .before .before .collect-decl .ensures) (c .before .before .collect-decl .kept .1 .1 .1 .1 .0)
 
 collect-decls-same-length : (t : ℕ) → collect-decls-lts.Need-same-length (collect-decls-claims t) (collect-decls-at t) collect-decls.Post collect-decls-Inv-loop collect-decls-μ-loop
 collect-decls-same-length t c = c .before .before .loop .inv .left .long

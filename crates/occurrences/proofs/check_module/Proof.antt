@@ -14,7 +14,7 @@ node-count-requires : tie.Need-node-count-requires
 node-count-requires c κs = search needs
 
 sub-t10 : tie.Need-sub-t10
-sub-t10 c = let s = (sized _ (c .before .before .before .before .pre .0 .accepted)) .some in let e = c .node-count .ensures in omega arith
+sub-t10 c = let s = (sized _ (c .before .before .before .pre .0 .accepted)) .some in let e = c .node-count .ensures in omega arith
 
 module-requires : tie.Need-module-requires
 module-requires c κs = search needs
@@ -27,11 +27,11 @@ slice-aggregate-check-decls-2 c = search needs
 
 check-decls-requires : tie.Need-check-decls-requires
 unfolding last
-check-decls-requires c κs = ((moduleRun _ _ _ (c .before .before .before .before .before .before .before .before .pre .0) (ap (λ (x : ℕ). x - 1) (c .before .before .before .before .node-count .ensures)) (c .before .before .before .«module» .ensures)) .run, record { symbols = c .before .before .before .before .before .before .before .before .pre .1; long = (let s = (sized _ (c .before .before .before .before .before .before .before .before .pre .0 .accepted)) .fewNodes in let e = length-replicate {A = ℕ} 4097 0 in omega arith); zeros = refl })
+check-decls-requires c κs = ((moduleRun _ _ _ (c .before .before .before .before .before .before .before .pre .0) (ap (λ (x : ℕ). x - 1) (c .before .before .before .before .node-count .ensures)) (c .before .before .before .«module» .ensures)) .run, record { symbols = c .before .before .before .before .before .before .before .pre .1; long = (let s = (sized _ (c .before .before .before .before .before .before .before .pre .0 .accepted)) .fewNodes in let e = length-replicate {A = ℕ} 4097 0 in omega arith); zeros = refl })
 
 returns : tie.Need-returns
 unfolding last
-returns c = c .before .before .check-decls .ensures .lone-is ∙ sym (ap lone ((moduleRun _ _ _ (c .before .before .before .before .before .before .before .before .before .before .before .pre .0) (ap (λ (x : ℕ). x - 1) (c .before .before .before .before .before .before .before .node-count .ensures)) (c .before .before .before .before .before .before .«module» .ensures)) .by-rule))
+returns c = c .before .before .check-decls .ensures .lone-is ∙ sym (ap lone ((moduleRun _ _ _ (c .before .before .before .before .before .before .before .before .before .before .pre .0) (ap (λ (x : ℕ). x - 1) (c .before .before .before .before .before .before .before .node-count .ensures)) (c .before .before .before .before .before .before .«module» .ensures)) .by-rule))
 
 pub check-module-spec : {M : Type 1} → statement M
 check-module-spec =

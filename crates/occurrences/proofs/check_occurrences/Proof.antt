@@ -17,20 +17,14 @@ returns : tie.Need-returns
 unfolding once
 returns c = call-refused _ _ _ _ (c .before .test-table .ensures) (c .if1 .taken)
 
-slice-aggregate-resolve-into : tie.Need-slice-aggregate-resolve-into
-slice-aggregate-resolve-into c = search needs
-
 resolve-into-requires : tie.Need-resolve-into-requires
 resolve-into-requires c κs = (sym (c .before .before .before .test-table .ensures) ∙ c .before .before .if1 .left, refl)
 
 enum-known-w : tie.Need-enum-known-w
 enum-known-w c = search needs
 
-slice-aggregate-check-module : tie.Need-slice-aggregate-check-module
-slice-aggregate-check-module c = search needs
-
 check-module-requires : tie.Need-check-module-requires
-check-module-requires c κs = (whole _ _ (sym (c .before .before .before .before .before .before .before .before .before .before .before .before .test-table .ensures) ∙ c .before .before .before .before .before .before .before .before .before .before .before .if1 .left) (c .before .before .before .before .before .before .before .before .resolve-into .ensures .0) (c .before .before .before .w .given .1) (c .before .before .before .before .before .before .before .before .resolve-into .ensures .1), symbols _ _ (sym (c .before .before .before .before .before .before .before .before .before .before .before .before .test-table .ensures) ∙ c .before .before .before .before .before .before .before .before .before .before .before .if1 .left) (c .before .before .before .before .before .before .before .before .resolve-into .ensures .0) (c .before .before .before .w .given .1))
+check-module-requires c κs = (whole _ _ (sym (c .before .before .before .before .before .before .before .before .before .before .before .test-table .ensures) ∙ c .before .before .before .before .before .before .before .before .before .before .if1 .left) (c .before .before .before .before .before .before .before .resolve-into .ensures .0) (c .before .before .before .w .given .1) (c .before .before .before .before .before .before .before .resolve-into .ensures .1), symbols _ _ (sym (c .before .before .before .before .before .before .before .before .before .before .before .test-table .ensures) ∙ c .before .before .before .before .before .before .before .before .before .before .if1 .left) (c .before .before .before .before .before .before .before .resolve-into .ensures .0) (c .before .before .before .w .given .1))
 
 enum-told : tie.Need-enum-told
 enum-told c = search needs
@@ -46,21 +40,21 @@ same-length-2 c = search needs
 
 returns-2 : tie.Need-returns-2
 unfolding loneAnswer
-returns-2 c = once-checked _ _ (sym (c .before .before .before .before .before .before .before .before .before .before .before .before .before .before .before .test-table .ensures) ∙ c .before .before .before .before .before .before .before .before .before .before .before .before .before .before .if1 .left) (c .before .before .before .before .before .before .before .before .before .before .before .resolve-into .ensures .0) (c .before .before .before .before .before .before .w .given .1) (sym (ap loneOf (c .enum-told .given .1)) ∙ c .before .before .check-module .ensures)
+returns-2 c = once-checked _ _ (sym (c .before .before .before .before .before .before .before .before .before .before .before .before .before .before .test-table .ensures) ∙ c .before .before .before .before .before .before .before .before .before .before .before .before .before .if1 .left) (c .before .before .before .before .before .before .before .before .before .before .resolve-into .ensures .0) (c .before .before .before .before .before .before .w .given .1) (sym (ap loneOf (c .enum-told .given .1)) ∙ c .before .before .check-module .ensures)
 
 same-length-3 : tie.Need-same-length-3
 same-length-3 c = search needs
 
 returns-3 : tie.Need-returns-3
 unfolding loneAnswer
-returns-3 c = once-checked _ _ (sym (c .before .before .before .before .before .before .before .before .before .before .before .before .before .before .before .before .test-table .ensures) ∙ c .before .before .before .before .before .before .before .before .before .before .before .before .before .before .before .if1 .left) (c .before .before .before .before .before .before .before .before .before .before .before .before .resolve-into .ensures .0) (c .before .before .before .before .before .before .before .w .given .1) (sym (ap loneOf (c .before .node .given .1)) ∙ c .before .before .before .check-module .ensures)
+returns-3 c = once-checked _ _ (sym (c .before .before .before .before .before .before .before .before .before .before .before .before .before .before .before .test-table .ensures) ∙ c .before .before .before .before .before .before .before .before .before .before .before .before .before .before .if1 .left) (c .before .before .before .before .before .before .before .before .before .before .before .resolve-into .ensures .0) (c .before .before .before .before .before .before .before .w .given .1) (sym (ap loneOf (c .before .node .given .1)) ∙ c .before .before .before .check-module .ensures)
 
 same-length-4 : tie.Need-same-length-4
 same-length-4 c = search needs
 
 returns-4 : tie.Need-returns-4
 unfolding once
-returns-4 c = call-stopped _ _ _ (sym (c .before .before .before .before .before .before .before .before .before .before .test-table .ensures) ∙ c .before .before .before .before .before .before .before .before .before .if1 .left) (c .before .before .before .before .before .before .resolve-into .ensures .0) (c .before .name .given .1)
+returns-4 c = call-stopped _ _ _ (sym (c .before .before .before .before .before .before .before .before .before .test-table .ensures) ∙ c .before .before .before .before .before .before .before .before .if1 .left) (c .before .before .before .before .before .resolve-into .ensures .0) (c .before .name .given .1)
 
 pub check-occurrences-spec : {M : Type 1} → statement M
 check-occurrences-spec =
@@ -69,10 +63,8 @@ check-occurrences-spec =
     test-table-requires
     same-length
     returns
-    slice-aggregate-resolve-into
     resolve-into-requires
     enum-known-w
-    slice-aggregate-check-module
     check-module-requires
     enum-told
     enum-known-node

@@ -8,7 +8,7 @@ rule-decl-requires : tie.Need-rule-decl-requires
 rule-decl-requires c κs = search needs
 
 collect-stmts-requires : tie.Need-collect-stmts-requires
-collect-stmts-requires c κs = (ruleRun _ _ _ (c .before .before .before .before .before .before .before .before .pre .0) (c .before .before .rule-decl .ensures)) .run
+collect-stmts-requires c κs = (ruleRun _ _ _ (c .before .before .before .before .before .before .before .pre .0) (c .before .before .rule-decl .ensures)) .run
 
 count-bindings-requires : tie.Need-count-bindings-requires
 count-bindings-requires c κs = search needs
@@ -26,7 +26,7 @@ same-length-2 : tie.Need-same-length-2
 same-length-2 c = search needs
 
 returns : tie.Need-returns
-returns c = searched _ _ _ (c .before .before .before .before .before .before .before .before .before .before .before .before .before .before .before .before .before .before .before .before .before .before .before .before .pre .0) (c .before .before .before .before .before .before .before .before .before .before .before .before .before .before .before .before .before .before .before .before .before .before .before .before .pre .1) (c .before .before .before .before .before .before .before .before .before .before .before .before .before .before .before .before .before .before .rule-decl .ensures) (c .before .before .before .before .before .before .before .before .before .before .before .before .before .before .before .collect-stmts .ensures) (c .before .before .before .before .before .before .before .before .before .before .count-bindings .ensures) (c .before .before .before .before .before .first-lone .ensures) (c .before .before .count-bindings2 .ensures)
+returns c = searched _ _ _ (c .before .before .before .before .before .before .before .before .before .before .before .before .before .before .before .before .before .before .before .before .before .before .before .pre .0) (c .before .before .before .before .before .before .before .before .before .before .before .before .before .before .before .before .before .before .before .before .before .before .before .pre .1) (c .before .before .before .before .before .before .before .before .before .before .before .before .before .before .before .before .before .before .rule-decl .ensures) (c .before .before .before .before .before .before .before .before .before .before .before .before .before .before .before .collect-stmts .ensures) (c .before .before .before .before .before .before .before .before .before .before .count-bindings .ensures) (c .before .before .before .before .before .first-lone .ensures) (c .before .before .count-bindings2 .ensures)
 
 pub check-rule-spec : {M : Type 1} → statement M
 check-rule-spec =

@@ -26,7 +26,7 @@ node-count-requires : tie.Need-node-count-requires
 node-count-requires c κs = search needs
 
 put-row-requires : tie.Need-put-row-requires
-put-row-requires c κs = ident-fits _ _ _ _ _ (sym (c .before .before .before .before .before .before .before .at-exit .ensures) ∙ ap optionOf (c .before .before .before .found .given .1)) (ap (isKind _ identTermKind) (sym (ap optionOf (c .before .before .before .found .given .1))) ∙ sym (c .before .before .before .before .before .before .is-var .ensures) ∙ not-false (c .before .before .before .before .before .before .is-var .result) (c .before .before .before .before .before .if1 .left)) (c .before .before .before .before .before .before .before .before .before .before .before .before .pre .0)
+put-row-requires c κs = ident-fits _ _ _ _ _ (sym (c .before .before .before .before .before .before .before .at-exit .ensures) ∙ ap optionOf (c .before .before .before .found .given .1)) (ap (isKind _ identTermKind) (sym (ap optionOf (c .before .before .before .found .given .1))) ∙ sym (c .before .before .before .before .before .before .is-var .ensures) ∙ not-false (c .before .before .before .before .before .before .is-var .result) (c .before .before .before .before .before .if1 .left)) (c .before .before .before .before .before .before .before .before .before .before .before .pre .0)
 
 enum-told : tie.Need-enum-told
 enum-told c = search needs

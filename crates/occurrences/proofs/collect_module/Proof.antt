@@ -13,21 +13,21 @@ node-count-requires : tie.Need-node-count-requires
 node-count-requires c κs = search needs
 
 sub-t9 : tie.Need-sub-t9
-sub-t9 c = let s = (sized _ (c .before .before .before .before .before .pre .accepted)) .some in let e = c .node-count .ensures in omega arith
+sub-t9 c = let s = (sized _ (c .before .before .before .before .pre .accepted)) .some in let e = c .node-count .ensures in omega arith
 
 module-requires : tie.Need-module-requires
 module-requires c κs = search needs
 
 collect-decls-requires : tie.Need-collect-decls-requires
 unfolding last
-collect-decls-requires c κs = (moduleRun _ _ _ (c .before .before .before .before .before .before .before .before .pre) (ap (λ (x : ℕ). x - 1) (c .before .before .before .node-count .ensures)) (c .before .before .«module» .ensures)) .run
+collect-decls-requires c κs = (moduleRun _ _ _ (c .before .before .before .before .before .before .before .pre) (ap (λ (x : ℕ). x - 1) (c .before .before .before .node-count .ensures)) (c .before .before .«module» .ensures)) .run
 
 same-length : tie.Need-same-length
 same-length c = search needs
 
 returns : tie.Need-returns
 unfolding last
-returns c = appended-as ((moduleRun _ _ _ (c .before .before .before .before .before .before .before .before .before .before .before .pre) (ap (λ (x : ℕ). x - 1) (c .before .before .before .before .before .before .node-count .ensures)) (c .before .before .before .before .before .«module» .ensures)) .whole) (c .before .before .collect-decls .ensures)
+returns c = appended-as ((moduleRun _ _ _ (c .before .before .before .before .before .before .before .before .before .before .pre) (ap (λ (x : ℕ). x - 1) (c .before .before .before .before .before .before .node-count .ensures)) (c .before .before .before .before .before .«module» .ensures)) .whole) (c .before .before .collect-decls .ensures)
 
 pub collect-module-spec : {M : Type 1} → statement M
 collect-module-spec =
