@@ -60,11 +60,14 @@ fn deepest() {
     use differential::inputs::{deep, DEEP};
     use differential::random::Random;
     use differential::reading::layout::{rows_words, table_words};
-    use differential::reading::tests::sizes;
-    let mut r = Random::new(SEED, 0);
+    use differential::reading::tests::{sizes, verdict};
     for form in DEEP {
-        let s = deep(form, 2048, &mut r);
-        let image = s.parts(&s.natural()).encode();
+        let image = (2000..=2048)
+            .rev()
+            .map(|nodes| deep(form, nodes, &mut Random::new(SEED, 0)))
+            .map(|s| s.parts(&s.natural()).encode())
+            .find(|image| verdict(image).is_none())
+            .expect("an image that is accepted");
         let calls = move || {
             let (subject, _) = subject();
             let mut table = vec![0; table_words(2048)];

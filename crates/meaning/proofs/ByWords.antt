@@ -16,8 +16,9 @@ use Rattle.ast.proofs.Row.{append-none, nodeOf}
 use Rattle.ast.proofs.Shapes.{tree-of, run-item}
 use Rattle.ast.proofs.Small.{Small, Smalls, tree-small, items-small}
 use Rattle.ast.proofs.Vars.{checkAll}
-use Rattle.table.specs.State.{Walked}
+use Rattle.table.specs.State.{Walked, marked}
 use Rattle.table.specs.Table.{lookup}
+use Rattle.table.proofs.Frame.{mark-lookup}
 use Rattle.environment.specs.Layout.{namesMost, standing}
 use Rattle.environment.specs.Stands.{told, Stands}
 use Rattle.ordered.specs.Promises.{over, inside, rest, Ends, Few, Ready, Variable, ReadyRun}
@@ -25,6 +26,7 @@ use Rattle.ordered.specs.Walk.{Role, walk, walkSeq}
 use Rattle.ordered.specs.Walk as walking
 use Rattle.ordered.proofs.Ends.{ends-as}
 use Rattle.ordered.proofs.Grows.{stays}
+use Rattle.ordered.proofs.Idents.{other-ends}
 use Rattle.ordered.proofs.Lists.{rest-start}
 use Rattle.ordered.proofs.Steps.{part-room, plain-whole}
 use Rattle.sight.proofs.Counting.{numbers-small}
@@ -103,6 +105,17 @@ module _ (img : List ℕ) where
       let d = below-plain (p .is) b in
       words-meet (below (treeAt img n)) (d .0) (d .1) e as-occurs
       ((part-room img p (plain-whole img e (p .is)) (stays (inside img walking.occurs n e))) .few) s h
+
+  -- what is below a term that is no ident: walk_term_case. The term's own mark alters no lookup
+  pub term-meets : {n : ℕ} {e f : Walked} {v w : List ℕ} → Ready img (kindOf termKind) n e → (field img n 0 ≡ 0 → ⊥) → Stands img e v
+      → Ends img (inside img walking.occurs n e) f w → Say f w (meet (nameOf img) (kindAt img) occurs (treeAt img n) (standsFor e))
+  unfolding marked inBody kindOf
+  term-meets {n} {e} {f} p z s h x l =
+      let k = other-ends img p z h refl in
+      (h .stands .here x l) .is
+      ∙ sym (mark-lookup img n (e .scope) (f .scope) (f .table) (p .is .below) (f .scope) x)
+      ∙ sym ((k .stands .here x l) .is)
+      ∙ walker-meets tt p s k x l
 
   -- the blocks of a branch: walk_blocks
   below-blocks : {n : ℕ} → Is img (kindOf branchStmtKind) n → below (treeAt img n) ≡ blocks img n (field img n 0) 1
