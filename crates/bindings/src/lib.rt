@@ -525,7 +525,13 @@ fn check_match_case_pattern(
 }
 
 // The head of a pattern is an ident that names a constructor.
-fn is_ctor_head(image: &[u8], table: &[u32], w: Walked, env: &[u16; environment::WORDS], head: AppHeadId) -> bool
+fn is_ctor_head(
+    image: &[u8],
+    table: &[u32],
+    w: Walked,
+    env: &[u16; environment::WORDS],
+    head: AppHeadId,
+) -> bool
     requires { ⌜ Ready (now image) (tableOf w (now table)) (now env) (kindOf appHeadKind) (head .0 .0) [] 0 ⌝ }
     ensures { λ r. ⌜ r ≡ isCtor (now (image .entry)) (tableOf w (now (table .entry))) (treeAt (now (image .entry)) (head .0 .0)) ⌝ }
 {

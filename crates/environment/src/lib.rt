@@ -172,7 +172,13 @@ fn outside(image: &[u8], table: &[u32], at: Walked) -> Walked
 }
 
 // The walk back in the scope `to`: what was introduced below it is put back, the last first. Scopes and rows go in step there.
-pub fn put_back(image: &[u8], table: &[u32], env: &mut [u16; WORDS], at: Walked, to: ScopeId) -> Walked
+pub fn put_back(
+    image: &[u8],
+    table: &[u32],
+    env: &mut [u16; WORDS],
+    at: Walked,
+    to: ScopeId,
+) -> Walked
     requires { ⌜ Stands (now image) (walkedOf at (now table)) (now env) × Path (now image) ((walkedOf at (now table)) .table) (to .0) (at .scope .0) ⌝ }
     ensures { λ r. ⌜ (walkedOf r (now (table .entry)) ≡ «state-spec».back (now (image .entry)) (to .0) (walkedOf at (now (table .entry)))) × Stands (now (image .entry)) (walkedOf r (now (table .entry))) (now (env .exit)) ⌝ }
 {

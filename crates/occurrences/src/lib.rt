@@ -54,7 +54,12 @@ pub enum Checked {
 }
 
 // Works in local arrays: one for the rows of a rule, one for the counts of its bindings.
-fn check_module(image: &[u8], table: &[u32], symbols: u32, env: &[u16; environment::WORDS]) -> Checked
+fn check_module(
+    image: &[u8],
+    table: &[u32],
+    symbols: u32,
+    env: &[u16; environment::WORDS],
+) -> Checked
     requires { ⌜ (Whole (now image) (sought (now table) symbols) (now env)) × (Nodes (now image) (sought (now table) symbols)) ⌝ }
     ensures { λ r. ⌜ loneOf r ≡ lone (rowsByRule (now (image .entry)) (sought (now (table .entry)) symbols) (moduleRules (now (image .entry)))) ⌝ }
 {
@@ -532,7 +537,13 @@ pub fn occurrences(image: &[u8], table: &mut [u32], rows: &mut [u32]) -> Rowed
 }
 
 // The rows of all rules in the lent words: a count, then two arrays of N words, unused places 0.
-fn write_rows(image: &[u8], table: &[u32], symbols: u32, env: &[u16; environment::WORDS], rows: &mut [u32]) -> u32
+fn write_rows(
+    image: &[u8],
+    table: &[u32],
+    symbols: u32,
+    env: &[u16; environment::WORDS],
+    rows: &mut [u32],
+) -> u32
     requires { ⌜ (Whole (now image) (sought (now table) symbols) (now env)) × (rowsLength («image-spec».nodes (now image)) ≤ length (now rows)) ⌝ }
     ensures { λ r. ⌜ Wrote («image-spec».nodes (now (image .entry))) (occurrenceRows (now (image .entry)) (sought (now (table .entry)) symbols)) (now (rows .entry)) r (now (rows .exit)) ⌝ }
 {
@@ -542,7 +553,13 @@ fn write_rows(image: &[u8], table: &[u32], symbols: u32, env: &[u16; environment
 }
 
 // The rows of all rules, in the list's order.
-fn collect_module(image: &[u8], table: &[u32], symbols: u32, env: &[u16; environment::WORDS], rows: &mut [u32]) -> u32
+fn collect_module(
+    image: &[u8],
+    table: &[u32],
+    symbols: u32,
+    env: &[u16; environment::WORDS],
+    rows: &mut [u32],
+) -> u32
     requires { ⌜ Whole (now image) (sought (now table) symbols) (now env) ⌝ }
     ensures { λ r. ⌜ Appended («image-spec».nodes (now (image .entry))) (occurrenceRows (now (image .entry)) (sought (now (table .entry)) symbols)) 0 (now (rows .entry)) r (now (rows .exit)) ⌝ }
 {

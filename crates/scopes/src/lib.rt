@@ -121,7 +121,11 @@ pub fn test_table(image: &[u8], table: &[u32]) -> u32
 
 // Resolve, where 1 to 13 refuse nothing: where the walk stands after the module, or the name that is declared twice. The
 // environment has what was noted then, for the checks.
-pub fn resolve_into(image: &[u8], table: &mut [u32], env: &mut [u16; environment::WORDS]) -> Declared
+pub fn resolve_into(
+    image: &[u8],
+    table: &mut [u32],
+    env: &mut [u16; environment::WORDS],
+) -> Declared
     requires { ⌜ (testTable (now image) (now table) ≡ 0) × (now env ≡ replicate environmentLength 0) ⌝ }
     ensures { λ r. ⌜ Resolves (now (image .entry)) (now (table .entry)) r (now (table .exit)) × NotedBy (now (image .entry)) r (now (table .exit)) (now (env .exit)) ⌝ }
 {
