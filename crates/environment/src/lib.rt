@@ -21,20 +21,22 @@ use table::Walked;
 // How many words an environment has: those of the names, then three arrays of as many words as there may be nodes.
 pub const WORDS: usize = 7168;
 
+pub type Words = [u16; WORDS];
+
 const HIDDEN: usize = 1024;
 
 const ENTRIES: usize = 3072;
 
 const EXITS: usize = 5120;
 
-fn get(env: &[u16; WORDS], i: usize) -> u16
+fn get(env: &Words, i: usize) -> u16
     requires { ⌜ i < environmentLength ⌝ }
     ensures { λ r. ⌜ r ≡ getD (now (env .entry)) i 0 ⌝ }
 {
     env[i]
 }
 
-fn put(env: &mut [u16; WORDS], i: usize, word: u16)
+fn put(env: &mut Words, i: usize, word: u16)
     requires { ⌜ i < environmentLength ⌝ }
     ensures { λ _. ⌜ now (env .exit) ≡ set (now (env .entry)) i word ⌝ }
 {
@@ -42,7 +44,7 @@ fn put(env: &mut [u16; WORDS], i: usize, word: u16)
 }
 
 // The word of a name: the row of the symbol that it stands for here, plus 1, or 0.
-pub fn stands(env: &[u16; WORDS], name: u32) -> u16
+pub fn stands(env: &Words, name: u32) -> u16
     requires { ⌜ name < namesMost ⌝ }
     ensures { λ r. ⌜ r ≡ standing (now (env .entry)) name ⌝ }
 {
@@ -66,7 +68,7 @@ pub fn found(image: &[u8], table: &[u32], word: u16) -> Found
 }
 
 // The name stands for the row from here on.
-fn bind(env: &mut [u16; WORDS], name: u32, row: u32)
+fn bind(env: &mut Words, name: u32, row: u32)
     requires { ⌜ (name < namesMost) × (row < nodesMost) ⌝ }
     ensures { λ _. ⌜ now (env .exit) ≡ «layout-spec».bound (now (env .entry)) name row ⌝ }
 {
@@ -79,7 +81,7 @@ fn bind(env: &mut [u16; WORDS], name: u32, row: u32)
 pub fn introduce(
     image: &[u8],
     table: &mut [u32],
-    env: &mut [u16; WORDS],
+    env: &mut Words,
     at: Walked,
     node: NodeId,
     name: u32,
@@ -95,7 +97,7 @@ pub fn introduce(
 pub fn enter(
     image: &[u8],
     table: &mut [u32],
-    env: &mut [u16; WORDS],
+    env: &mut Words,
     at: Walked,
     node: NodeId,
     name: u32,
@@ -111,7 +113,7 @@ pub fn enter(
 pub fn leave_asked(
     image: &[u8],
     table: &mut [u32],
-    env: &mut [u16; WORDS],
+    env: &mut Words,
     node: NodeId,
     name: u32,
     before: u16,
@@ -126,7 +128,7 @@ pub fn leave_asked(
     table::leave(image, table, node, at, w)
 }
 
-fn note(env: &mut [u16; WORDS], node: NodeId, before: u16, after: u16)
+fn note(env: &mut Words, node: NodeId, before: u16, after: u16)
     requires { ⌜ node .0 < nodesMost ⌝ }
     ensures { λ _. ⌜ now (env .exit) ≡ «layout-spec».noted (now (env .entry)) (node .0) before after ⌝ }
 {
@@ -135,7 +137,7 @@ fn note(env: &mut [u16; WORDS], node: NodeId, before: u16, after: u16)
 }
 
 // The row's name stands for what it did before the row.
-fn restore(image: &[u8], table: &[u32], env: &mut [u16; WORDS], row: u32)
+fn restore(image: &[u8], table: &[u32], env: &mut Words, row: u32)
     requires { ⌜ («image-spec».nameOf (now image) (nodeAt («image-spec».nodes (now image)) (now table) row) < namesMost) × (row < nodesMost) ⌝ }
     ensures { λ _. ⌜ now (env .exit) ≡ set (now (env .entry)) («image-spec».nameOf (now (image .entry)) (nodeAt («image-spec».nodes (now (image .entry))) (now (table .entry)) row)) (getD (now (env .entry)) (hiddenPlace row) 0) ⌝ }
 {
@@ -145,7 +147,7 @@ fn restore(image: &[u8], table: &[u32], env: &mut [u16; WORDS], row: u32)
 }
 
 // The names of the scope that the walk stands in, whose rows start with `first`, stand for what they do above it.
-pub fn leave_scope(image: &[u8], table: &[u32], env: &mut [u16; WORDS], at: Walked, first: u32)
+pub fn leave_scope(image: &[u8], table: &[u32], env: &mut Words, at: Walked, first: u32)
     requires { ⌜ Stands (now image) (walkedOf at (now table)) (now env) × First (now image) ((walkedOf at (now table)) .table) (at .scope .0) first ⌝ }
     ensures { λ _. ⌜ Stands (now (image .entry)) (above (now (image .entry)) (walkedOf at (now (table .entry)))) (now (env .exit)) ⌝ }
 {
@@ -172,21 +174,16 @@ fn outside(image: &[u8], table: &[u32], at: Walked) -> Walked
 }
 
 // The walk back in the scope `to`: what was introduced below it is put back, the last first. Scopes and rows go in step there.
-pub fn put_back(
-    image: &[u8],
-    table: &[u32],
-    env: &mut [u16; WORDS],
-    at: Walked,
-    to: ScopeId,
-) -> Walked
+pub fn put_back(image: &[u8], table: &[u32], env: &mut Words, at: Walked, to: ScopeId) -> Walked
     requires { ⌜ Stands (now image) (walkedOf at (now table)) (now env) × Path (now image) ((walkedOf at (now table)) .table) (to .0) (at .scope .0) ⌝ }
     ensures { λ r. ⌜ (walkedOf r (now (table .entry)) ≡ «state-spec».back (now (image .entry)) (to .0) (walkedOf at (now (table .entry)))) × Stands (now (image .entry)) (walkedOf r (now (table .entry))) (now (env .exit)) ⌝ }
 {
     let mut inner = at;
     while to.0 < inner.scope.0 {
         let row = inner.symbols - (inner.scopes - inner.scope.0);
+        let outer = outside(image, table, inner);
         leave_scope(image, table, env, inner, row);
-        inner = outside(image, table, inner);
+        inner = outer;
     }
     inner
 }
@@ -196,7 +193,7 @@ pub fn at_entry(
     image: &[u8],
     table: &[u32],
     symbols: u32,
-    env: &[u16; WORDS],
+    env: &Words,
     node: NodeId,
     ident: NodeId,
 ) -> Found
@@ -215,7 +212,7 @@ pub fn at_exit(
     image: &[u8],
     table: &[u32],
     symbols: u32,
-    env: &[u16; WORDS],
+    env: &Words,
     node: NodeId,
     ident: NodeId,
 ) -> Found
@@ -229,7 +226,7 @@ pub fn at_exit(
 // The word noted for a node; at the module's own scope, where nothing is noted, the word of the name.
 fn word_at(
     image: &[u8],
-    env: &[u16; WORDS],
+    env: &Words,
     scope: ScopeId,
     notes: usize,
     node: NodeId,

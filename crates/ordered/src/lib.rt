@@ -20,7 +20,7 @@ use typed::nodes::*;
 pub fn walk_arg_decl_list(
     image: &[u8],
     table: &mut [u32],
-    env: &mut [u16; environment::WORDS],
+    env: &mut environment::Words,
     current: Walked,
     list: ArgDeclListId,
 ) -> Walked
@@ -35,7 +35,7 @@ pub fn walk_arg_decl_list(
 fn walk_args(
     image: &[u8],
     table: &mut [u32],
-    env: &mut [u16; environment::WORDS],
+    env: &mut environment::Words,
     current: Walked,
     args: ArgDeclIds,
 ) -> Walked
@@ -55,7 +55,7 @@ fn walk_args(
 fn walk_arg_decl(
     image: &[u8],
     table: &mut [u32],
-    env: &mut [u16; environment::WORDS],
+    env: &mut environment::Words,
     current: Walked,
     arg: ArgDeclId,
 ) -> Walked
@@ -77,7 +77,7 @@ fn walk_arg_decl(
 pub fn walk_stmt_block(
     image: &[u8],
     table: &mut [u32],
-    env: &mut [u16; environment::WORDS],
+    env: &mut environment::Words,
     current: Walked,
     stmts: StmtIds,
 ) -> Walked
@@ -97,7 +97,7 @@ pub fn walk_stmt_block(
 fn walk_stmt(
     image: &[u8],
     table: &mut [u32],
-    env: &mut [u16; environment::WORDS],
+    env: &mut environment::Words,
     current: Walked,
     stmt: StmtId,
 ) -> Walked
@@ -111,7 +111,7 @@ fn walk_stmt(
 fn walk_stmt_case(
     image: &[u8],
     table: &mut [u32],
-    env: &mut [u16; environment::WORDS],
+    env: &mut environment::Words,
     current: Walked,
     stmt: StmtId,
 ) -> Walked
@@ -129,7 +129,7 @@ fn walk_stmt_case(
 fn walk_if_stmt(
     image: &[u8],
     table: &mut [u32],
-    env: &mut [u16; environment::WORDS],
+    env: &mut environment::Words,
     current: Walked,
     id: IfStmtId,
 ) -> Walked
@@ -144,7 +144,7 @@ fn walk_if_stmt(
 fn walk_then_stmt(
     image: &[u8],
     table: &mut [u32],
-    env: &mut [u16; environment::WORDS],
+    env: &mut environment::Words,
     current: Walked,
     id: ThenStmtId,
 ) -> Walked
@@ -159,7 +159,7 @@ fn walk_then_stmt(
 fn walk_branch(
     image: &[u8],
     table: &mut [u32],
-    env: &mut [u16; environment::WORDS],
+    env: &mut environment::Words,
     current: Walked,
     id: BranchStmtId,
 ) -> Walked
@@ -174,7 +174,7 @@ fn walk_branch(
 fn walk_blocks(
     image: &[u8],
     table: &mut [u32],
-    env: &mut [u16; environment::WORDS],
+    env: &mut environment::Words,
     current: Walked,
     id: BranchStmtId,
 ) -> Walked
@@ -199,7 +199,7 @@ fn walk_blocks(
 fn walk_match(
     image: &[u8],
     table: &mut [u32],
-    env: &mut [u16; environment::WORDS],
+    env: &mut environment::Words,
     current: Walked,
     id: MatchStmtId,
 ) -> Walked
@@ -216,7 +216,7 @@ fn walk_match(
 fn walk_cases(
     image: &[u8],
     table: &mut [u32],
-    env: &mut [u16; environment::WORDS],
+    env: &mut environment::Words,
     current: Walked,
     cases: MatchCaseIds,
 ) -> Walked
@@ -237,7 +237,7 @@ fn walk_cases(
 fn walk_match_case(
     image: &[u8],
     table: &mut [u32],
-    env: &mut [u16; environment::WORDS],
+    env: &mut environment::Words,
     current: Walked,
     case: MatchCaseId,
 ) -> Walked
@@ -255,7 +255,7 @@ fn walk_match_case(
 fn walk_if_atom(
     image: &[u8],
     table: &mut [u32],
-    env: &mut [u16; environment::WORDS],
+    env: &mut environment::Words,
     current: Walked,
     atom: IfAtomId,
 ) -> Walked
@@ -269,7 +269,7 @@ fn walk_if_atom(
 fn walk_if_atom_case(
     image: &[u8],
     table: &mut [u32],
-    env: &mut [u16; environment::WORDS],
+    env: &mut environment::Words,
     current: Walked,
     atom: IfAtomId,
 ) -> Walked
@@ -294,7 +294,7 @@ fn walk_if_atom_case(
 fn walk_var_atom(
     image: &[u8],
     table: &mut [u32],
-    env: &mut [u16; environment::WORDS],
+    env: &mut environment::Words,
     current: Walked,
     id: VarIfAtomId,
 ) -> Walked
@@ -310,7 +310,7 @@ fn walk_var_atom(
 fn walk_then_atom(
     image: &[u8],
     table: &mut [u32],
-    env: &mut [u16; environment::WORDS],
+    env: &mut environment::Words,
     current: Walked,
     atom: ThenAtomId,
 ) -> Walked
@@ -335,7 +335,7 @@ fn walk_then_atom(
 fn walk_then_defined_atom(
     image: &[u8],
     table: &mut [u32],
-    env: &mut [u16; environment::WORDS],
+    env: &mut environment::Words,
     current: Walked,
     atom: ThenAtomId,
     id: DefinedThenAtomId,
@@ -367,7 +367,7 @@ fn walk_then_defined_atom(
 fn walk_pred_atom(
     image: &[u8],
     table: &mut [u32],
-    env: &mut [u16; environment::WORDS],
+    env: &mut environment::Words,
     current: Walked,
     id: PredAtomId,
 ) -> Walked
@@ -384,7 +384,7 @@ fn walk_pred_atom(
 fn walk_term(
     image: &[u8],
     table: &mut [u32],
-    env: &mut [u16; environment::WORDS],
+    env: &mut environment::Words,
     current: Walked,
     term: TermId,
 ) -> Walked
@@ -404,7 +404,7 @@ fn walk_term(
 fn walk_term_case(
     image: &[u8],
     table: &mut [u32],
-    env: &mut [u16; environment::WORDS],
+    env: &mut environment::Words,
     current: Walked,
     term: TermId,
 ) -> Walked
@@ -437,7 +437,7 @@ fn walk_term_case(
 fn walk_app_term(
     image: &[u8],
     table: &mut [u32],
-    env: &mut [u16; environment::WORDS],
+    env: &mut environment::Words,
     current: Walked,
     id: AppTermId,
 ) -> Walked
@@ -454,7 +454,7 @@ fn walk_app_term(
 fn walk_one_term(
     image: &[u8],
     table: &mut [u32],
-    env: &mut [u16; environment::WORDS],
+    env: &mut environment::Words,
     current: Walked,
     id: NodeId,
     arg: TermId,
@@ -470,7 +470,7 @@ fn walk_one_term(
 fn walk_two_terms(
     image: &[u8],
     table: &mut [u32],
-    env: &mut [u16; environment::WORDS],
+    env: &mut environment::Words,
     current: Walked,
     id: NodeId,
     first: TermId,
@@ -487,7 +487,7 @@ fn walk_two_terms(
 fn walk_app_head(
     image: &[u8],
     table: &mut [u32],
-    env: &mut [u16; environment::WORDS],
+    env: &mut environment::Words,
     current: Walked,
     head: AppHeadId,
 ) -> Walked
@@ -511,7 +511,7 @@ fn walk_app_head(
 fn walk_head_ident(
     image: &[u8],
     table: &mut [u32],
-    env: &mut [u16; environment::WORDS],
+    env: &mut environment::Words,
     current: Walked,
     head: AppHeadId,
     ident: IdentTermId,
@@ -528,7 +528,7 @@ fn walk_head_ident(
 fn walk_app_head_member(
     image: &[u8],
     table: &mut [u32],
-    env: &mut [u16; environment::WORDS],
+    env: &mut environment::Words,
     current: Walked,
     id: AppHeadMemberId,
 ) -> Walked
@@ -560,7 +560,7 @@ fn walk_names(image: &[u8], table: &mut [u32], current: Walked, names: IdentTerm
 fn walk_ident_term(
     image: &[u8],
     table: &mut [u32],
-    env: &mut [u16; environment::WORDS],
+    env: &mut environment::Words,
     current: Walked,
     term: TermId,
     ident: IdentTermId,
@@ -587,7 +587,7 @@ fn is_value(image: &[u8], table: &[u32], word: u16) -> bool
 fn walk_var_term(
     image: &[u8],
     table: &mut [u32],
-    env: &mut [u16; environment::WORDS],
+    env: &mut environment::Words,
     current: Walked,
     term: TermId,
 ) -> Walked
@@ -604,7 +604,7 @@ fn walk_var_term(
 fn walk_var_ident(
     image: &[u8],
     table: &mut [u32],
-    env: &mut [u16; environment::WORDS],
+    env: &mut environment::Words,
     current: Walked,
     term: TermId,
     ident: IdentTermId,
@@ -625,7 +625,7 @@ fn walk_var_ident(
 fn walk_then_defined_var(
     image: &[u8],
     table: &mut [u32],
-    env: &mut [u16; environment::WORDS],
+    env: &mut environment::Words,
     current: Walked,
     atom: ThenAtomId,
     id: DefinedThenAtomId,
@@ -668,7 +668,7 @@ fn is_var(image: &[u8], table: &[u32], word: u16) -> bool
 fn bind_unless(
     image: &[u8],
     table: &mut [u32],
-    env: &mut [u16; environment::WORDS],
+    env: &mut environment::Words,
     current: Walked,
     ident: IdentTermId,
     name: u32,
@@ -686,7 +686,7 @@ fn bind_unless(
 fn walk_term_member(
     image: &[u8],
     table: &mut [u32],
-    env: &mut [u16; environment::WORDS],
+    env: &mut environment::Words,
     current: Walked,
     id: TermMemberId,
 ) -> Walked
@@ -702,7 +702,7 @@ fn walk_term_member(
 fn walk_term_list(
     image: &[u8],
     table: &mut [u32],
-    env: &mut [u16; environment::WORDS],
+    env: &mut environment::Words,
     current: Walked,
     list: TermListId,
 ) -> Walked
@@ -717,7 +717,7 @@ fn walk_term_list(
 fn walk_terms(
     image: &[u8],
     table: &mut [u32],
-    env: &mut [u16; environment::WORDS],
+    env: &mut environment::Words,
     current: Walked,
     terms: TermIds,
 ) -> Walked
@@ -737,7 +737,7 @@ fn walk_terms(
 pub fn walk_type_expr(
     image: &[u8],
     table: &mut [u32],
-    env: &mut [u16; environment::WORDS],
+    env: &mut environment::Words,
     current: Walked,
     typ: TypeExprId,
 ) -> Walked
@@ -751,7 +751,7 @@ pub fn walk_type_expr(
 fn walk_type_expr_case(
     image: &[u8],
     table: &mut [u32],
-    env: &mut [u16; environment::WORDS],
+    env: &mut environment::Words,
     current: Walked,
     typ: TypeExprId,
 ) -> Walked
@@ -768,7 +768,7 @@ fn walk_type_expr_case(
 fn walk_pred_expr(
     image: &[u8],
     table: &mut [u32],
-    env: &mut [u16; environment::WORDS],
+    env: &mut environment::Words,
     current: Walked,
     pred: PredExprId,
 ) -> Walked
@@ -782,7 +782,7 @@ fn walk_pred_expr(
 fn walk_pred_expr_case(
     image: &[u8],
     table: &mut [u32],
-    env: &mut [u16; environment::WORDS],
+    env: &mut environment::Words,
     current: Walked,
     pred: PredExprId,
 ) -> Walked

@@ -121,11 +121,7 @@ pub fn test_table(image: &[u8], table: &[u32]) -> u32
 
 // Resolve, where 1 to 13 refuse nothing: where the walk stands after the module, or the name that is declared twice. The
 // environment has what was noted then, for the checks.
-pub fn resolve_into(
-    image: &[u8],
-    table: &mut [u32],
-    env: &mut [u16; environment::WORDS],
-) -> Declared
+pub fn resolve_into(image: &[u8], table: &mut [u32], env: &mut environment::Words) -> Declared
     requires { ⌜ (testTable (now image) (now table) ≡ 0) × (now env ≡ replicate environmentLength 0) ⌝ }
     ensures { λ r. ⌜ Resolves (now (image .entry)) (now (table .entry)) r (now (table .exit)) × NotedBy (now (image .entry)) r (now (table .exit)) (now (env .exit)) ⌝ }
 {
@@ -150,7 +146,7 @@ const NO_SCOPE: u32 = 4294967295;
 const STAMPS: usize = 1024;
 
 // The whole module, in a table with no scope and no symbol.
-fn walk_module(image: &[u8], table: &mut [u32], env: &mut [u16; environment::WORDS]) -> Declared
+fn walk_module(image: &[u8], table: &mut [u32], env: &mut environment::Words) -> Declared
     requires { ⌜ Lent (now image) (now table) (now env) ⌝ }
     ensures { λ r. ⌜ Visits (now (image .entry)) (resolveTree (now (image .entry)) (treeAt (now (image .entry)) («image-spec».last (now (image .entry)))) (record { words = now (table .entry); scopes = 0; symbols = 0 })) (now (table .entry)) r (now (env .exit)) (now (table .exit)) ⌝ }
 {
@@ -217,7 +213,7 @@ fn insert_decl_symbol(
     image: &[u8],
     table: &mut [u32],
     seen: &mut [u32],
-    env: &mut [u16; environment::WORDS],
+    env: &mut environment::Words,
     current: Walked,
     name: u32,
     id: NodeId,
@@ -259,7 +255,7 @@ fn walk_decls(
     image: &[u8],
     table: &mut [u32],
     seen: &mut [u32],
-    env: &mut [u16; environment::WORDS],
+    env: &mut environment::Words,
     current: Walked,
     decls: DeclIds,
 ) -> Declared
@@ -277,7 +273,7 @@ fn enter_decls(
     image: &[u8],
     table: &mut [u32],
     seen: &mut [u32],
-    env: &mut [u16; environment::WORDS],
+    env: &mut environment::Words,
     current: Walked,
     decls: DeclIds,
 ) -> Declared
@@ -306,7 +302,7 @@ fn enter_decl(
     image: &[u8],
     table: &mut [u32],
     seen: &mut [u32],
-    env: &mut [u16; environment::WORDS],
+    env: &mut environment::Words,
     current: Walked,
     decl: DeclId,
 ) -> Declared
@@ -345,7 +341,7 @@ fn enter_signature(
     image: &[u8],
     table: &mut [u32],
     seen: &mut [u32],
-    env: &mut [u16; environment::WORDS],
+    env: &mut environment::Words,
     current: Walked,
     name: u32,
     id: NodeId,
@@ -362,7 +358,7 @@ fn enter_rule(
     image: &[u8],
     table: &mut [u32],
     seen: &mut [u32],
-    env: &mut [u16; environment::WORDS],
+    env: &mut environment::Words,
     current: Walked,
     id: RuleDeclId,
 ) -> Declared
@@ -382,7 +378,7 @@ fn enter_enum(
     image: &[u8],
     table: &mut [u32],
     seen: &mut [u32],
-    env: &mut [u16; environment::WORDS],
+    env: &mut environment::Words,
     current: Walked,
     id: EnumDeclId,
 ) -> Declared
@@ -401,7 +397,7 @@ fn enter_ctors(
     image: &[u8],
     table: &mut [u32],
     seen: &mut [u32],
-    env: &mut [u16; environment::WORDS],
+    env: &mut environment::Words,
     current: Walked,
     ctors: CtorDeclIds,
 ) -> Declared
@@ -431,7 +427,7 @@ fn visit_decls(
     image: &[u8],
     table: &mut [u32],
     seen: &mut [u32],
-    env: &mut [u16; environment::WORDS],
+    env: &mut environment::Words,
     current: Walked,
     decls: DeclIds,
 ) -> Declared
@@ -460,7 +456,7 @@ fn visit_decl(
     image: &[u8],
     table: &mut [u32],
     seen: &mut [u32],
-    env: &mut [u16; environment::WORDS],
+    env: &mut environment::Words,
     current: Walked,
     decl: DeclId,
 ) -> Declared
@@ -481,7 +477,7 @@ fn visit_decl(
 fn visit_pred_decl(
     image: &[u8],
     table: &mut [u32],
-    env: &mut [u16; environment::WORDS],
+    env: &mut environment::Words,
     current: Walked,
     id: PredDeclId,
 ) -> Walked
@@ -496,7 +492,7 @@ fn visit_pred_decl(
 fn visit_func_decl(
     image: &[u8],
     table: &mut [u32],
-    env: &mut [u16; environment::WORDS],
+    env: &mut environment::Words,
     current: Walked,
     id: FuncDeclId,
 ) -> Walked
@@ -512,7 +508,7 @@ fn visit_func_decl(
 fn visit_const_decl(
     image: &[u8],
     table: &mut [u32],
-    env: &mut [u16; environment::WORDS],
+    env: &mut environment::Words,
     current: Walked,
     id: ConstDeclId,
 ) -> Walked
@@ -527,7 +523,7 @@ fn visit_const_decl(
 fn visit_rule_decl(
     image: &[u8],
     table: &mut [u32],
-    env: &mut [u16; environment::WORDS],
+    env: &mut environment::Words,
     current: Walked,
     id: RuleDeclId,
 ) -> Walked
@@ -543,7 +539,7 @@ fn visit_rule_decl(
 fn visit_enum_decl(
     image: &[u8],
     table: &mut [u32],
-    env: &mut [u16; environment::WORDS],
+    env: &mut environment::Words,
     current: Walked,
     id: EnumDeclId,
 ) -> Walked
@@ -569,7 +565,7 @@ fn visit_model_decl(
     image: &[u8],
     table: &mut [u32],
     seen: &mut [u32],
-    env: &mut [u16; environment::WORDS],
+    env: &mut environment::Words,
     current: Walked,
     id: ModelDeclId,
 ) -> Declared
