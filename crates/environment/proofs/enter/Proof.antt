@@ -2,24 +2,16 @@ use Rattle.environment.proofs.Laws.{entered}
 use borrow.Author.Needs.{needs}
 use Rattle.environment.proofs.enter.Statement.{statement}
 use Rattle.environment.proofs.enter.Tie as tie
-use Rattle.environment.proofs.enter.Reads as reads
-use Rattle.environment.proofs.enter.Lts as lts
-use Rattle.environment.proofs.bind.Reads as bind-reads
-use Rattle.table.proofs.insert_symbol.Reads as insert-symbol-reads
 
--- src/lib.rt:105:5
 bind-requires : tie.Need-bind-requires
 bind-requires c κs = search needs
 
--- src/lib.rt:106:5
 insert-symbol-requires : tie.Need-insert-symbol-requires
 insert-symbol-requires c κs = search needs
 
--- src/lib.rt:94:1
 same-length : tie.Need-same-length
 same-length c = search needs
 
--- src/lib.rt:94:1
 returns : tie.Need-returns
 returns c = (c .before .before .insert-symbol .ensures, entered _ (c .before .before .insert-symbol .ensures) (c .before .before .before .before .bind .ensures) (c .before .before .before .before .before .before .before .before .pre .0) (c .before .before .before .before .before .before .before .before .pre .1) (c .before .before .before .before .before .before .before .before .pre .2) (c .before .before .before .before .before .before .before .before .pre .3))
 

@@ -1,32 +1,24 @@
-use mathlib.Core.Path.{refl, sym, ap, _∙_}
+use mathlib.Core.Path.{sym, ap, _∙_}
 use mathlib.Core.Option.{some}
-use Prim.Native.Nat.{ℕ, _+_}
+use Prim.Native.Nat.{ℕ}
 use Rattle.ast.specs.Image.{nodes}
 use Rattle.table.specs.Rising.{nodeAt}
-use native.Mathlib.Omega.{arith}
 use Rattle.environment.specs.Stands.{told}
 use Rattle.environment.proofs.Words.{told-some}
 use borrow.Author.Needs.{needs}
 use Rattle.environment.proofs.found.Statement.{statement}
 use Rattle.environment.proofs.found.Tie as tie
-use Rattle.environment.proofs.found.Reads as reads
-use Rattle.environment.proofs.found.Lts as lts
-use Rattle.table.proofs.symbol_node.Reads as symbol-node-reads
 
--- src/lib.rt:62:9
 returns : tie.Need-returns
 unfolding told
 returns c = rw (c .if1 .taken)
 
--- src/lib.rt:64:55
 row-of-requires : tie.Need-row-of-requires
 row-of-requires c κs = search needs
 
--- src/lib.rt:64:22
 symbol-node-requires : tie.Need-symbol-node-requires
 symbol-node-requires c κs = search needs
 
--- src/lib.rt:58:1
 returns-2 : tie.Need-returns-2
 returns-2 c = ap some (c .symbol-node .ensures) ∙ ap (λ (j : ℕ). some (nodeAt (nodes (c .before .before .before .before .before .args .image .now)) (c .before .before .before .before .before .args .table .now) j)) (c .before .row-of .ensures) ∙ sym (told-some _ _ _ (c .before .before .if1 .left))
 

@@ -2,24 +2,16 @@ use Rattle.environment.proofs.Laws.{introduced}
 use borrow.Author.Needs.{needs}
 use Rattle.environment.proofs.introduce.Statement.{statement}
 use Rattle.environment.proofs.introduce.Tie as tie
-use Rattle.environment.proofs.introduce.Reads as reads
-use Rattle.environment.proofs.introduce.Lts as lts
-use Rattle.environment.proofs.bind.Reads as bind-reads
-use Rattle.table.proofs.insert_var_symbol.Reads as insert-var-symbol-reads
 
--- src/lib.rt:89:5
 bind-requires : tie.Need-bind-requires
 bind-requires c κs = search needs
 
--- src/lib.rt:90:5
 insert-var-symbol-requires : tie.Need-insert-var-symbol-requires
 insert-var-symbol-requires c κs = search needs
 
--- src/lib.rt:78:1
 same-length : tie.Need-same-length
 same-length c = search needs
 
--- src/lib.rt:78:1
 returns : tie.Need-returns
 returns c = (c .before .before .insert-var-symbol .ensures, introduced _ (c .before .before .insert-var-symbol .ensures) (c .before .before .before .before .bind .ensures) (c .before .before .before .before .before .before .before .before .pre .0) (c .before .before .before .before .before .before .before .before .pre .1) (c .before .before .before .before .before .before .before .before .pre .2) (c .before .before .before .before .before .before .before .before .pre .3))
 

@@ -6,10 +6,6 @@ use Rattle.table.specs.Values.{tableOf}
 use Rattle.environment.proofs.Leaving.{Leaving, leaving-start, leaving-few, leaving-row, leaving-done}
 use Rattle.environment.proofs.leave_scope.Statement.{statement}
 use Rattle.environment.proofs.leave_scope.Tie as tie
-use Rattle.environment.proofs.leave_scope.Reads as reads
-use Rattle.environment.proofs.leave_scope.Lts as lts
-use Rattle.environment.proofs.restore.Reads as restore-reads
-use Rattle.table.proofs.symbol_scope.Reads as symbol-scope-reads
 
 abbrev Inv-loop : tie.InvT-loop
 Inv-loop image table env₀ at first row₀ env row = Leaving image (tableOf at table) (at .scope .0) first env row
@@ -17,35 +13,27 @@ Inv-loop image table env₀ at first row₀ env row = Leaving image (tableOf at 
 abbrev μ-loop : tie.MeasureT-loop
 μ-loop image table env₀ at first row₀ env row = at .symbols - row
 
--- src/lib.rt:150:5
 loop-holds : tie.Need-loop-holds Inv-loop μ-loop
 loop-holds c = leaving-start _ _ (c .before .before .pre .0) (c .before .before .pre .1)
 
--- src/lib.rt:151:12
 symbol-scope-requires : tie.Need-symbol-scope-requires Inv-loop μ-loop
 symbol-scope-requires c κs = search needs
 
--- src/lib.rt:152:13
 returns : tie.Need-returns Inv-loop μ-loop
 returns c = leaving-done _ (c .before .before .before .before .before .loop .inv) (λ l q. c .if2 .taken (c .before .before .symbol-scope .ensures ∙ q))
 
--- src/lib.rt:154:9
 restore-requires : tie.Need-restore-requires Inv-loop μ-loop
 restore-requires c κs = leaving-few _ (c .before .before .before .before .before .before .loop .inv) (c .before .before .before .before .if1 .taken) (sym (c .before .before .before .symbol-scope .ensures) ∙ c .before .if2 .left)
 
--- src/lib.rt:155:9
 add-row : tie.Need-add-row Inv-loop μ-loop
 add-row c = search needs
 
--- src/lib.rt:150:5
 loop-less : tie.Need-loop-less Inv-loop μ-loop
 loop-less c = search needs
 
--- src/lib.rt:150:5
 loop-again : tie.Need-loop-again Inv-loop μ-loop
 loop-again c = leaving-row _ (c .before .before .before .before .before .before .before .loop .inv) (c .before .before .before .before .before .if1 .taken) (sym (c .before .before .before .before .symbol-scope .ensures) ∙ c .before .before .if2 .left) (c .restore .ensures)
 
--- src/lib.rt:145:1
 returns-2 : tie.Need-returns-2 Inv-loop μ-loop
 returns-2 c = leaving-done _ (c .before .before .loop .inv) (λ l q. absurd (let z = c .if1 .left in omega arith))
 
