@@ -312,15 +312,15 @@ module _ (img : List ℕ) where
   pub given-variable : {n id d : ℕ} (v : ℕ) {e f : Walked} {env : List ℕ} → DefinedAtom n id d e → suc v ≡ field img id 0 → Ends img (over img d e) f env → Variable img (defines (e .scope)) v f
   given-variable v {e} o q h = subst (Variable img (defines (e .scope)) v) (sym (h .same)) (o .parts .second v (sym q))
 
-  -- an ident, which is asked for before the term is walked, with the word w of its name
+  -- an ident, with the word w that its name has before the term is walked
   pub definingIdent : {n id v d i x w : ℕ} {b : Bool} {e f : Walked} {env env' : List ℕ} → Ready img (kindOf 29) n e → Defining img n id v d i → x ≡ field img i 0 → Stands img e env → w ≡ standing env x
-      → b ≡ isVar img (told img (e .table .words) w) → Ends img (over img d e) f env' → Ident (defines (e .scope)) v i x b f (walk img (defines (e .scope)) (treeAt img v) f)
-  definingIdent {v = v} {d} {x = x} {e = e} {f} p g q s l k h =
+      → b ≡ isVar img (told img (f .table .words) w) → Ends img (over img d e) f env' → Ident (defines (e .scope)) v i x b f (walk img (defines (e .scope)) (treeAt img v) f)
+  definingIdent {v = v} {d} {x = x} {w} {e = e} {f} p g q s l k h =
       let o = definedAtom p (g .defined) (g .terms .second) in
       let u = given-variable v o (g .terms .first) h in
-      let m = ident-named img (var-ident img u (g .named .first) (g .named .second) .is) q in
+      let t = word-tells s (ident-named img (var-ident img u (g .named .first) (g .named .second) .is) q .below) l in
       let y = older occurs d (subst (λ (c : Walked). Few img (c .table)) (sym (h .same)) (o .parts .first .room .few)) s (h .same) in
-      identOf u (g .named) q (k ∙ ap (isVar img) (word-tells s (m .below) l .is ∙ sym (y .lookups (e .scope) x (s .live))))
+      identOf u (g .named) q (k ∙ ap (isVar img) (y .rows w (t .row) ∙ t .is ∙ sym (y .lookups (e .scope) x (s .live))))
 
   -- what the atom is left with
   pub defining-asking : {n id v d i x w : ℕ} {b : Bool} {e f h a : Walked} {env env' : List ℕ} → Ready img (kindOf 29) n e → Defining img n id v d i → Ident (defines (e .scope)) v i x b f a → Stands img e env → w ≡ standing env x

@@ -507,7 +507,7 @@ fn walk_app_head(
     }
 }
 
-// An app head that is an ident introduces nothing.
+// An app head that is an ident: as one that is known, whatever its name stands for, so that it introduces nothing.
 fn walk_head_ident(
     image: &[u8],
     table: &mut [u32],
@@ -521,7 +521,8 @@ fn walk_head_ident(
 {
     let IdentTerm { name } = typed::ident_term(image, ident);
     let word = environment::stands(env, name);
-    let named = table::leave(image, table, ident.0, current, current);
+    let exit = bind_unless(image, table, env, current, ident, name, true);
+    let named = table::leave(image, table, ident.0, current, exit);
     environment::leave_asked(image, table, env, head.0, name, word, current, named)
 }
 
@@ -637,10 +638,10 @@ fn walk_then_defined_var(
     ensures { λ r. ⌜ Ends (now (image .entry)) (over (now (image .entry)) (atom .0 .0) (walkedOf current (now (table .entry)))) (walkedOf r (now (table .exit))) (now (env .exit)) ⌝ }
 {
     let IdentTerm { name } = typed::ident_term(image, ident);
-    let before = environment::stands(env, name);
-    let known = is_var(image, table, before);
+    let at_atom = environment::stands(env, name);
     let after_term = walk_term(image, table, env, current, term);
     let entry = environment::stands(env, name);
+    let known = is_var(image, table, at_atom);
     let exit = bind_unless(image, table, env, after_term, ident, name, known);
     let named = table::leave(image, table, ident.0, after_term, exit);
     let defined = environment::leave_asked(
@@ -654,7 +655,7 @@ fn walk_then_defined_var(
         named,
     );
     let left = table::leave(image, table, id.0, current, defined);
-    environment::leave_asked(image, table, env, atom.0, name, before, current, left)
+    environment::leave_asked(image, table, env, atom.0, name, at_atom, current, left)
 }
 
 // The word tells of a Var.
