@@ -59,10 +59,7 @@ module _ (img : List ℕ) where
       → (4 ≡ field img n 0 → ⊥) × (6 ≡ field img n 0 → ⊥)
   no-body is q h = (apart (0 ∷ 1 ∷ 2 ∷ 3 ∷ 5 ∷ []) 4 h (decl-number is q) tt, apart (0 ∷ 1 ∷ 2 ∷ 3 ∷ 5 ∷ []) 6 h (decl-number is q) tt)
 
-  -- a term that is no ident, one that is no application, one of case Dom or Cod
-  pub no-ident : {n : ℕ} {t : Term} → Is img (kindOf termKind) n → t ≡ termAt img n → OneOf (1 ∷ 2 ∷ 3 ∷ 4 ∷ 5 ∷ 6 ∷ 7 ∷ []) (tagOf TermCode.the-type t) → 0 ≡ field img n 0 → ⊥
-  no-ident is q h = apart (1 ∷ 2 ∷ 3 ∷ 4 ∷ 5 ∷ 6 ∷ 7 ∷ []) 0 h (term-number img is q) tt
-
+  -- a term that is no application, one of case Dom or Cod
   pub no-app : {n : ℕ} {t : Term} → Is img (kindOf termKind) n → t ≡ termAt img n → OneOf (0 ∷ 1 ∷ 3 ∷ 4 ∷ 5 ∷ 6 ∷ 7 ∷ []) (tagOf TermCode.the-type t) → 2 ≡ field img n 0 → ⊥
   no-app is q h = apart (0 ∷ 1 ∷ 3 ∷ 4 ∷ 5 ∷ 6 ∷ 7 ∷ []) 2 h (term-number img is q) tt
 

@@ -13,7 +13,6 @@ use Rattle.ast.specs.Named.{declKind, termKind, appHeadKind, typeExprKind, pred
 use Rattle.ast.specs.declared.NodeId.{NodeId}
 use Rattle.ast.proofs.Shapes.{case-last}
 use Rattle.typed.specs.Nodes.{declOf, declAt, termOf, termAt, appHeadOf, appHeadAt, typeExprOf, typeExprAt, predExprOf, predExprAt, ifAtomOf, ifAtomAt, thenAtomOf, thenAtomAt, stmtOf, stmtAt}
-use Rattle.typed.specs.declared.nodes.IdentTermId.{IdentTermId}
 use Rattle.typed.specs.declared.nodes.Decl.{Decl}
 use Rattle.typed.specs.declared.nodes.Decl.the-variants as decl
 use Rattle.typed.specs.declared.nodes.Term.{Term}
@@ -89,6 +88,10 @@ module _ (img : List ℕ) (n : ℕ) where
   StmtIs (stmt.Match i) = Cased 3 (i .0)
 
 -- the case s of the answer t
+-- a tag that is one of those after the first: what an arm `_` after the first case of a term knows
+after-first : {x : ℕ} → OneOf (1 ∷ 2 ∷ 3 ∷ 4 ∷ 5 ∷ 6 ∷ 7 ∷ []) x → x ≡ 0 → ⊥
+after-first {x} s z = ⊎-elim (λ (i : x ≡ 1). omega arith) (λ s. ⊎-elim (λ (i : x ≡ 2). omega arith) (λ s. ⊎-elim (λ (i : x ≡ 3). omega arith) (λ s. ⊎-elim (λ (i : x ≡ 4). omega arith) (λ s. ⊎-elim (λ (i : x ≡ 5). omega arith) (λ s. ⊎-elim (λ (i : x ≡ 6). omega arith) (λ (i : x ≡ 7). omega arith) s) s) s) s) s) s
+
 module _ (img : List ℕ) where
   pub decl-is : {n : ℕ} {t s : Decl} → Is img (kindOf declKind) n → t ≡ declAt img n → t ≡ s → DeclIs img n s
   unfolding declOf kindOf
@@ -195,22 +198,6 @@ module _ (img : List ℕ) where
       go (term.Id i) e = (term-is is e refl) .number
       go (term.Comp i) e = (term-is is e refl) .number
 
-  pub term-other : {n : ℕ} {t : Term} → Is img (kindOf termKind) n → t ≡ termAt img n → ((i : IdentTermId) → t ≡ term.Ident i → ⊥) → field img n 0 ≡ 0 → ⊥
-  term-other {n} {t} is q h z = go t refl
-    where
-      off : {k : ℕ} → suc k ≡ field img n 0 → ⊥
-      off e = let y = e ∙ z in omega arith
-
-      go : (s : Term) → t ≡ s → ⊥
-      go (term.Ident i) r = h i r
-      go term.Wildcard r = off (term-is is q r)
-      go (term.App i) r = off ((term-is is q r) .number)
-      go (term.Member i) r = off ((term-is is q r) .number)
-      go (term.Dom i) r = off ((term-is is q r) .number)
-      go (term.Cod i) r = off ((term-is is q r) .number)
-      go (term.Id i) r = off ((term-is is q r) .number)
-      go (term.Comp i) r = off ((term-is is q r) .number)
-
--- a tag that is one of those after the first: what an arm `_` after the first case of a term knows
-pub after-first : {x : ℕ} → OneOf (1 ∷ 2 ∷ 3 ∷ 4 ∷ 5 ∷ 6 ∷ 7 ∷ []) x → x ≡ 0 → ⊥
-after-first {x} s z = ⊎-elim (λ (i : x ≡ 1). omega arith) (λ s. ⊎-elim (λ (i : x ≡ 2). omega arith) (λ s. ⊎-elim (λ (i : x ≡ 3). omega arith) (λ s. ⊎-elim (λ (i : x ≡ 4). omega arith) (λ s. ⊎-elim (λ (i : x ≡ 5). omega arith) (λ s. ⊎-elim (λ (i : x ≡ 6). omega arith) (λ (i : x ≡ 7). omega arith) s) s) s) s) s) s
+  -- a term that is no ident
+  pub no-ident : {n : ℕ} {t : Term} → Is img (kindOf termKind) n → t ≡ termAt img n → OneOf (1 ∷ 2 ∷ 3 ∷ 4 ∷ 5 ∷ 6 ∷ 7 ∷ []) (tagOf TermCode.the-type t) → 0 ≡ field img n 0 → ⊥
+  no-ident is q h z = after-first h (term-number is q ∙ sym z)

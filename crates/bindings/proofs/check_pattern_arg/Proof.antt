@@ -1,9 +1,8 @@
 use mathlib.Core.Path.{sym, ap, _∙_}
 use Rattle.table.specs.Table.{lookup, isVar}
 use Rattle.rows.proofs.Parts.{appended-as, appended-no}
-use Rattle.typed.proofs.Enums.{term-is}
+use Rattle.typed.proofs.Enums.{term-is, no-ident}
 use Rattle.bindings.proofs.Leaves.{row-when, fits-as}
-use Rattle.bindings.proofs.Cases.{no-ident}
 use Rattle.bindings.proofs.RowLaws.{arg-ident, arg-none}
 use Rattle.bindings.proofs.Looked.{looked, term-asks}
 use borrow.Author.Needs.{needs}

@@ -1,10 +1,10 @@
 use mathlib.Core.Path.{sym, ap, _∙_}
 use Rattle.table.specs.Table.{lookup, isVar}
 use Rattle.rows.proofs.Parts.{appended-as, appended-no}
-use Rattle.typed.proofs.Enums.{term-is}
+use Rattle.typed.proofs.Enums.{term-is, no-ident}
 use Rattle.bindings.proofs.Leaves.{row-when, fits-as}
 use Rattle.bindings.proofs.RowLaws.{defined-ident, defined-wild}
-use Rattle.bindings.proofs.Cases.{no-ident, one-left}
+use Rattle.bindings.proofs.Cases.{one-left}
 use Rattle.bindings.proofs.Looked.{looked}
 use borrow.Author.Needs.{needs}
 use Rattle.bindings.proofs.check_then_defined_var.Statement.{statement}

@@ -8,9 +8,7 @@ use Rattle.ordered.specs.Promises.{Ready, rest}
 use Rattle.ordered.proofs.Steps.{one, two, memberOf, term-wrapped, head-wrapped}
 use Rattle.ordered.proofs.Lists.{Left, rest-end, headMemberOf, listOf, runItem}
 use Rattle.ordered.proofs.Idents.{one-ends, two-ends, list-ends, other-ends, head-ends, wild-ends, member-ends, head-member-ends}
-use denote.Enum.Declared.{tagOf}
-use Rattle.typed.proofs.nodes.Term as Term
-use Rattle.typed.proofs.Enums.{term-is, term-other, after-first, app-head-is}
+use Rattle.typed.proofs.Enums.{term-is, app-head-is, no-ident}
 use Rattle.ordered.proofs.Ends.{ends-as}
 use borrow.Author.Needs.{needs}
 use Prim.Native.Nat.{ℕ, _+_, _*_, _-_, _<_}
@@ -367,7 +365,7 @@ walk-term-walk-ident-term-requires : (t : ℕ) → walk-term-lts.Need-walk-ident
 walk-term-walk-ident-term-requires t c κs = let k = term-is _ (c .before .before .before .before .before .before .before .before .pre .1 .0 .is) (c .before .before .before .before .before .term .ensures) (c .before .before .before .id .given .1) in (c .before .before .before .before .before .before .before .before .pre .1 .0, record { first = k .number; second = k .child }, c .before .before .before .before .before .before .before .before .pre .1 .1)
 
 walk-term-walk-term-case-requires : (t : ℕ) → walk-term-lts.Need-walk-term-case-requires (walk-term-claims t) (walk-term-at t) walk-term.Post
-walk-term-walk-term-case-requires t c κs = (omega arith, (c .before .before .before .before .before .before .pre .1 .0, (term-other _ (c .before .before .before .before .before .before .pre .1 .0 .is) (c .before .before .before .term .ensures) (λ i r. after-first (c .before .before .match .keys2) (ap (tagOf Term.the-type) r))), c .before .before .before .before .before .before .pre .1 .1))
+walk-term-walk-term-case-requires t c κs = (omega arith, (c .before .before .before .before .before .before .pre .1 .0, (λ z. no-ident _ (c .before .before .before .before .before .before .pre .1 .0 .is) (c .before .before .before .term .ensures) (c .before .before .match .keys2) (sym z)), c .before .before .before .before .before .before .pre .1 .1))
 
 walk-term-leave-requires : (t : ℕ) → walk-term-lts.Need-leave-requires (walk-term-claims t) (walk-term-at t) walk-term.Post
 walk-term-leave-requires t c κs = search needs
@@ -382,7 +380,7 @@ walk-term-same-length-2 : (t : ℕ) → walk-term-lts.Need-same-length-2 (walk-t
 walk-term-same-length-2 t c = search needs
 
 walk-term-returns-2 : (t : ℕ) → walk-term-lts.Need-returns-2 (walk-term-claims t) (walk-term-at t) walk-term.Post
-walk-term-returns-2 t c = other-ends _ (c .before .before .before .before .before .before .before .before .before .before .before .before .before .pre .1 .0) (term-other _ (c .before .before .before .before .before .before .before .before .before .before .before .before .before .pre .1 .0 .is) (c .before .before .before .before .before .before .before .before .before .before .term .ensures) (λ i r. after-first (c .before .before .before .before .before .before .before .before .before .match .keys2) (ap (tagOf Term.the-type) r))) (c .before .before .before .before .before .before .walk-term-case .ensures) (c .before .before .leave .ensures)
+walk-term-returns-2 t c = other-ends _ (c .before .before .before .before .before .before .before .before .before .before .before .before .before .pre .1 .0) (λ z. no-ident _ (c .before .before .before .before .before .before .before .before .before .before .before .before .before .pre .1 .0 .is) (c .before .before .before .before .before .before .before .before .before .before .term .ensures) (c .before .before .before .before .before .before .before .before .before .match .keys2) (sym z)) (c .before .before .before .before .before .before .walk-term-case .ensures) (c .before .before .leave .ensures)
 
 walk-term-case-term-requires : (t : ℕ) → walk-term-case-lts.Need-term-requires (walk-term-case-claims t) (walk-term-case-at t) walk-term-case.Post
 walk-term-case-term-requires t c κs = search needs

@@ -1,8 +1,6 @@
 use mathlib.Core.Path.{sym, ap, _∙_}
-use denote.Enum.Declared.{tagOf}
 use Rattle.typed.specs.Nodes.{termWord}
-use Rattle.typed.proofs.nodes.Term as Term
-use Rattle.typed.proofs.Enums.{term-is, term-other, after-first}
+use Rattle.typed.proofs.Enums.{term-is, no-ident}
 use Rattle.environment.proofs.Asking.{quiet-absent, quiet-other}
 use Rattle.ordered.proofs.Atoms.{var-other}
 use Rattle.ordered.proofs.Idents.{var-ends, definedAtom, absent-ends, given-ends, given-variable, atom-quiet}
@@ -29,7 +27,7 @@ walk-term-requires : tie.Need-walk-term-requires
 walk-term-requires c κs = let d = definedAtom _ (c .before .before .before .before .before .before .before .before .before .before .before .pre .0) (c .before .before .before .before .before .before .before .before .before .before .before .pre .1) (c .before .before .before .before .before .before .before .before .defined-then-atom .ensures .second) in (d .parts .first, c .before .before .before .before .before .before .before .before .before .before .before .pre .2)
 
 walk-term-requires-2 : tie.Need-walk-term-requires-2
-walk-term-requires-2 c κs = let d = definedAtom _ (c .before .before .before .before .before .before .before .before .before .before .before .before .before .before .before .before .pre .0) (c .before .before .before .before .before .before .before .before .before .before .before .before .before .before .before .before .pre .1) (c .before .before .before .before .before .before .before .before .before .before .before .before .before .defined-then-atom .ensures .second) in let v = sym (ap termWord (c .before .before .before .before .before .before .before .before .before .before .var .given .1)) ∙ c .before .before .before .before .before .before .before .before .before .before .before .before .before .defined-then-atom .ensures .first in let is = d .parts .second _ (sym v) .is in let z = term-other _ is (c .before .before .before .before .before .before .before .before .term2 .ensures) (λ i x. after-first (c .before .before .before .before .before .before .before .match2 .keys2) (ap (tagOf Term.the-type) x)) in (var-other _ (given-variable _ _ d v (c .before .before .before .before .walk-term .ensures)) z .0, c .before .before .before .before .walk-term .ensures .stands)
+walk-term-requires-2 c κs = let d = definedAtom _ (c .before .before .before .before .before .before .before .before .before .before .before .before .before .before .before .before .pre .0) (c .before .before .before .before .before .before .before .before .before .before .before .before .before .before .before .before .pre .1) (c .before .before .before .before .before .before .before .before .before .before .before .before .before .defined-then-atom .ensures .second) in let v = sym (ap termWord (c .before .before .before .before .before .before .before .before .before .before .var .given .1)) ∙ c .before .before .before .before .before .before .before .before .before .before .before .before .before .defined-then-atom .ensures .first in let is = d .parts .second _ (sym v) .is in let no = no-ident _ is (c .before .before .before .before .before .before .before .before .term2 .ensures) (c .before .before .before .before .before .before .before .match2 .keys2) in (var-other _ (given-variable _ _ d v (c .before .before .before .before .walk-term .ensures)) (λ e. no (sym e)) .0, c .before .before .before .before .walk-term .ensures .stands)
 
 leave-requires : tie.Need-leave-requires
 leave-requires c κs = search needs
@@ -59,7 +57,7 @@ same-length-2 : tie.Need-same-length-2
 same-length-2 c = search needs
 
 returns-2 : tie.Need-returns-2
-returns-2 c = let d = definedAtom _ (c .before .before .before .before .before .before .before .before .before .before .before .before .before .before .before .before .before .before .before .before .before .before .before .before .before .before .before .pre .0) (c .before .before .before .before .before .before .before .before .before .before .before .before .before .before .before .before .before .before .before .before .before .before .before .before .before .before .before .pre .1) (c .before .before .before .before .before .before .before .before .before .before .before .before .before .before .before .before .before .before .before .before .before .before .before .before .defined-then-atom .ensures .second) in let v = sym (ap termWord (c .before .before .before .before .before .before .before .before .before .before .before .before .before .before .before .before .before .before .before .before .before .var .given .1)) ∙ c .before .before .before .before .before .before .before .before .before .before .before .before .before .before .before .before .before .before .before .before .before .before .before .before .defined-then-atom .ensures .first in let is = d .parts .second _ (sym v) .is in let z = term-other _ is (c .before .before .before .before .before .before .before .before .before .before .before .before .before .before .before .before .before .before .before .term2 .ensures) (λ i x. after-first (c .before .before .before .before .before .before .before .before .before .before .before .before .before .before .before .before .before .before .match2 .keys2) (ap (tagOf Term.the-type) x)) in atom-quiet _ d (c .before .before .before .before .before .before .before .before .before .before .before .before .before .before .before .before .before .before .before .before .before .before .before .before .before .before .before .pre .0 .is) (quiet-other _ _ _ (c .before .before .before .before .before .before .before .before .before .before .before .before .before .before .before .before .before .before .before .before .before .before .before .before .before .before .before .pre .0 .is) (c .before .before .before .before .before .before .before .before .before .before .before .before .before .before .before .before .before .before .before .before .before .before .before .before .before .before .before .pre .1 .second) v z) (given-ends _ _ d v (c .before .before .before .before .before .before .before .before .before .before .before .before .before .before .before .walk-term .ensures) (var-ends _ (given-variable _ _ d v (c .before .before .before .before .before .before .before .before .before .before .before .before .before .before .before .walk-term .ensures)) z (c .before .before .before .before .before .before .before .before .before .before .walk-term2 .ensures)) (c .before .before .before .before .before .before .leave .ensures)) (c .before .before .leave2 .ensures)
+returns-2 c = let d = definedAtom _ (c .before .before .before .before .before .before .before .before .before .before .before .before .before .before .before .before .before .before .before .before .before .before .before .before .before .before .before .pre .0) (c .before .before .before .before .before .before .before .before .before .before .before .before .before .before .before .before .before .before .before .before .before .before .before .before .before .before .before .pre .1) (c .before .before .before .before .before .before .before .before .before .before .before .before .before .before .before .before .before .before .before .before .before .before .before .before .defined-then-atom .ensures .second) in let v = sym (ap termWord (c .before .before .before .before .before .before .before .before .before .before .before .before .before .before .before .before .before .before .before .before .before .var .given .1)) ∙ c .before .before .before .before .before .before .before .before .before .before .before .before .before .before .before .before .before .before .before .before .before .before .before .before .defined-then-atom .ensures .first in let is = d .parts .second _ (sym v) .is in let no = no-ident _ is (c .before .before .before .before .before .before .before .before .before .before .before .before .before .before .before .before .before .before .before .term2 .ensures) (c .before .before .before .before .before .before .before .before .before .before .before .before .before .before .before .before .before .before .match2 .keys2) in atom-quiet _ d (c .before .before .before .before .before .before .before .before .before .before .before .before .before .before .before .before .before .before .before .before .before .before .before .before .before .before .before .pre .0 .is) (quiet-other _ _ _ (c .before .before .before .before .before .before .before .before .before .before .before .before .before .before .before .before .before .before .before .before .before .before .before .before .before .before .before .pre .0 .is) (c .before .before .before .before .before .before .before .before .before .before .before .before .before .before .before .before .before .before .before .before .before .before .before .before .before .before .before .pre .1 .second) v (λ e. no (sym e))) (given-ends _ _ d v (c .before .before .before .before .before .before .before .before .before .before .before .before .before .before .before .walk-term .ensures) (var-ends _ (given-variable _ _ d v (c .before .before .before .before .before .before .before .before .before .before .before .before .before .before .before .walk-term .ensures)) (λ e. no (sym e)) (c .before .before .before .before .before .before .before .before .before .before .walk-term2 .ensures)) (c .before .before .before .before .before .before .leave .ensures)) (c .before .before .leave2 .ensures)
 
 same-length-3 : tie.Need-same-length-3
 same-length-3 c = search needs

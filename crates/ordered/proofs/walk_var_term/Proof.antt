@@ -1,7 +1,5 @@
-use mathlib.Core.Path.{ap}
-use denote.Enum.Declared.{tagOf}
-use Rattle.typed.proofs.nodes.Term as Term
-use Rattle.typed.proofs.Enums.{term-is, term-other, after-first}
+use mathlib.Core.Path.{sym}
+use Rattle.typed.proofs.Enums.{term-is, no-ident}
 use Rattle.ordered.proofs.Atoms.{var-other}
 use Rattle.ordered.proofs.Ends.{ends-as}
 use borrow.Author.Needs.{needs}
@@ -18,7 +16,7 @@ walk-var-ident-requires : tie.Need-walk-var-ident-requires
 walk-var-ident-requires c κs = let k = term-is _ (c .before .before .before .before .before .before .before .before .pre .0 .is) (c .before .before .before .before .before .term .ensures) (c .before .before .before .ident .given .1) in (c .before .before .before .before .before .before .before .before .pre .0, record { first = k .number; second = k .child }, c .before .before .before .before .before .before .before .before .pre .1)
 
 walk-term-requires : tie.Need-walk-term-requires
-walk-term-requires c κs = let o = var-other _ (c .before .before .before .before .before .before .pre .0) (term-other _ (c .before .before .before .before .before .before .pre .0 .is) (c .before .before .before .term .ensures) (λ i r. after-first (c .before .before .match .keys2) (ap (tagOf Term.the-type) r))) in (o .0, c .before .before .before .before .before .before .pre .1)
+walk-term-requires c κs = let o = var-other _ (c .before .before .before .before .before .before .pre .0) (λ z. no-ident _ (c .before .before .before .before .before .before .pre .0 .is) (c .before .before .before .term .ensures) (c .before .before .match .keys2) (sym z)) in (o .0, c .before .before .before .before .before .before .pre .1)
 
 same-length : tie.Need-same-length
 same-length c = search needs
@@ -30,7 +28,7 @@ same-length-2 : tie.Need-same-length-2
 same-length-2 c = search needs
 
 returns-2 : tie.Need-returns-2
-returns-2 c = let o = var-other _ (c .before .before .before .before .before .before .before .before .before .pre .0) (term-other _ (c .before .before .before .before .before .before .before .before .before .pre .0 .is) (c .before .before .before .before .before .before .term .ensures) (λ i r. after-first (c .before .before .before .before .before .match .keys2) (ap (tagOf Term.the-type) r))) in ends-as _ (o .1) (c .before .before .walk-term .ensures)
+returns-2 c = let o = var-other _ (c .before .before .before .before .before .before .before .before .before .pre .0) (λ z. no-ident _ (c .before .before .before .before .before .before .before .before .before .pre .0 .is) (c .before .before .before .before .before .before .term .ensures) (c .before .before .before .before .before .match .keys2) (sym z)) in ends-as _ (o .1) (c .before .before .walk-term .ensures)
 
 pub walk-var-term-spec : {M : Type 1} → statement M
 walk-var-term-spec =
