@@ -23,8 +23,8 @@
  *
  * All numbers are little-endian 32-bit words. Sizes first: N nodes, C operand words, S names, B name bytes. Then N kinds,
  * N starts, C operand words, S name ends, B name bytes. Kinds are the cases of `Node` in eqlog's ast.rs, Module 0 to
- * MatchStmt 40; children stand before their parents, the module last. A node's row is two location words, which
- * are not looked at, then its fields in declared order: a name is its number; an absent option 0, a present one its
+ * MatchStmt 40; children stand before their parents, the module last. A node's row is two location words, of which
+ * eqlog_sorted alone looks at the second, then its fields in declared order: a name is its number; an absent option 0, a present one its
  * number plus 1; a list is a count and its items; a list of blocks is a count, then lists; a node that wraps an enum has
  * the case number, then the child (Wildcard has none).
  *
@@ -160,6 +160,11 @@ uint64_t eqlog_lookup(const uint8_t *image, size_t image_len, const uint32_t *ta
 
 /* Resolves, then writes the error rows: a count, then error numbers and nodes. Result: c is the count. Refuses 1 to 15. */
 uint64_t eqlog_errors(const uint8_t *image, size_t image_len, uint32_t *table, size_t table_len, uint32_t *rows,
+                      size_t rows_len, uint32_t mode);
+
+/* As eqlog_errors in its answer, its refusals and every lent word, but the rows stand by place: by the second location
+ * word of the row's node, the smaller first; rows of one place stand in the sequence of eqlog_errors. */
+uint64_t eqlog_sorted(const uint8_t *image, size_t image_len, uint32_t *table, size_t table_len, uint32_t *rows,
                       size_t rows_len, uint32_t mode);
 
 /* Resolves, then looks for a variable that occurs only once. Result, all 0: there is none; "other": the first lone

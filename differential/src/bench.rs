@@ -219,12 +219,20 @@ fn deep_branches(levels: usize, nodes: usize) -> Vec<u8> {
 
 /// One rule of one atom, `if` or `then`, with so many variables, all different.
 fn one_atom(then: bool, variables: usize) -> Vec<u8> {
+    one_atom_at(then, variables, |_| 0)
+}
+
+/// The same, with a second location word for each row by its number.
+fn one_atom_at(then: bool, variables: usize, mut place: impl FnMut(u32) -> u32) -> Vec<u8> {
     let mut f = File::default();
     let names: Vec<String> = (0..variables).map(|i| format!("v{i}")).collect();
     let args: Vec<&str> = names.iter().map(String::as_str).collect();
     let atom = f.pred("shares", &args);
     let stmt = if then { f.then_stmt(2, atom) } else { f.if_stmt(2, atom) };
     f.rule(&[stmt]);
+    for (i, row) in f.s.rows.iter_mut().enumerate() {
+        row.location = [0, place(i as u32)];
+    }
     f.done(0)
 }
 
@@ -316,6 +324,46 @@ fn time(name: &str, image: &[u8], subject: &dyn Calls) -> Line {
     Line { name: name.to_string(), nodes: n, rust: medians(&mut rust), here: medians(&mut here), tests: median(&mut tests) }
 }
 
+fn count(answer: Answer) -> usize {
+    match answer {
+        Answer::Result(a, b) | Answer::Other(a, b) => (a + b) as usize,
+        other => panic!("{other:?}"),
+    }
+}
+
+/// Errors and Sorted on one image, in turn: medians in microseconds, and the rows.
+fn time_sorted(image: &[u8], subject: &dyn Calls) -> (f64, f64, u32) {
+    let n = sizes(image).n;
+    let mut table = vec![0u32; table_words(n)];
+    let mut rows = vec![0u32; rows_words(n)];
+    let (mut errors, mut sorted) = (Vec::new(), Vec::new());
+    for _ in 0..ROUNDS {
+        errors.push(clock(|| sink(count(subject.errors(image, &mut table, &mut rows, 1)))));
+        sorted.push(clock(|| sink(count(subject.sorted(image, &mut table, &mut rows, 1)))));
+    }
+    (median(&mut errors), median(&mut sorted), rows[0])
+}
+
+/// Sorted beside Errors: 1,000 error rows whose places rise, are equal, fall or are drawn; and files with few error rows.
+fn run_sorted(subject: &dyn Calls) {
+    let mut r = Random::new(3, 3);
+    let inputs: [(&str, Vec<u8>); 6] = [
+        ("1,000 error rows, places rise", one_atom_at(true, 1000, |i| i)),
+        ("1,000 error rows, one place", one_atom(true, 1000)),
+        ("1,000 error rows, places fall", one_atom_at(true, 1000, |i| u32::MAX - i)),
+        ("1,000 error rows, places drawn", one_atom_at(true, 1000, |_| r.word() as u32)),
+        ("typical, 30 rules", typical(30, 2047)),
+        ("largest, mixed", mixed(2048)),
+    ];
+    println!();
+    println!("| input | error rows | L errors | L sorted | sorted / errors |");
+    println!("|---|---|---|---|---|");
+    for (name, image) in &inputs {
+        let (errors, sorted, count) = time_sorted(image, subject);
+        println!("| {name} | {count} | {errors:.1} | {sorted:.1} | {:.2} |", sorted / errors);
+    }
+}
+
 #[cfg(feature = "library")]
 fn subject() -> impl Calls {
     differential::calls::Library
@@ -376,6 +424,7 @@ fn run() {
             line.rust[3] / both
         );
     }
+    run_sorted(&subject);
 }
 
 fn main() {

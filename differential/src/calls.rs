@@ -1,11 +1,11 @@
-//! The calls of document 01, as this library and the reading both answer them.
+//! The calls of documents 01 and 02, as this library and the reading both answer them.
 
 #[derive(Copy, Clone, Debug, PartialEq, Eq, Hash, PartialOrd, Ord)]
 pub enum Answer {
     Refused(u32),
     /// Name, first node, second node.
     Twice(u32, u32, u32),
-    /// Resolve: K and Y; Lookup: symbol number and node; Errors and Occurrences: 0 and the count; Once: 0 and 0 for "ok".
+    /// Resolve: K and Y; Lookup: symbol number and node; Errors, Sorted and Occurrences: 0 and the count; Once: 0 and 0 for "ok".
     Result(u32, u32),
     /// Lookup: none, 0 and 0; Once: the lone occurrence and its binding.
     Other(u32, u32),
@@ -15,6 +15,7 @@ pub trait Calls {
     fn resolve(&self, image: &[u8], table: &mut [u32]) -> Answer;
     fn lookup(&self, image: &[u8], table: &[u32], scope: u32, name: &[u8]) -> Answer;
     fn errors(&self, image: &[u8], table: &mut [u32], rows: &mut [u32], mode: u32) -> Answer;
+    fn sorted(&self, image: &[u8], table: &mut [u32], rows: &mut [u32], mode: u32) -> Answer;
     fn once(&self, image: &[u8], table: &mut [u32]) -> Answer;
     fn occurrences(&self, image: &[u8], table: &mut [u32], rows: &mut [u32]) -> Answer;
     /// Where the name stands in the image, start and length; 0 and 0 where it is empty.
@@ -61,6 +62,10 @@ mod library {
 
         fn errors(&self, image: &[u8], table: &mut [u32], rows: &mut [u32], mode: u32) -> Answer {
             rows_answer(lib::errors_by_number(image, table, rows, mode))
+        }
+
+        fn sorted(&self, image: &[u8], table: &mut [u32], rows: &mut [u32], mode: u32) -> Answer {
+            rows_answer(lib::sorted_by_number(image, table, rows, mode))
         }
 
         fn once(&self, image: &[u8], table: &mut [u32]) -> Answer {

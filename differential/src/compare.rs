@@ -4,12 +4,12 @@
 use original::{Answers, Built};
 
 use crate::calls::{Answer, Calls};
-use crate::counts::Counts;
+use crate::counts::{Counts, CHANGED, CHANGED_WITH_EQUALS};
 use crate::random::Random;
 use crate::reading::layout::{place, rows_words, table_words, Array, COUNTS};
 use crate::reading::tests::{fields, name_span, sizes, verdict, Field};
 use crate::reading::walk::Rows;
-use crate::reading::{sight, Reading};
+use crate::reading::{checks, sight, Reading};
 
 pub struct Compare<'a> {
     pub subject: &'a dyn Calls,
@@ -92,6 +92,9 @@ impl Compare<'_> {
         };
         let errors = self.both("errors", &start, |c, d| d.answer = c.errors(image, &mut d.table, &mut d.rows, mode))?;
         counts.answer("errors", errors.answer);
+        let sorted = self.both("sorted", &start, |c, d| d.answer = c.sorted(image, &mut d.table, &mut d.rows, mode))?;
+        counts.answer("sorted", sorted.answer);
+        by_place(image, &errors, &sorted, counts)?;
         let once = self.both("once", &start, |c, d| d.answer = c.once(image, &mut d.table))?;
         counts.answer("once", once.answer);
         let list = self.both("occurrences", &start, |c, d| d.answer = c.occurrences(image, &mut d.table, &mut d.rows))?;
@@ -178,13 +181,16 @@ impl Compare<'_> {
         let mut table = lent(r, table_words(n));
         let mut errors = lent(r, rows_words(n));
         let mut list = errors.clone();
+        let mut sorted = errors.clone();
         let mut spare = table.clone();
         let answer = self.subject.resolve(image, &mut table);
         let error_answer = self.subject.errors(image, &mut spare, &mut errors, 1);
+        let sorted_answer = self.subject.sorted(image, &mut spare, &mut sorted, 1);
         let once = self.subject.once(image, &mut spare);
         let list_answer = self.subject.occurrences(image, &mut spare, &mut list);
         let list = pairs(&list, n, list_answer);
         let errors = pairs(&errors, n, error_answer);
+        let sorted = pairs(&sorted, n, sorted_answer);
         if let Answer::Result(k, _) = answer {
             if n <= 600 || r.one_in(10) {
                 sight::check(image, &list)?;
@@ -227,6 +233,7 @@ impl Compare<'_> {
                 let twice = Answer::Twice(name, first, second);
                 return same("resolve", answer, twice)
                     .and(same("errors", error_answer, twice))
+                    .and(same("sorted", sorted_answer, twice))
                     .and(same("once", once, twice))
                     .and(same("occurrences", list_answer, twice))
                     .and(same("table after twice", table, vec![0; table_words(n)]));
@@ -257,6 +264,7 @@ impl Compare<'_> {
             same(&format!("symbols of {scope}"), &symbols[scope], wanted)?;
         }
         same("error rows", &errors, &wanted.errors)?;
+        same("error rows by place", &sorted, &checks::by_place(&rows, wanted.errors))?;
         same("occurrences", &list, &wanted.occurrences)?;
         same("once", once, wanted.lone.map_or(Answer::Result(0, 0), |(node, binding)| Answer::Other(node, binding)))?;
         for ((scope, name), found) in asked.iter().zip(found) {
@@ -282,6 +290,36 @@ fn pairs(rows: &[u32], n: usize, answer: Answer) -> Vec<(u32, u32)> {
         Answer::Result(_, count) => (0..count as usize).map(|i| (rows[1 + i], rows[1 + n + i])).collect(),
         _ => Vec::new(),
     }
+}
+
+/// Sorted's answer and table are those of Errors, and it leaves the same rows; counts the lists that sorting changes.
+fn by_place(image: &[u8], errors: &Done, sorted: &Done, counts: &mut Counts) -> Checked {
+    if (sorted.answer, &sorted.table) != (errors.answer, &errors.table) {
+        return Err(format!("sorted: {:?}, or its table, is not that of errors, {:?}", sorted.answer, errors.answer));
+    }
+    let Answer::Result(..) = errors.answer else {
+        return if sorted.rows == errors.rows { Ok(()) } else { Err("sorted: other rows than errors, without a result".into()) };
+    };
+    let rows = Rows::new(image);
+    let (old, new) = (pairs(&errors.rows, rows.n, errors.answer), pairs(&sorted.rows, rows.n, sorted.answer));
+    let places: Vec<u32> = new.iter().map(|w| rows.location(w.1).1).collect();
+    if places.windows(2).any(|p| p[0] > p[1]) {
+        return Err("sorted: places do not rise".into());
+    }
+    if old != new {
+        counts.see(CHANGED);
+        if places.windows(2).any(|p| p[0] == p[1]) {
+            counts.see(CHANGED_WITH_EQUALS);
+        }
+    }
+    counts.most("error rows", new.len() as u64);
+    let (mut old, mut new) = (old, new);
+    old.sort_unstable();
+    new.sort_unstable();
+    if old != new {
+        return Err("sorted: other rows than those of errors".into());
+    }
+    Ok(())
 }
 
 fn depth(table: &[u32], n: usize, k: usize) -> u64 {

@@ -4,7 +4,11 @@ use std::collections::BTreeMap;
 
 use crate::calls::Answer;
 
-pub const CALLS: [&str; 6] = ["resolve", "lookup", "errors", "once", "occurrences", "name"];
+pub const CALLS: [&str; 7] = ["resolve", "lookup", "errors", "sorted", "once", "occurrences", "name"];
+
+/// Lists of error rows that sorting by place must have met.
+pub const CHANGED: &str = "error rows: lists that sorting changes";
+pub const CHANGED_WITH_EQUALS: &str = "error rows: lists that sorting changes, with several rows at one place";
 
 #[derive(Default)]
 pub struct Counts {
@@ -91,6 +95,11 @@ impl Counts {
         for row in 1..=4 {
             if self.of(&format!("error rows {row}")) == 0 {
                 missing.push(format!("error row {row}"));
+            }
+        }
+        for what in [CHANGED, CHANGED_WITH_EQUALS] {
+            if self.of(what) == 0 {
+                missing.push(what.to_string());
             }
         }
         missing

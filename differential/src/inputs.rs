@@ -212,6 +212,19 @@ fn sketch(r: &mut Random, largest: usize) -> (Sketch, String) {
                     size = r.between(1600, 1990).min(largest);
                     style.items = 3;
                 }
+                66..=73 => {
+                    // many new variables in then-statements
+                    what = "many error rows";
+                    size = r.between(200, 2000).min(largest);
+                    style.decls = [0, 2, 0, 0, 9, 0, 0];
+                    style.stmts = [1, 30, 1, 0];
+                    style.then_atoms = [1, 1, 6];
+                    style.terms = [30, 1, 1, 0, 0, 0, 0, 0];
+                    style.items = 60;
+                    style.variables = 900;
+                    style.clash = 0;
+                    style.foreign = 0;
+                }
                 _ => {}
             }
             let letters = match r.below(20) {

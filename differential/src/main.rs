@@ -81,6 +81,7 @@ fn deepest() {
                 }
             }
             subject.errors(&image, &mut table, &mut rows, 2);
+            subject.sorted(&image, &mut table, &mut rows, 2);
             subject.occurrences(&image, &mut table, &mut rows);
             subject.once(&image, &mut table);
             subject.name(&image, 0);

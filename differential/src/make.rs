@@ -494,12 +494,19 @@ impl<'a> Make<'a> {
         self.sketch.names = names(self.random, count, letters);
     }
 
+    /// Location words that vary and collide: all 0, drawn from few or many numbers, or rising or falling from row to row,
+    /// some rows at the place of others.
     pub fn locations(&mut self) {
-        let style = self.random.below(3);
-        for row in &mut self.sketch.rows {
+        let style = self.random.below(6);
+        let few = *self.random.pick(&[2, 3, 8, 40]);
+        let count = self.sketch.rows.len();
+        for (i, row) in self.sketch.rows.iter_mut().enumerate() {
             row.location = match style {
                 0 => [0, 0],
-                1 => [self.random.below(1000) as u32, self.random.below(1000) as u32],
+                1 => [self.random.below(few) as u32, self.random.below(few) as u32],
+                2 => [self.random.below(1000) as u32, self.random.below(1000) as u32],
+                3 => [i as u32, (i / few) as u32],
+                4 => [i as u32, ((count - i) / few) as u32],
                 _ => [self.random.word() as u32, self.random.word() as u32],
             };
         }

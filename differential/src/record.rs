@@ -1,10 +1,10 @@
 //! Recorded answers, for the program that replays them without any Rust.
 //!
-//! A record is 20 little-endian words: the image's length in bytes, the table's and the rows' in words, the mode, the scope,
+//! A record is 22 little-endian words: the image's length in bytes, the table's and the rows' in words, the mode, the scope,
 //! the length of the name looked up, the name number asked for, 0; then the packed answers of eqlog_resolve, eqlog_errors,
-//! eqlog_once, eqlog_occurrences, eqlog_lookup and eqlog_name, low word first. After them the image, the name, and
-//! what the calls leave: the table after resolve, the rows after errors, the rows after occurrences. Every lent word
-//! is 7 before each call but lookup, which is given the table that resolve leaves.
+//! eqlog_once, eqlog_occurrences, eqlog_lookup, eqlog_name and eqlog_sorted, low word first. After them the image, the
+//! name, and what the calls leave: the table after resolve, the rows after errors, occurrences and sorted. Every lent
+//! word is 7 before each call but lookup, which is given the table that resolve leaves.
 
 use crate::calls::{Answer, Calls};
 use crate::compare::Compare;
@@ -37,6 +37,8 @@ fn record(image: &[u8], r: &mut Random) -> Vec<u8> {
     let resolved = Reading.resolve(image, &mut table);
     let mut errors = vec![7; rows_len];
     let error_answer = Reading.errors(image, &mut vec![7; table_len], &mut errors, mode);
+    let mut sorted = vec![7; rows_len];
+    let sorted_answer = Reading.sorted(image, &mut vec![7; table_len], &mut sorted, mode);
     let once = Reading.once(image, &mut vec![7; table_len]);
     let mut list = vec![7; rows_len];
     let list_answer = Reading.occurrences(image, &mut vec![7; table_len], &mut list);
@@ -59,9 +61,10 @@ fn record(image: &[u8], r: &mut Random) -> Vec<u8> {
         bytes.extend(packed(answer).to_le_bytes());
     }
     bytes.extend(place.to_le_bytes());
+    bytes.extend(packed(sorted_answer).to_le_bytes());
     bytes.extend(image);
     bytes.extend(name);
-    for words in [table, errors, list] {
+    for words in [table, errors, list, sorted] {
         bytes.extend(words.iter().flat_map(|w| w.to_le_bytes()));
     }
     bytes

@@ -88,6 +88,15 @@ mod raw {
             rows_len: usize,
             mode: u32,
         ) -> u64;
+        pub fn eqlog_sorted(
+            image: *const u8,
+            image_len: usize,
+            table: *mut u32,
+            table_len: usize,
+            rows: *mut u32,
+            rows_len: usize,
+            mode: u32,
+        ) -> u64;
         pub fn eqlog_once(image: *const u8, image_len: usize, table: *mut u32, table_len: usize) -> u64;
         pub fn eqlog_occurrences(
             image: *const u8,
@@ -231,7 +240,7 @@ pub enum Lookup {
     Nothing,
 }
 
-/// The answer of [`errors`] and of [`occurrences`].
+/// The answer of [`errors`], of [`sorted`] and of [`occurrences`].
 #[derive(Copy, Clone, Debug, PartialEq, Eq, Hash)]
 pub enum Rows {
     Refused(Refusal),
@@ -249,7 +258,7 @@ pub enum Once {
     Lone { node: u32, binding: u32 },
 }
 
-/// How [`errors`] checks.
+/// How [`errors`] and [`sorted`] check.
 #[derive(Copy, Clone, Debug, PartialEq, Eq, Hash)]
 #[repr(u32)]
 pub enum Mode {
@@ -307,6 +316,28 @@ pub fn errors(image: &[u8], table: &mut [u32], rows: &mut [u32], mode: Mode) -> 
 pub fn errors_by_number(image: &[u8], table: &mut [u32], rows: &mut [u32], mode: u32) -> Rows {
     let packed = unsafe {
         raw::eqlog_errors(
+            image.as_ptr(),
+            image.len(),
+            table.as_mut_ptr(),
+            table.len(),
+            rows.as_mut_ptr(),
+            rows.len(),
+            mode,
+        )
+    };
+    written(packed)
+}
+
+/// The same rows as [`errors`], by place: the second location word of each row's node rises from row to row, and rows of
+/// one place stand in the sequence of [`errors`].
+pub fn sorted(image: &[u8], table: &mut [u32], rows: &mut [u32], mode: Mode) -> Rows {
+    sorted_by_number(image, table, rows, mode as u32)
+}
+
+/// The same with the mode as a number, of which 0 to 2 are modes.
+pub fn sorted_by_number(image: &[u8], table: &mut [u32], rows: &mut [u32], mode: u32) -> Rows {
+    let packed = unsafe {
+        raw::eqlog_sorted(
             image.as_ptr(),
             image.len(),
             table.as_mut_ptr(),

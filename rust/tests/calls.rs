@@ -4,11 +4,16 @@ use eqlog_scopes::*;
 
 /// Rows as kind and words after the location, which is (0, 0); names in order.
 fn image(rows: &[(u32, &[u32])], names: &[&str]) -> Vec<u8> {
+    image_at(rows, &vec![0; rows.len()], names)
+}
+
+/// The same with the second location word of each row.
+fn image_at(rows: &[(u32, &[u32])], places: &[u32], names: &[&str]) -> Vec<u8> {
     let mut operands: Vec<u32> = Vec::new();
     let mut starts = Vec::new();
-    for (_, words) in rows {
+    for ((_, words), place) in rows.iter().zip(places) {
         starts.push(operands.len() as u32);
-        operands.extend([0, 0]);
+        operands.extend([0, *place]);
         operands.extend(*words);
     }
     let mut ends = Vec::new();
@@ -64,6 +69,36 @@ fn lone() -> Vec<u8> {
         (0, &[1, 9]),
     ];
     image(&rows, &["x", "y"])
+}
+
+/// One rule `then x = y` with `then z = z` after it; the terms x, y and z have these places.
+fn three_new(places: [u32; 3]) -> Vec<u8> {
+    let rows: [(u32, &[u32]); 19] = [
+        (13, &[0]),
+        (12, &[0, 0]),
+        (13, &[1]),
+        (12, &[0, 2]),
+        (30, &[1, 3]),
+        (29, &[0, 4]),
+        (38, &[5]),
+        (36, &[1, 6]),
+        (13, &[2]),
+        (12, &[0, 8]),
+        (13, &[2]),
+        (12, &[0, 10]),
+        (30, &[9, 11]),
+        (29, &[0, 12]),
+        (38, &[13]),
+        (36, &[1, 14]),
+        (6, &[0, 2, 7, 15]),
+        (1, &[4, 16]),
+        (0, &[1, 17]),
+    ];
+    let mut words = [0; 19];
+    for (term, place) in [1, 3, 9].into_iter().zip(places) {
+        words[term] = place;
+    }
+    image_at(&rows, &words, &["x", "y", "z"])
 }
 
 fn lent() -> (Vec<u32>, Vec<u32>) {
@@ -134,6 +169,37 @@ fn errors_writes_rows() {
         errors(&twice(), &mut small, &mut rows, Mode::Plain),
         Rows::Twice(Twice { name: 0, first: 2, second: 1 })
     );
+}
+
+#[test]
+fn sorted_writes_rows_by_place() {
+    let mut table = vec![7; table_len(19) + 1];
+    let mut rows = vec![7; rows_len(19) + 1];
+    let mut by_place = |places| {
+        let answer = sorted(&three_new(places), &mut table, &mut rows, Mode::Plain);
+        assert_eq!(answer, Rows::Written(3));
+        assert_eq!((table[table_len(19)], rows[rows_len(19)]), (7, 7));
+        assert!(rows[4..20].iter().all(|&w| w == 0));
+        pairs(&rows, 19).collect::<Vec<_>>()
+    };
+    // x, y and z are introduced in then-statements; rows of one place stay in that sequence
+    assert_eq!(by_place([5, 6, 7]), [(1, 1), (1, 3), (1, 9)]);
+    assert_eq!(by_place([7, 6, 5]), [(1, 9), (1, 3), (1, 1)]);
+    assert_eq!(by_place([6, 5, 6]), [(1, 3), (1, 1), (1, 9)]);
+    assert_eq!(by_place([0, 0, 0]), [(1, 1), (1, 3), (1, 9)]);
+    assert_eq!(by_place([u32::MAX, 0, 1]), [(1, 3), (1, 9), (1, 1)]);
+    // otherwise as errors
+    let image = three_new([7, 6, 5]);
+    assert_eq!(errors(&image, &mut table, &mut rows, Mode::Plain), Rows::Written(3));
+    assert_eq!(pairs(&rows, 19).collect::<Vec<_>>(), [(1, 1), (1, 3), (1, 9)]);
+    assert_eq!(sorted_by_number(&image, &mut table, &mut rows, 3), Rows::Refused(Refusal::Mode));
+    let short = rows_len(19) - 1;
+    assert_eq!(sorted(&image, &mut table, &mut rows[..short], Mode::Strict), Rows::Refused(Refusal::Rows));
+    assert_eq!(pairs(&rows, 19).collect::<Vec<_>>(), [(1, 1), (1, 3), (1, 9)]);
+    let mut small = vec![7; table_len(5)];
+    let clash = Twice { name: 0, first: 2, second: 1 };
+    assert_eq!(sorted(&twice(), &mut small, &mut rows, Mode::Default), Rows::Twice(clash));
+    assert_eq!(pairs(&rows, 19).collect::<Vec<_>>(), [(1, 1), (1, 3), (1, 9)]);
 }
 
 #[test]

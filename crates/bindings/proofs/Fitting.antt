@@ -9,7 +9,7 @@ use Rattle.bindings.specs.Errors.{errorRows, testErrors, errors}
 use Rattle.bindings.proofs.Bound.{rows-few}
 use Rattle.bindings.proofs.Calls.{errors-table}
 
-errors-low : (img tab rows : List ℕ) (mode : ℕ) → Low (testErrors img tab rows mode)
+pub errors-low : (img tab rows : List ℕ) (mode : ℕ) → Low (testErrors img tab rows mode)
 unfolding testErrors
 errors-low img tab rows mode = first-low _ _ (rows-low img tab rows) (need-low 15 _ (omega arith))
 

@@ -1,4 +1,5 @@
-pub mod Words
 pub mod Untouched
 pub mod ErrorRows
 pub mod ByBytes
+pub mod Orders
+pub mod SortedRows

@@ -22,11 +22,13 @@ use Rattle.sight.specs.Listing.{tableIn}
 use Rattle.bindings.specs.Errors.{errorRows, testErrors, errors}
 use Rattle.bindings.proofs.Bound.{rows-few}
 use Rattle.bindings.proofs.Calls.{errors-rows}
+use Rattle.sorted.specs.Sorted.{placed, sorted}
+use Rattle.sorted.proofs.Calls.{placed-few}
 use Rattle.occurrences.specs.Occurrences.{occurrenceRows, occurrences, loneAnswer, lone, rowsByRule, once}
 use Rattle.occurrences.proofs.Few as list
 use Rattle.ast.specs.Rules.{moduleRules}
 use Rattle.calls.specs.Left.{Refuses, Stops, Fills, TableLeft, RowsLeft}
-use Rattle.calls.proofs.Words.{cleared-zero, written-count, written-unused, written-past, written-long}
+use Rattle.rows.proofs.Words.{cleared-zero, written-count, written-unused, written-past, written-long}
 
 -- the unused places of a table with its counts in front
 module _ (img tab : List ℕ) (passes : testTable img tab ≡ 0) (e : Walked) (ends : walked img tab ≡ done e) where
@@ -111,7 +113,7 @@ unfolding loneAnswer
 lone-fills none = tt
 lone-fills (some w) = tt
 
--- the four calls -----------------------------------------------------------------------------------------------------------
+-- the calls ----------------------------------------------------------------------------------------------------------------
 module _ (img tab : List ℕ) where
   pub resolve-left : TableLeft img tab ((resolve img tab) .answer) ((resolve img tab) .table)
   unfolding resolve tableCall
@@ -138,3 +140,11 @@ module _ (img tab : List ℕ) where
       pub errors-rows-left : RowsLeft img rows ((errors img tab rows mode) .answer) ((errors img tab rows mode) .rows)
       unfolding errors
       errors-rows-left = rows-left img tab rows (errors-rows img tab rows mode) (λ t. errorRows img t mode) (λ a t. rows-few img a t mode)
+
+      pub sorted-table-left : TableLeft img tab ((sorted img tab rows mode) .answer) ((sorted img tab rows mode) .table)
+      unfolding sorted
+      sorted-table-left = rows-table-left img tab rows (errors-rows img tab rows mode) (λ t. placed img (errorRows img t mode)) (placed-few img mode)
+
+      pub sorted-rows-left : RowsLeft img rows ((sorted img tab rows mode) .answer) ((sorted img tab rows mode) .rows)
+      unfolding sorted
+      sorted-rows-left = rows-left img tab rows (errors-rows img tab rows mode) (λ t. placed img (errorRows img t mode)) (placed-few img mode)

@@ -6,6 +6,7 @@ ghost use Rattle.scopes.specs.Answers.{resolvedAnswer, lookedAnswer, rowedAnswe
 ghost use Rattle.scopes.specs.Resolve.{resolve};
 ghost use Rattle.scopes.specs.Lookup.{lookupCall};
 ghost use Rattle.bindings.specs.Errors.{errors};
+ghost use Rattle.sorted.specs.Sorted.{sorted};
 ghost use Rattle.occurrences.specs.Answers.{onceAnswer};
 ghost use Rattle.occurrences.specs.Occurrences as «calls-spec»;
 ghost use Rattle.ast.specs.Answer.{Short, Fits};
@@ -91,6 +92,14 @@ pub extern "C" fn eqlog_errors(image: &[u8], table: &mut [u32], rows: &mut [u32]
     ensures { λ r. ⌜ LeavesRows (errors (now (image .entry)) (now (table .entry)) (now (rows .entry)) mode) r (now (table .exit)) (now (rows .exit)) ⌝ }
 {
     pack_rowed(bindings::check_bindings(image, table, rows, mode))
+}
+
+// Sorted: as Errors, with the rows by place.
+#[no_mangle]
+pub extern "C" fn eqlog_sorted(image: &[u8], table: &mut [u32], rows: &mut [u32], mode: u32) -> u64
+    ensures { λ r. ⌜ LeavesRows (sorted (now (image .entry)) (now (table .entry)) (now (rows .entry)) mode) r (now (table .exit)) (now (rows .exit)) ⌝ }
+{
+    pack_rowed(sorted::sorted(image, table, rows, mode))
 }
 
 // Once: resolves, then looks for the first lone occurrence.

@@ -4,16 +4,16 @@ use libc::STDIN_FILENO;
 use libc::STDOUT_FILENO;
 
 // The i-th number at a record's head: 0 image bytes, 1 table words, 2 rows words, 3 mode, 4 scope, 5 name bytes, 6 name number.
-fn head_word(head: &[u8; 80], i: usize) -> u32 {
-    if 20 <= i {
+fn head_word(head: &[u8; 88], i: usize) -> u32 {
+    if 22 <= i {
         return 0;
     }
     ast::word(head, 4 * i)
 }
 
-// The i-th packed answer: 0 resolve, 1 errors, 2 once, 3 occurrences, 4 lookup, 5 name.
-fn answer(head: &[u8; 80], i: usize) -> u64 {
-    if 6 <= i {
+// The i-th packed answer: 0 resolve, 1 errors, 2 once, 3 occurrences, 4 lookup, 5 name, 6 sorted.
+fn answer(head: &[u8; 88], i: usize) -> u64 {
+    if 7 <= i {
         return 0;
     }
     let low = head_word(head, 8 + 2 * i);
@@ -36,7 +36,7 @@ fn same_words(words: &[u32], bytes: &[u8]) -> bool {
     true
 }
 
-fn resolve(head: &[u8; 80], image: &[u8], name: &[u8], table: &mut [u32], after: &[u8]) -> bool {
+fn resolve(head: &[u8; 88], image: &[u8], name: &[u8], table: &mut [u32], after: &[u8]) -> bool {
     if exports::eqlog_resolve(image, table) != answer(head, 0) {
         return false;
     }
@@ -46,52 +46,50 @@ fn resolve(head: &[u8; 80], image: &[u8], name: &[u8], table: &mut [u32], after:
     same_words(table, after)
 }
 
-fn once(head: &[u8; 80], image: &[u8], table: &mut [u32], after: &[u8]) -> bool {
+fn once(head: &[u8; 88], image: &[u8], table: &mut [u32], after: &[u8]) -> bool {
     if exports::eqlog_once(image, table) != answer(head, 2) {
         return false;
     }
     same_words(table, after)
 }
 
-// Errors, or the occurrence list.
+// The call whose answer has this number: errors, occurrences or sorted.
 fn write_rows(
-    head: &[u8; 80],
+    head: &[u8; 88],
     image: &[u8],
     table: &mut [u32],
     rows: &mut [u32],
-    is_list: bool,
+    which: usize,
 ) -> u64 {
-    if is_list {
+    if which == 3 {
         return exports::eqlog_occurrences(image, table, rows);
+    }
+    if which == 6 {
+        return exports::eqlog_sorted(image, table, rows, head_word(head, 3));
     }
     exports::eqlog_errors(image, table, rows, head_word(head, 3))
 }
 
-fn errors_or_list(
-    head: &[u8; 80],
+fn wrote_rows(
+    head: &[u8; 88],
     image: &[u8],
     table: &mut [u32],
     rows: &mut [u32],
-    is_list: bool,
+    which: usize,
     after: &[u8],
 ) -> bool {
-    let wanted = if is_list {
-        answer(head, 3)
-    } else {
-        answer(head, 1)
-    };
-    if write_rows(head, image, table, rows, is_list) != wanted {
+    if write_rows(head, image, table, rows, which) != answer(head, which) {
         return false;
     }
     same_words(rows, after)
 }
 
-fn called_name(head: &[u8; 80], image: &[u8]) -> bool {
+fn called_name(head: &[u8; 88], image: &[u8]) -> bool {
     exports::eqlog_name(image, head_word(head, 6)) == answer(head, 5)
 }
 
 // The calls on words of which there are as many as the record says, each 7 before.
-fn on_table(head: &[u8; 80], image: &[u8], name: &[u8], table: &mut [u32], after: &[u8]) -> bool {
+fn on_table(head: &[u8; 88], image: &[u8], name: &[u8], table: &mut [u32], after: &[u8]) -> bool {
     let n = ast::wide(head_word(head, 1));
     if table.len() < n {
         return false;
@@ -99,7 +97,7 @@ fn on_table(head: &[u8; 80], image: &[u8], name: &[u8], table: &mut [u32], after
     resolve(head, image, name, &mut table[..n], after)
 }
 
-fn once_on_table(head: &[u8; 80], image: &[u8], table: &mut [u32], after: &[u8]) -> bool {
+fn once_on_table(head: &[u8; 88], image: &[u8], table: &mut [u32], after: &[u8]) -> bool {
     let n = ast::wide(head_word(head, 1));
     if table.len() < n {
         return false;
@@ -108,11 +106,11 @@ fn once_on_table(head: &[u8; 80], image: &[u8], table: &mut [u32], after: &[u8])
 }
 
 fn on_rows(
-    head: &[u8; 80],
+    head: &[u8; 88],
     image: &[u8],
     table: &mut [u32],
     rows: &mut [u32],
-    is_list: bool,
+    which: usize,
     after: &[u8],
 ) -> bool {
     let n = ast::wide(head_word(head, 1));
@@ -123,22 +121,23 @@ fn on_rows(
     if rows.len() < m {
         return false;
     }
-    errors_or_list(head, image, &mut table[..n], &mut rows[..m], is_list, after)
+    wrote_rows(head, image, &mut table[..n], &mut rows[..m], which, after)
 }
 
-fn rows_of(head: &[u8; 80], image: &[u8], is_list: bool, after: &[u8]) -> bool {
+fn rows_of(head: &[u8; 88], image: &[u8], which: usize, after: &[u8]) -> bool {
     let mut table = [7u32; 10246];
     let mut rows = [7u32; 4100];
-    on_rows(head, image, &mut table, &mut rows, is_list, after)
+    on_rows(head, image, &mut table, &mut rows, which, after)
 }
 
 fn calls(
-    head: &[u8; 80],
+    head: &[u8; 88],
     image: &[u8],
     name: &[u8],
     after: &[u8],
     rows: &[u8],
     list: &[u8],
+    sorted: &[u8],
 ) -> bool {
     let mut a = [7u32; 10246];
     if !on_table(head, image, name, &mut a, after) {
@@ -148,10 +147,13 @@ fn calls(
     if !once_on_table(head, image, &mut b, after) {
         return false;
     }
-    if !rows_of(head, image, false, rows) {
+    if !rows_of(head, image, 1, rows) {
         return false;
     }
-    if !rows_of(head, image, true, list) {
+    if !rows_of(head, image, 3, list) {
+        return false;
+    }
+    if !rows_of(head, image, 6, sorted) {
         return false;
     }
     called_name(head, image)
@@ -166,12 +168,13 @@ fn read_part(buffer: &mut [u8], n: usize) -> bool {
 }
 
 // Reads the rest of a record, and says whether all is as recorded.
-fn is_as_recorded(head: &[u8; 80]) -> bool {
+fn is_as_recorded(head: &[u8; 88]) -> bool {
     let mut image = [0u8; 65536];
     let mut name = [0u8; 8192];
     let mut table = [0u8; 40984];
     let mut rows = [0u8; 16400];
     let mut list = [0u8; 16400];
+    let mut sorted = [0u8; 16400];
     let a = ast::wide(head_word(head, 0));
     let b = ast::wide(head_word(head, 5));
     let n = ast::wide(head_word(head, 1));
@@ -191,17 +194,21 @@ fn is_as_recorded(head: &[u8; 80]) -> bool {
     if !read_part(&mut list, 4 * m) {
         return false;
     }
-    calls_on(head, &image, &name, &table, &rows, &list)
+    if !read_part(&mut sorted, 4 * m) {
+        return false;
+    }
+    calls_on(head, &image, &name, &table, &rows, &list, &sorted)
 }
 
 // The image and the name cut to the lengths that the record says.
 fn calls_on(
-    head: &[u8; 80],
+    head: &[u8; 88],
     image: &[u8],
     name: &[u8],
     after: &[u8],
     rows: &[u8],
     list: &[u8],
+    sorted: &[u8],
 ) -> bool {
     let a = ast::wide(head_word(head, 0));
     let b = ast::wide(head_word(head, 5));
@@ -211,7 +218,7 @@ fn calls_on(
     if name.len() < b {
         return false;
     }
-    calls(head, &image[..a], &name[..b], after, rows, list)
+    calls(head, &image[..a], &name[..b], after, rows, list, sorted)
 }
 
 fn say(number: u64, text: &[u8]) {
@@ -221,8 +228,8 @@ fn say(number: u64, text: &[u8]) {
 
 // Replays the next record; false where there is none.
 fn next_record(number: u64) -> bool {
-    let mut head = [0u8; 80];
-    if io::read_full(STDIN_FILENO, &mut head) != 80 {
+    let mut head = [0u8; 88];
+    if io::read_full(STDIN_FILENO, &mut head) != 88 {
         return false;
     }
     if !is_as_recorded(&head) {

@@ -1,3 +1,4 @@
 pub mod Appends
 pub mod Parts
 pub mod Reading
+pub mod Words

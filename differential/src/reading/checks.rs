@@ -130,6 +130,12 @@ pub fn errors(r: &Resolved, strict: bool) -> Vec<(u32, u32)> {
     list
 }
 
+/// Document 02, S-1: "by the second location word of the row's node"; "rows with equal second words keep their old sequence".
+pub fn by_place(rows: &Rows, mut list: Vec<(u32, u32)>) -> Vec<(u32, u32)> {
+    list.sort_by_key(|&(_, node)| rows.location(node).1);
+    list
+}
+
 /// Each rule's list: "every variable occurrence with its binding: the node that lookup of its name gives, in the table,
 /// at the exit of the occurrence's node".
 pub fn occurrences(r: &Resolved) -> Vec<Vec<(u32, u32)>> {

@@ -1,5 +1,6 @@
-//! Document 01 read a second time, in Rust and from its text: the refusals, the walk, the checks, and sight. It is
-//! slow and plain; what it says is compared with the original Rust on accepted images and with this library on all.
+//! Documents 01 and 02 read a second time, in Rust and from their text: the refusals, the walk, the checks, and sight.
+//! It is slow and plain; what it says is compared with the original Rust on accepted images and with this library on
+//! all.
 
 pub mod checks;
 pub mod layout;
@@ -45,6 +46,25 @@ impl Reading {
             }
         }
     }
+
+    /// Errors, or the same rows by place.
+    fn error_rows(image: &[u8], table: &mut [u32], rows: &mut [u32], mode: u32, by_place: bool) -> Answer {
+        if let Some(r) = tests::rows_refusal(image, table.len(), rows.len()) {
+            return Answer::Refused(r);
+        }
+        if mode > 2 {
+            return Answer::Refused(15);
+        }
+        match Self::walked(image, table) {
+            Ok(r) => {
+                let list = checks::errors(&r, mode == 2);
+                let list = if by_place { checks::by_place(&r.rows, list) } else { list };
+                put_rows(rows, r.rows.n, &list);
+                Answer::Result(0, list.len() as u32)
+            }
+            Err(twice) => twice,
+        }
+    }
 }
 
 impl Calls for Reading {
@@ -66,20 +86,11 @@ impl Calls for Reading {
     }
 
     fn errors(&self, image: &[u8], table: &mut [u32], rows: &mut [u32], mode: u32) -> Answer {
-        if let Some(r) = tests::rows_refusal(image, table.len(), rows.len()) {
-            return Answer::Refused(r);
-        }
-        if mode > 2 {
-            return Answer::Refused(15);
-        }
-        match Self::walked(image, table) {
-            Ok(r) => {
-                let list = checks::errors(&r, mode == 2);
-                put_rows(rows, r.rows.n, &list);
-                Answer::Result(0, list.len() as u32)
-            }
-            Err(twice) => twice,
-        }
+        Self::error_rows(image, table, rows, mode, false)
+    }
+
+    fn sorted(&self, image: &[u8], table: &mut [u32], rows: &mut [u32], mode: u32) -> Answer {
+        Self::error_rows(image, table, rows, mode, true)
     }
 
     fn once(&self, image: &[u8], table: &mut [u32]) -> Answer {

@@ -37,6 +37,12 @@ impl Rows {
         self.operands[self.starts[n as usize] + 2 + j]
     }
 
+    /// The two location words.
+    pub fn location(&self, n: u32) -> (u32, u32) {
+        let start = self.starts[n as usize];
+        (self.operands[start], self.operands[start + 1])
+    }
+
     /// The list whose count is that word.
     pub fn list(&self, n: u32, j: usize) -> &[u32] {
         let from = self.starts[n as usize] + 2 + j + 1;

@@ -22,20 +22,20 @@ returns c = search needs
 returns-2 : tie.Need-returns-2
 returns-2 c = search needs
 
-slice-relend-prefix-errors-or-list : tie.Need-slice-relend-prefix-errors-or-list
-slice-relend-prefix-errors-or-list c = search needs
+slice-relend-prefix-wrote-rows : tie.Need-slice-relend-prefix-wrote-rows
+slice-relend-prefix-wrote-rows c = search needs
 
-slice-aggregate-errors-or-list : tie.Need-slice-aggregate-errors-or-list
-slice-aggregate-errors-or-list c = sym (length-take-le _ _ (search needs))
+slice-aggregate-wrote-rows : tie.Need-slice-aggregate-wrote-rows
+slice-aggregate-wrote-rows c = sym (length-take-le _ _ (search needs))
 
-slice-relend-prefix-errors-or-list-2 : tie.Need-slice-relend-prefix-errors-or-list-2
-slice-relend-prefix-errors-or-list-2 c = search needs
+slice-relend-prefix-wrote-rows-2 : tie.Need-slice-relend-prefix-wrote-rows-2
+slice-relend-prefix-wrote-rows-2 c = search needs
 
-slice-aggregate-errors-or-list-2 : tie.Need-slice-aggregate-errors-or-list-2
-slice-aggregate-errors-or-list-2 c = sym (length-take-le _ _ (search needs))
+slice-aggregate-wrote-rows-2 : tie.Need-slice-aggregate-wrote-rows-2
+slice-aggregate-wrote-rows-2 c = sym (length-take-le _ _ (search needs))
 
-errors-or-list-requires : tie.Need-errors-or-list-requires
-errors-or-list-requires c κs = search needs
+wrote-rows-requires : tie.Need-wrote-rows-requires
+wrote-rows-requires c κs = search needs
 
 same-length : tie.Need-same-length
 same-length c = search needs
@@ -56,11 +56,11 @@ on-rows-spec =
     wide-requires-2
     returns
     returns-2
-    slice-relend-prefix-errors-or-list
-    slice-aggregate-errors-or-list
-    slice-relend-prefix-errors-or-list-2
-    slice-aggregate-errors-or-list-2
-    errors-or-list-requires
+    slice-relend-prefix-wrote-rows
+    slice-aggregate-wrote-rows
+    slice-relend-prefix-wrote-rows-2
+    slice-aggregate-wrote-rows-2
+    wrote-rows-requires
     same-length
     same-length-2
     returns-3)

@@ -5,8 +5,8 @@ use Prim.Native.Nat.{ℕ, zero, suc, _+_, _<_, _≤_}
 use native.Mathlib.Omega.{arith}
 use lib.ListN.{length, getD, set, drop, replicate, length-set, length-replicate, getD-replicate, List·getD-append}
 use lib.Seq.{getD-set-same, getD-set-other, drop-set-lt}
-use Rattle.rows.specs.Rows.{Row, rowsLength, written, cleared, putRows}
+use Rattle.rows.specs.Rows.{Row, lefts, rights, rowsLength, filled, written, cleared, putRows}
 use Rattle.rows.proofs.Appends.{clear-length, clear-past, put-length, written-is}
 
 -- a cleared word is 0
 pub cleared-zero : (n : ℕ) (ws : List ℕ) (i : ℕ) → i < n → getD (cleared n ws) i 0 ≡ 0
@@ -58,3 +58,8 @@ module _ (N : ℕ) (l : List Row) (old : List ℕ) (few : length l ≤ N) where
   pub written-long : rowsLength N ≤ length old → length (written N l old) ≡ length old
   written-long h =
       ap length (written-is N l old few) ∙ length-set put 0 (length l) ∙ put-length N 0 l (cleared (rowsLength N) old) ∙ clear-length (rowsLength N) old h
+
+  -- other rows written over them
+  pub written-over : (k : List Row) → written N k (written N l old) ≡ written N k old
+  unfolding written
+  written-over k = ap (λ (ws : List ℕ). length k ∷ (filled N (lefts k) ++ (filled N (rights k) ++ ws))) written-past

@@ -1,0 +1,4 @@
+pub mod Sorts
+pub mod Merges
+pub mod Calls
+pub mod Fitting
