@@ -314,18 +314,7 @@ pub fn errors(image: &[u8], table: &mut [u32], rows: &mut [u32], mode: Mode) -> 
 
 /// The same with the mode as a number, of which 0 to 2 are modes.
 pub fn errors_by_number(image: &[u8], table: &mut [u32], rows: &mut [u32], mode: u32) -> Rows {
-    let packed = unsafe {
-        raw::eqlog_errors(
-            image.as_ptr(),
-            image.len(),
-            table.as_mut_ptr(),
-            table.len(),
-            rows.as_mut_ptr(),
-            rows.len(),
-            mode,
-        )
-    };
-    written(packed)
+    by_mode(raw::eqlog_errors, image, table, rows, mode)
 }
 
 /// The same rows as [`errors`], by place: the second location word of each row's node rises from row to row, and rows of
@@ -336,18 +325,15 @@ pub fn sorted(image: &[u8], table: &mut [u32], rows: &mut [u32], mode: Mode) -> 
 
 /// The same with the mode as a number, of which 0 to 2 are modes.
 pub fn sorted_by_number(image: &[u8], table: &mut [u32], rows: &mut [u32], mode: u32) -> Rows {
-    let packed = unsafe {
-        raw::eqlog_sorted(
-            image.as_ptr(),
-            image.len(),
-            table.as_mut_ptr(),
-            table.len(),
-            rows.as_mut_ptr(),
-            rows.len(),
-            mode,
-        )
-    };
-    written(packed)
+    by_mode(raw::eqlog_sorted, image, table, rows, mode)
+}
+
+type ByMode = unsafe extern "C" fn(*const u8, usize, *mut u32, usize, *mut u32, usize, u32) -> u64;
+
+fn by_mode(call: ByMode, image: &[u8], table: &mut [u32], rows: &mut [u32], mode: u32) -> Rows {
+    written(unsafe {
+        call(image.as_ptr(), image.len(), table.as_mut_ptr(), table.len(), rows.as_mut_ptr(), rows.len(), mode)
+    })
 }
 
 /// Resolves, then writes every variable occurrence with its binding: a count, then an array of nodes and one of bindings.
