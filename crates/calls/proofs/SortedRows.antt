@@ -1,7 +1,7 @@
 -- Document 02's S-1 on what Sorted leaves, beside what Errors leaves: for every image, table, rows and mode.
 use mathlib.Core.Path.{_≡_, refl, sym, _∙_, ap, subst}
 use mathlib.Core.Logic.{inl, inr}
-use mathlib.Core.Bool.{Bool, true}
+use mathlib.Core.Bool.{Bool}
 use mathlib.Core.List.{List, List·Permᴰ}
 use Prim.Native.Nat.{ℕ, zero, suc, _+_, _<_, _≤_}
 use native.Mathlib.Omega.{arith}
@@ -15,7 +15,6 @@ use Rattle.rows.proofs.Reading.{held-written}
 use Rattle.scopes.specs.Calls.{RowsOutcome}
 use Rattle.bindings.specs.Errors.{errors}
 use Rattle.sight.specs.Sight.{In}
-use Rattle.sorted.specs.Sort.{sort}
 use Rattle.sorted.specs.Sorted.{place, byPlace, placed, sorted}
 use Rattle.sorted.proofs.Calls.{placed-length, beside}
 use Rattle.sorted.proofs.Merges.{place-compares}

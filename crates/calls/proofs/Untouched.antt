@@ -1,6 +1,6 @@
 -- What document 01 says of every lent word, for every call that writes: "unused places are 0", "words past .. are untouched", and that a
 -- refusal alters nothing. Each call is an instance of one law.
-use mathlib.Core.Path.{_≡_, refl, sym, ap, subst, _∙_}
+use mathlib.Core.Path.{_≡_, refl, sym, subst, _∙_}
 use mathlib.Core.List.{List}
 use mathlib.Core.Option.{Option, none, some}
 use Prim.Native.Nat.{ℕ, _≤_, _<_}
@@ -9,17 +9,17 @@ use lib.ListN.{length, getD, drop}
 use Rattle.ast.specs.Answer.{Answer, refused, twice, result, other}
 use Rattle.ast.specs.Image.{nodes}
 use Rattle.ast.specs.Tests.{verdict}
-use Rattle.rows.specs.Rows.{Row, rowsLength}
+use Rattle.rows.specs.Rows.{Row}
 use Rattle.table.specs.Layout.{tableLength}
 use Rattle.table.specs.State.{Walked}
 use Rattle.table.specs.Table.{Table}
-use Rattle.scopes.specs.Resolve.{testTable, zeroed, walked, headed, counted, Way, refuses, stops, fills, way, answerBy, tableBy, tableCall, resolve, Unused, parent, scope, symbol}
+use Rattle.scopes.specs.Resolve.{testTable, zeroed, walked, headed, Way, refuses, stops, fills, way, answerBy, tableBy, tableCall, resolve, Unused, parent, scope, symbol}
 use Rattle.scopes.specs.Calls.{testRows, rowsBy, rowsCall}
 use Rattle.scopes.specs.Walk.{done}
 use Rattle.scopes.proofs.Calls.{Went, went, rows-table, rows-long}
 use Rattle.scopes.proofs.Resolving.{past-kept, long-kept, table-accepted, walked-ended, zeroed-long, headed-word, headed-scopes, headed-symbols}
 use Rattle.sight.specs.Listing.{tableIn}
-use Rattle.bindings.specs.Errors.{errorRows, testErrors, errors}
+use Rattle.bindings.specs.Errors.{errorRows, errors}
 use Rattle.bindings.proofs.Bound.{rows-few}
 use Rattle.bindings.proofs.Calls.{errors-rows}
 use Rattle.sorted.specs.Sorted.{placed, sorted}

@@ -47,6 +47,11 @@ pub read-appended : {N r : ℕ} {l : List Row} {ws vs : List ℕ} → Appended N
 read-appended {N} {r} {l} {ws} {vs} a f g =
     ap₂ (λ (us : List ℕ) (c : ℕ). readRows N us c 0) (a .words) (a .count ∙ (let z : 0 + length l ≡ length l = omega arith in z)) ∙ read-back N 0 l ws (omega arith) g
 
+pub read-length : (N : ℕ) (ws : List ℕ) (c i : ℕ) → length (readRows N ws c i) ≡ c
+unfolding readRows
+read-length N ws zero i = refl
+read-length N ws (suc c) i = ap suc (read-length N ws c (i + 1))
+
 -- what is left to read after i rows
 pub read-more : (N : ℕ) (ws : List ℕ) (c i : ℕ) → i < c → readRows N ws (c - i) i ≡ row (getD ws (1 + i) 0) (getD ws (1 + N + i) 0) ∷ readRows N ws (c - (i + 1)) (i + 1)
 unfolding readRows
