@@ -16,17 +16,18 @@
  *
  * Stack: EQLOG_STACK_BYTES are enough for any call on any image. Nesting reaches some 1,000 levels, and the walks
  * over the tree call themselves once or more for each. Measured on the deepest images of eight forms (terms, app heads,
- * members, arguments, branches, matches, models, each in itself): at most 380,000 bytes, by eqlog_sorted on branches in branches.
+ * members, arguments, branches, matches, models, each in itself): at most 380,000 bytes, by eqlog_sorted on branches in
+ * branches.
  * The proof is about a machine with no stack: a thread with less is ended by the system's guard page.
  *
  * The image
  *
  * All numbers are little-endian 32-bit words. Sizes first: N nodes, C operand words, S names, B name bytes. Then N kinds,
  * N starts, C operand words, S name ends, B name bytes. Kinds are the cases of `Node` in eqlog's ast.rs, Module 0 to
- * MatchStmt 40; children stand before their parents, the module last. A node's row is two location words, of which
- * eqlog_sorted alone looks at the second, then its fields in declared order: a name is its number; an absent option 0, a present one its
- * number plus 1; a list is a count and its items; a list of blocks is a count, then lists; a node that wraps an enum has
- * the case number, then the child (Wildcard has none).
+ * MatchStmt 40; children stand before their parents, the module last. A node's row is two location words (no call
+ * looks at them but eqlog_sorted, at the second), then its fields in declared order: a name is its number; an absent
+ * option 0, a present one its number plus 1; a list is a count and its items; a list of blocks is a count, then lists; a
+ * node that wraps an enum has the case number, then the child (Wildcard has none).
  *
  * The table
  *

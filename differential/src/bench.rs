@@ -300,19 +300,16 @@ fn time(name: &str, image: &[u8], subject: &dyn Calls) -> Line {
     let mut here = vec![Vec::new(); 4];
     let mut tests = Vec::new();
     let mut sum = 0usize;
-    let mut count = |answer: Answer| match answer {
-        Answer::Result(a, b) | Answer::Other(a, b) => sum += (a + b) as usize,
-        other => panic!("{name}: {other:?}"),
-    };
+    let mut add = |answer: Answer| sum += count(answer);
     for _ in 0..ROUNDS {
         rust[0].push(clock(|| sink(built.resolve())));
-        here[0].push(clock(|| count(subject.resolve(image, &mut table))));
+        here[0].push(clock(|| add(subject.resolve(image, &mut table))));
         rust[1].push(clock(|| sink(built.errors())));
-        here[1].push(clock(|| count(subject.errors(image, &mut table, &mut rows, 1))));
+        here[1].push(clock(|| add(subject.errors(image, &mut table, &mut rows, 1))));
         rust[2].push(clock(|| sink(built.once())));
-        here[2].push(clock(|| count(subject.once(image, &mut table))));
+        here[2].push(clock(|| add(subject.once(image, &mut table))));
         rust[3].push(clock(|| sink(built.all())));
-        here[3].push(clock(|| count(subject.occurrences(image, &mut table, &mut rows))));
+        here[3].push(clock(|| add(subject.occurrences(image, &mut table, &mut rows))));
         // lent no table, Resolve tests the image and refuses
         tests.push(clock(|| match subject.resolve(image, &mut []) {
             Answer::Refused(13) => {}
@@ -324,6 +321,7 @@ fn time(name: &str, image: &[u8], subject: &dyn Calls) -> Line {
     Line { name: name.to_string(), nodes: n, rust: medians(&mut rust), here: medians(&mut here), tests: median(&mut tests) }
 }
 
+/// The numbers of an answer that is neither a refusal nor "twice", added up.
 fn count(answer: Answer) -> usize {
     match answer {
         Answer::Result(a, b) | Answer::Other(a, b) => (a + b) as usize,
