@@ -20,6 +20,7 @@ use Rattle.ast.proofs.Count.{is-other, parents}
 use Rattle.ast.proofs.Vars.{check_all, every-kind}
 
 pub all-mem : {P : ℕ → Type 0} {c : ℕ} {cs : List ℕ} → All P cs → Memᴰ c cs → P c
+all-mem {P = P} {c = c} nil x3 = elim x3 [ ]
 all-mem {P} (cons h r) (Memᴰ.head e) = subst P (sym e) h
 all-mem (cons h r) (Memᴰ.tail m) = all-mem r m
 

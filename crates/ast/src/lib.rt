@@ -1,4 +1,6 @@
 // The image: its words, and the rows by node.
+#![tactic(auto)]
+
 ghost use Rattle.std.specs.Prelude.{◌≡◌, ◌+◌, ◌*◌, ◌-◌, ◌/◌, ◌<◌, ◌≤◌, length, get_or, set};
 ghost use Rattle.ast.specs.Image as ImageSpec;
 ghost use Rattle.ast.specs.Promises.{Head, Within};
@@ -45,7 +47,7 @@ pub fn word(image: &[u8], offset: usize) -> u32
 }
 
 // The four words at the front: N, C, S, B.
-#[derive(Drop)]
+#[derive(Clone, Copy, Drop)]
 pub struct Sizes {
     pub nodes: u32,
     pub operands: u32,
@@ -65,7 +67,7 @@ pub fn sizes_of(image: &[u8]) -> Sizes
 }
 
 // A node by its number.
-#[derive(Drop)]
+#[derive(Clone, Copy, Drop)]
 pub struct NodeId(pub u32);
 
 // The kind of a node.
@@ -125,7 +127,7 @@ pub fn operand_at(image: &[u8], at: usize) -> u32
 }
 
 // A row reader: the image that it reads from, and the place of its next operand.
-#[derive(Drop)]
+#[derive(Clone, Copy, Drop)]
 pub struct RowReader<'a> {
     pub image: &'a [u8],
     pub at: usize,
@@ -152,7 +154,7 @@ pub fn operand(image: &[u8], at: usize) -> u32
 }
 
 // Where a node's text begins and ends.
-#[derive(Drop)]
+#[derive(Clone, Copy, Drop)]
 pub struct Location(pub u32, pub u32);
 
 // The two words that a node's row begins with.

@@ -1,4 +1,6 @@
 // Position-local binding checks on rule bodies: the error rows.
+#![tactic(auto)]
+
 ghost use Rattle.std.specs.Prelude.{◌≡◌, true, false, [], suc, ◌+◌, ◌<◌, ◌^◌, eqb, length};
 ghost use Rattle.std.proofs.Math.Option.{some};
 ghost use Rattle.ast.specs.Image as ImageSpec;
@@ -85,7 +87,7 @@ fn walk_module(
     walk_decls(image, table, w, env, rows, written, decls)
 }
 
-#[cycle(walk_decl_walk_decls)]
+#[cycle(decls)]
 fn walk_decls(
     image: &[u8],
     table: &[u32],
@@ -108,7 +110,7 @@ fn walk_decls(
     after
 }
 
-#[cycle(walk_decl_walk_decls)]
+#[cycle(decls)]
 fn walk_decl(
     image: &[u8],
     table: &[u32],
@@ -134,7 +136,7 @@ fn walk_decl(
     }
 }
 
-#[cycle(walk_branch_walk_match_walk_match_case_walk_stmt_walk_stmt_block)]
+#[cycle(stmts)]
 fn walk_stmt_block(
     image: &[u8],
     table: &[u32],
@@ -157,7 +159,7 @@ fn walk_stmt_block(
     after
 }
 
-#[cycle(walk_branch_walk_match_walk_match_case_walk_stmt_walk_stmt_block)]
+#[cycle(stmts)]
 fn walk_stmt(
     image: &[u8],
     table: &[u32],
@@ -181,7 +183,7 @@ fn walk_stmt(
     }
 }
 
-#[cycle(walk_branch_walk_match_walk_match_case_walk_stmt_walk_stmt_block)]
+#[cycle(stmts)]
 fn walk_branch(
     image: &[u8],
     table: &[u32],
@@ -207,7 +209,7 @@ fn walk_branch(
     after
 }
 
-#[cycle(walk_branch_walk_match_walk_match_case_walk_stmt_walk_stmt_block)]
+#[cycle(stmts)]
 fn walk_match(
     image: &[u8],
     table: &[u32],
@@ -231,7 +233,7 @@ fn walk_match(
     after
 }
 
-#[cycle(walk_branch_walk_match_walk_match_case_walk_stmt_walk_stmt_block)]
+#[cycle(stmts)]
 fn walk_match_case(
     image: &[u8],
     table: &[u32],
@@ -301,7 +303,7 @@ fn check_then_defined(
 
 // A term of a then-atom, down to the subterms that determine the value being constructed. A variable there is an
 // error unless it was bound earlier.
-#[cycle(check_epic_app_head_check_epic_term_check_epic_terms)]
+#[cycle(epic)]
 fn check_epic_term(
     image: &[u8],
     table: &[u32],
@@ -408,7 +410,7 @@ fn put_if(
     written
 }
 
-#[cycle(check_epic_app_head_check_epic_term_check_epic_terms)]
+#[cycle(epic)]
 fn check_epic_terms(
     image: &[u8],
     table: &[u32],
@@ -433,7 +435,7 @@ fn check_epic_terms(
 }
 
 // An app head that is an ident has the same scope at its entry and its exit, so it introduces nothing and gets no row.
-#[cycle(check_epic_app_head_check_epic_term_check_epic_terms)]
+#[cycle(epic)]
 fn check_epic_app_head(
     image: &[u8],
     table: &[u32],

@@ -1,1 +1,3 @@
 // Theorems about what the calls leave: specs and proofs. There is no code.
+#![tactic(auto)]
+

@@ -1,5 +1,7 @@
 // What names stand for along a walk, so that no lookup climbs: by name the row of its symbol here, by row the word that it
 // hides, by node what was noted there.
+#![tactic(auto)]
+
 ghost use Rattle.std.specs.Prelude.{◌≡◌, suc, ◌+◌, ◌-◌, ◌<◌, ◌≤◌, length, get_or, set};
 ghost use Rattle.std.proofs.Math.Option.{none, some};
 ghost use Rattle.ast.specs.Image as ImageSpec;

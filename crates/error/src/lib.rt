@@ -1,8 +1,10 @@
 // The five kinds of error.rs that the scope resolver and its checks give, with their row numbers.
+#![tactic(auto)]
+
 ghost use Rattle.std.specs.Prelude.{◌≡◌};
 ghost use Rattle.error.specs.Kinds.{row_number, repeated_argument};
 
-#[derive(Drop)]
+#[derive(Clone, Copy, Drop)]
 pub enum ErrorKind {
     // Resolve's "twice".
     SymbolDeclaredTwice,

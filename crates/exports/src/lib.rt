@@ -1,4 +1,6 @@
 // The C interface: the public calls, each with its answer packed in one number.
+#![tactic(auto)]
+
 ghost use Rattle.std.specs.Prelude.{◌≡◌, ◌≤◌};
 ghost use Rattle.names.specs.Name.{name_place};
 ghost use Rattle.scopes.specs.Answers.{resolved_answer, looked_answer, rowed_answer};

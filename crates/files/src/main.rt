@@ -1,5 +1,7 @@
 // Runs the small rule files of document 01, and byte strings at the limits of size: NAME.image has the report NAME.report. The
 // rule files are those of crates/starred, whose definitions give the same bytes and the same lines.
+#![tactic(auto)]
+
 use libc::STDOUT_FILENO;
 
 // Whether the report of the file `image` is what the file `report` holds. No, where one of the two cannot be opened.

@@ -1,4 +1,6 @@
 // The lines of the report, put into a lent buffer one after another. Each function returns the next place.
+#![tactic(auto)]
+
 ghost use Rattle.std.specs.Prelude.{◌≡◌, [], ◌∷◌, ◌+◌, ◌*◌, ◌<◌, ◌≤◌, length};
 ghost use Rattle.occurrences.specs.Occurrences.{once};
 ghost use Rattle.lines.specs.Report.{resolved, refusal, declared_twice, end_ok, end_once, end_lines, error_lines, var_lines, body_lines, lent_table};

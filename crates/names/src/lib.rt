@@ -1,4 +1,6 @@
 // The names of an image: refusals 4 and 5, and with them the whole image test; Name; the number of a name.
+#![tactic(auto)]
+
 ghost use Rattle.std.specs.Prelude.{◌≡◌, ◌+◌, ◌*◌, ◌-◌, ◌%◌, ◌<◌, ◌≤◌, length};
 ghost use Rattle.std.proofs.Math.Seq.{slice};
 ghost use Rattle.ast.specs.Image as ImageSpec;
@@ -31,7 +33,7 @@ fn name_start(image: &[u8], s: Sizes, i: u32) -> u32
 }
 
 // Where the bytes of a name stand in the image, and the name's end.
-#[derive(Drop)]
+#[derive(Clone, Copy, Drop)]
 struct Span {
     from: usize,
     to: usize,
@@ -192,7 +194,7 @@ pub fn verdict(image: &[u8]) -> u32
 }
 
 // A part of the image: its start and its length.
-#[derive(Drop)]
+#[derive(Clone, Copy, Drop)]
 pub struct NamePlace {
     pub start: usize,
     pub len: usize,
@@ -227,7 +229,7 @@ pub fn name(image: &[u8], number: u32) -> &[u8]
 }
 
 // The number of a name, or none.
-#[derive(Drop)]
+#[derive(Clone, Copy, Drop)]
 pub enum Numbered {
     At(u32),
     Nothing,

@@ -1,5 +1,7 @@
 // Variable occurrences: Occurrences and Once, by scope_checks/occurrences.rs. The list of a rule's occurrences is rows in lent
 // words, of which `written` stand.
+#![tactic(auto)]
+
 ghost use Rattle.std.specs.Prelude.{◌≡◌, ◌≤◌, length, get_or, set};
 ghost use Rattle.ast.specs.Image as ImageSpec;
 ghost use Rattle.ast.specs.Kinds.{kind_of};
@@ -20,7 +22,7 @@ use typed::nodes::*;
 
 // What Once hands back: a refusal, a name that is declared twice with its two nodes, "ok", or the first lone occurrence with
 // its binding.
-#[derive(Drop)]
+#[derive(Clone, Copy, Drop)]
 pub enum Once {
     Refused(u32),
     Twice(u32, NodeId, NodeId),
@@ -47,7 +49,7 @@ pub fn check_occurrences(image: &[u8], table: &mut [u32]) -> Once
 }
 
 // What the check of declarations or of a rule gives: no lone occurrence, or the first one with its binding.
-#[derive(Drop)]
+#[derive(Clone, Copy, Drop)]
 pub enum Checked {
     Ok,
     Lone(NodeId, NodeId),
@@ -65,7 +67,7 @@ fn check_module(image: &[u8], table: &[u32], symbols: u32, env: &environment::Wo
     check_decls(image, table, symbols, env, &mut rows, &mut counts, decls)
 }
 
-#[cycle(check_decl_check_decls)]
+#[cycle(check)]
 fn check_decls(
     image: &[u8],
     table: &[u32],
@@ -92,7 +94,7 @@ fn check_decls(
     Checked::Ok
 }
 
-#[cycle(check_decl_check_decls)]
+#[cycle(check)]
 fn check_decl(
     image: &[u8],
     table: &[u32],
@@ -138,7 +140,7 @@ fn check_rule(
     found
 }
 
-#[cycle(collect_branch_collect_match_collect_match_case_collect_stmt_collect_stmts)]
+#[cycle(stmts)]
 fn collect_stmts(
     image: &[u8],
     table: &[u32],
@@ -206,7 +208,7 @@ fn first_lone(image: &[u8], rows: &[u32], written: u32, counts: &[u32]) -> Check
     Checked::Ok
 }
 
-#[cycle(collect_branch_collect_match_collect_match_case_collect_stmt_collect_stmts)]
+#[cycle(stmts)]
 fn collect_stmt(
     image: &[u8],
     table: &[u32],
@@ -233,7 +235,7 @@ fn collect_stmt(
     }
 }
 
-#[cycle(collect_branch_collect_match_collect_match_case_collect_stmt_collect_stmts)]
+#[cycle(stmts)]
 fn collect_branch(
     image: &[u8],
     table: &[u32],
@@ -259,7 +261,7 @@ fn collect_branch(
     after
 }
 
-#[cycle(collect_branch_collect_match_collect_match_case_collect_stmt_collect_stmts)]
+#[cycle(stmts)]
 fn collect_match(
     image: &[u8],
     table: &[u32],
@@ -283,7 +285,7 @@ fn collect_match(
     after
 }
 
-#[cycle(collect_branch_collect_match_collect_match_case_collect_stmt_collect_stmts)]
+#[cycle(stmts)]
 fn collect_match_case(
     image: &[u8],
     table: &[u32],
@@ -372,7 +374,7 @@ fn collect_then_atom(
     }
 }
 
-#[cycle(collect_app_head_collect_term_collect_term_list)]
+#[cycle(terms)]
 fn collect_term(
     image: &[u8],
     table: &[u32],
@@ -437,7 +439,7 @@ fn collect_ident(
     }
 }
 
-#[cycle(collect_app_head_collect_term_collect_term_list)]
+#[cycle(terms)]
 fn collect_app_head(
     image: &[u8],
     table: &[u32],
@@ -460,7 +462,7 @@ fn collect_app_head(
     }
 }
 
-#[cycle(collect_app_head_collect_term_collect_term_list)]
+#[cycle(terms)]
 fn collect_term_list(
     image: &[u8],
     table: &[u32],
@@ -573,7 +575,7 @@ fn collect_module(
     collect_decls(image, table, symbols, env, rows, 0, decls)
 }
 
-#[cycle(collect_decl_collect_decls)]
+#[cycle(decls)]
 fn collect_decls(
     image: &[u8],
     table: &[u32],
@@ -596,7 +598,7 @@ fn collect_decls(
     after
 }
 
-#[cycle(collect_decl_collect_decls)]
+#[cycle(decls)]
 fn collect_decl(
     image: &[u8],
     table: &[u32],

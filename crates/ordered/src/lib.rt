@@ -1,4 +1,6 @@
 // The walkers of scopes.rs for argument lists and rule bodies. A walk's state goes by value, in and out, beside the lent table.
+#![tactic(auto)]
+
 ghost use Rattle.std.specs.Prelude.{◌≡◌};
 ghost use Rattle.ast.specs.Image as ImageSpec;
 ghost use Rattle.ast.specs.Items.{blocks};
@@ -75,7 +77,7 @@ fn walk_arg_decl(
 }
 
 // Each statement from where the one before ends.
-#[cycle(walk_blocks_walk_branch_walk_cases_walk_match_walk_match_case_walk_stmt_walk_stmt_block_walk_stmt_case)]
+#[cycle(stmts)]
 pub fn walk_stmt_block(
     image: &[u8],
     table: &mut [u32],
@@ -96,7 +98,7 @@ pub fn walk_stmt_block(
     cur
 }
 
-#[cycle(walk_blocks_walk_branch_walk_cases_walk_match_walk_match_case_walk_stmt_walk_stmt_block_walk_stmt_case)]
+#[cycle(stmts)]
 fn walk_stmt(
     image: &[u8],
     table: &mut [u32],
@@ -111,7 +113,7 @@ fn walk_stmt(
     table::leave(image, table, stmt.0, current, exit)
 }
 
-#[cycle(walk_blocks_walk_branch_walk_cases_walk_match_walk_match_case_walk_stmt_walk_stmt_block_walk_stmt_case)]
+#[cycle(stmts)]
 fn walk_stmt_case(
     image: &[u8],
     table: &mut [u32],
@@ -160,7 +162,7 @@ fn walk_then_stmt(
     table::leave(image, table, id.0, current, after)
 }
 
-#[cycle(walk_blocks_walk_branch_walk_cases_walk_match_walk_match_case_walk_stmt_walk_stmt_block_walk_stmt_case)]
+#[cycle(stmts)]
 fn walk_branch(
     image: &[u8],
     table: &mut [u32],
@@ -176,7 +178,7 @@ fn walk_branch(
 }
 
 // Each block from the branch's entry; what a block adds is dropped.
-#[cycle(walk_blocks_walk_branch_walk_cases_walk_match_walk_match_case_walk_stmt_walk_stmt_block_walk_stmt_case)]
+#[cycle(stmts)]
 fn walk_blocks(
     image: &[u8],
     table: &mut [u32],
@@ -202,7 +204,7 @@ fn walk_blocks(
     cur
 }
 
-#[cycle(walk_blocks_walk_branch_walk_cases_walk_match_walk_match_case_walk_stmt_walk_stmt_block_walk_stmt_case)]
+#[cycle(stmts)]
 fn walk_match(
     image: &[u8],
     table: &mut [u32],
@@ -220,7 +222,7 @@ fn walk_match(
 }
 
 // Each case from the scope after the matched term.
-#[cycle(walk_blocks_walk_branch_walk_cases_walk_match_walk_match_case_walk_stmt_walk_stmt_block_walk_stmt_case)]
+#[cycle(stmts)]
 fn walk_cases(
     image: &[u8],
     table: &mut [u32],
@@ -242,7 +244,7 @@ fn walk_cases(
 }
 
 // What a case adds is dropped.
-#[cycle(walk_blocks_walk_branch_walk_cases_walk_match_walk_match_case_walk_stmt_walk_stmt_block_walk_stmt_case)]
+#[cycle(stmts)]
 fn walk_match_case(
     image: &[u8],
     table: &mut [u32],
@@ -390,7 +392,7 @@ fn walk_pred_atom(
 }
 
 // A term, whose last place is its own.
-#[cycle(walk_app_head_walk_app_head_member_walk_app_term_walk_one_term_walk_term_walk_term_case_walk_term_list_walk_term_member_walk_terms_walk_two_terms)]
+#[cycle(terms)]
 fn walk_term(
     image: &[u8],
     table: &mut [u32],
@@ -411,7 +413,7 @@ fn walk_term(
 }
 
 // What stands below a term that is no ident.
-#[cycle(walk_app_head_walk_app_head_member_walk_app_term_walk_one_term_walk_term_walk_term_case_walk_term_list_walk_term_member_walk_terms_walk_two_terms)]
+#[cycle(terms)]
 fn walk_term_case(
     image: &[u8],
     table: &mut [u32],
@@ -445,7 +447,7 @@ fn walk_term_case(
     }
 }
 
-#[cycle(walk_app_head_walk_app_head_member_walk_app_term_walk_one_term_walk_term_walk_term_case_walk_term_list_walk_term_member_walk_terms_walk_two_terms)]
+#[cycle(terms)]
 fn walk_app_term(
     image: &[u8],
     table: &mut [u32],
@@ -463,7 +465,7 @@ fn walk_app_term(
 }
 
 // A Dom, Cod or Id term, or a Defined atom: one term.
-#[cycle(walk_app_head_walk_app_head_member_walk_app_term_walk_one_term_walk_term_walk_term_case_walk_term_list_walk_term_member_walk_terms_walk_two_terms)]
+#[cycle(terms)]
 fn walk_one_term(
     image: &[u8],
     table: &mut [u32],
@@ -480,7 +482,7 @@ fn walk_one_term(
 }
 
 // A Comp term, or an Equal atom: two terms.
-#[cycle(walk_app_head_walk_app_head_member_walk_app_term_walk_one_term_walk_term_walk_term_case_walk_term_list_walk_term_member_walk_terms_walk_two_terms)]
+#[cycle(terms)]
 fn walk_two_terms(
     image: &[u8],
     table: &mut [u32],
@@ -498,7 +500,7 @@ fn walk_two_terms(
     table::leave(image, table, id, current, after)
 }
 
-#[cycle(walk_app_head_walk_app_head_member_walk_app_term_walk_one_term_walk_term_walk_term_case_walk_term_list_walk_term_member_walk_terms_walk_two_terms)]
+#[cycle(terms)]
 fn walk_app_head(
     image: &[u8],
     table: &mut [u32],
@@ -541,7 +543,7 @@ fn walk_head_ident(
     environment::leave_asked(image, table, env, head.0, name, word, current, named)
 }
 
-#[cycle(walk_app_head_walk_app_head_member_walk_app_term_walk_one_term_walk_term_walk_term_case_walk_term_list_walk_term_member_walk_terms_walk_two_terms)]
+#[cycle(terms)]
 fn walk_app_head_member(
     image: &[u8],
     table: &mut [u32],
@@ -693,7 +695,7 @@ fn bind_unless(
     environment::introduce(image, table, env, current, ident.0, name)
 }
 
-#[cycle(walk_app_head_walk_app_head_member_walk_app_term_walk_one_term_walk_term_walk_term_case_walk_term_list_walk_term_member_walk_terms_walk_two_terms)]
+#[cycle(terms)]
 fn walk_term_member(
     image: &[u8],
     table: &mut [u32],
@@ -710,7 +712,7 @@ fn walk_term_member(
     table::leave(image, table, id.0, current, named)
 }
 
-#[cycle(walk_app_head_walk_app_head_member_walk_app_term_walk_one_term_walk_term_walk_term_case_walk_term_list_walk_term_member_walk_terms_walk_two_terms)]
+#[cycle(terms)]
 fn walk_term_list(
     image: &[u8],
     table: &mut [u32],
@@ -726,7 +728,7 @@ fn walk_term_list(
     table::leave(image, table, list.0, current, exit)
 }
 
-#[cycle(walk_app_head_walk_app_head_member_walk_app_term_walk_one_term_walk_term_walk_term_case_walk_term_list_walk_term_member_walk_terms_walk_two_terms)]
+#[cycle(terms)]
 fn walk_terms(
     image: &[u8],
     table: &mut [u32],

@@ -1,5 +1,7 @@
 // Replays recorded answers without any Rust: each call on each recorded image must hand back the recorded number and leave the
 // recorded words. The records come on standard input; differential/src/record.rs says how they are laid out and made.
+#![tactic(auto)]
+
 use libc::{STDIN_FILENO, STDOUT_FILENO};
 
 // The i-th number at a record's head: 0 image bytes, 1 table words, 2 rows words, 3 mode, 4 scope, 5 name bytes, 6 name number.

@@ -1,6 +1,8 @@
 // Prints the report of the image on standard input. Input longer than any image, 61,456 bytes, has the report of its first 61,457
 // bytes (lines/proofs Long.report-front), so no more is read. A read that fails is no end of the input: the only line is then
 // `unread`.
+#![tactic(auto)]
+
 use libc::{STDIN_FILENO, STDOUT_FILENO};
 
 // The input ends here: one more read gives nothing. (`read_full` stops at the end and at a read that fails.)

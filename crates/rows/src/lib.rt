@@ -1,4 +1,6 @@
 // Rows that a check appends to lent words: a count, then two parallel arrays of N words.
+#![tactic(auto)]
+
 ghost use Rattle.std.specs.Prelude.{◌≡◌, [], ◌∷◌, ◌+◌, ◌<◌, ◌≤◌, ◌^◌, length, get_or, set};
 ghost use Rattle.rows.specs.Rows.{row, rows_length, cleared, Appended};
 

@@ -1,4 +1,6 @@
 // The unordered part of scopes.rs: Lookup, Resolve and the declaration lists.
+#![tactic(auto)]
+
 ghost use Rattle.std.specs.Prelude.{◌≡◌, ◌+◌, ◌<◌, ◌^◌, [], ◌∷◌, replicate};
 ghost use Rattle.std.proofs.Math.Option.{some};
 ghost use Rattle.ast.specs.Image as ImageSpec;
@@ -25,7 +27,7 @@ use table::{Found, ScopeId, Walked};
 use typed::nodes::*;
 
 // What Lookup hands back: a refusal, a symbol number with its node, or none.
-#[derive(Drop)]
+#[derive(Clone, Copy, Drop)]
 pub enum Looked {
     Refused(u32),
     At(u32, NodeId),
@@ -81,7 +83,7 @@ fn lookup_number(image: &[u8], table: &[u32], scope: ScopeId, name: u32) -> Look
 }
 
 // What Resolve hands back: a refusal, a name that is declared twice with its two nodes, or K and Y.
-#[derive(Drop)]
+#[derive(Clone, Copy, Drop)]
 pub enum Resolved {
     Refused(u32),
     Twice(u32, NodeId, NodeId),
@@ -172,7 +174,7 @@ fn insert_counts(image: &[u8], table: &mut [u32], walked: Walked)
 }
 
 // What a call that writes rows hands back: a refusal, a name that is declared twice with its two nodes, or the count of rows.
-#[derive(Drop)]
+#[derive(Clone, Copy, Drop)]
 pub enum Rowed {
     Refused(u32),
     Twice(u32, NodeId, NodeId),
@@ -194,7 +196,7 @@ pub fn test_rows(image: &[u8], table: &[u32], rows: &[u32]) -> u32
 }
 
 // What a declaration list gives: where the walk stands after it, or the first name that is declared twice.
-#[derive(Drop)]
+#[derive(Clone, Copy, Drop)]
 pub enum Declared {
     Done(Walked),
     Twice(u32, NodeId, NodeId),
@@ -251,7 +253,7 @@ fn stamp(seen: &mut [u32], name: u32, scope: ScopeId) -> bool
 }
 
 // A declaration list: all its names first, then each declaration.
-#[cycle(visit_decl_visit_decls_visit_model_decl_walk_decls)]
+#[cycle(decls)]
 fn walk_decls(
     image: &[u8],
     table: &mut [u32],
@@ -424,7 +426,7 @@ fn enter_ctors(
 }
 
 // The declarations of a list, after its names are entered.
-#[cycle(visit_decl_visit_decls_visit_model_decl_walk_decls)]
+#[cycle(decls)]
 fn visit_decls(
     image: &[u8],
     table: &mut [u32],
@@ -454,7 +456,7 @@ fn visit_decls(
 }
 
 // What the trees of a declaration add is dropped.
-#[cycle(visit_decl_visit_decls_visit_model_decl_walk_decls)]
+#[cycle(decls)]
 fn visit_decl(
     image: &[u8],
     table: &mut [u32],
@@ -564,7 +566,7 @@ fn visit_enum_decl(
 }
 
 // A model: its list in a scope of its own, which its node records.
-#[cycle(visit_decl_visit_decls_visit_model_decl_walk_decls)]
+#[cycle(decls)]
 fn visit_model_decl(
     image: &[u8],
     table: &mut [u32],

@@ -1,4 +1,6 @@
 // Refusal 16: whether a lent table is sound.
+#![tactic(auto)]
+
 ghost use Rattle.std.specs.Prelude.{◌≡◌, ◌-◌};
 ghost use Rattle.ast.specs.Tests.{run};
 ghost use Rattle.sound.specs.Sound.{has_name, is_symbol, parent_below, row_sound, test_sound};

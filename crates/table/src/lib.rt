@@ -1,4 +1,6 @@
 // The lent table: its words, the steps that a walk makes on it, find in one scope, and lookup by climbing.
+#![tactic(auto)]
+
 ghost use Rattle.std.specs.Prelude.{◌≡◌, suc, ◌+◌, ◌<◌, ◌^◌, get_or, set};
 ghost use Rattle.ast.specs.Image as ImageSpec;
 ghost use Rattle.table.specs.Layout as LayoutSpec;
@@ -9,18 +11,18 @@ ghost use Rattle.table.specs.Values.{walked_of, option_of};
 
 use ast::{NodeId, kinds};
 
-#[derive(Drop)]
+#[derive(Clone, Copy, Drop)]
 pub struct ScopeId(pub u32);
 
 // Where a walk stands: its scope, and how many scopes and symbols the table has.
-#[derive(Drop)]
+#[derive(Clone, Copy, Drop)]
 pub struct Walked {
     pub scopes: u32,
     pub symbols: u32,
     pub scope: ScopeId,
 }
 
-#[derive(Drop)]
+#[derive(Clone, Copy, Drop)]
 pub enum Found {
     At(NodeId),
     Nothing,

@@ -1,4 +1,6 @@
 // The image test without the names: refusals 1 to 3 and 6 to 12.
+#![tactic(auto)]
+
 ghost use Rattle.std.specs.Prelude.{◌≡◌, List, [], ◌∷◌, ℕ, ◌+◌, ◌*◌, ◌-◌, ◌/◌, ◌%◌, ◌<◌, ◌≤◌, get_or, set, replicate};
 ghost use Rattle.ast.specs.Image as ImageSpec;
 ghost use Rattle.ast.specs.Rows.{ops_from, after_blocks, block_kids, numbers, kids_to};

@@ -1,4 +1,6 @@
 // The rows of the 41 kinds, under the names of ast.rs: `ast.term(id)` is `typed::term(image, id)`.
+#![tactic(auto)]
+
 ghost use Rattle.std.specs.Prelude.{◌≡◌, ◌+◌, ◌≤◌};
 ghost use Rattle.ast.specs.Image as ImageSpec;
 ghost use Rattle.typed.specs.RowShapes.{One, Two, Three, Listed, WordList};

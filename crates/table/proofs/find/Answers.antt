@@ -1,0 +1,25 @@
+use borrow.Author.Rules.{rules}
+use native.Mathlib.Omega.{arith}
+use native.Mathlib.Nat.{sub-zero}
+use mathlib.Core.Option.{some}
+use mathlib.Core.Path.{◌≡◌, sym, ap, ◌∙◌}
+use Prim.Native.Nat.{◌-◌, ◌≤◌}
+use Rattle.table.specs.Table.{find_from}
+use Rattle.table.proofs.Finds.{find-hit, find-miss, find-end}
+use Rattle.table.proofs.find.Goals as goal
+
+pub loop-j-init : goal.loop-j-init
+loop-j-init c = (search rules, rw sub-zero)
+
+pub returns-then-row_is : goal.returns-then-row_is
+returns-then-row_is c =
+    let l = c.loop-j in
+    ap some c.symbol_node.ensures ∙ sym (l.invariant.1 ∙ find-hit _ _ _ _ _ _ c.loop-j-test.true (sym c.row_is.ensures ∙ c.if-row_is.true))
+
+pub loop-j-preserved : goal.loop-j-preserved
+loop-j-preserved c =
+    let l = c.loop-j in
+    (omega arith, l.invariant.1 ∙ find-miss _ _ _ _ _ _ c.loop-j-test.true (sym c.row_is.ensures ∙ c.if-row_is.false))
+
+pub returns : goal.returns
+returns c = sym (c.loop-j.invariant.1 ∙ find-end _ _ _ _ _ _ c.loop-j-test.false)

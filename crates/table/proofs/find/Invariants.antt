@@ -1,0 +1,16 @@
+use borrow.Author.Rules.{rules}
+use native.Mathlib.Omega.{arith}
+use native.Mathlib.Nat.{sub-zero}
+use mathlib.Core.Option.{some}
+use mathlib.Core.Path.{◌≡◌, sym, ap, ◌∙◌}
+use Prim.Native.Nat.{◌-◌, ◌≤◌}
+use Rattle.table.specs.Table.{find_from}
+use Rattle.table.proofs.Finds.{find-hit, find-miss, find-end}
+use Rattle.table.proofs.find.Given as goal
+
+abbrev pub invariant-loop-j : goal.invariant-loop-j
+invariant-loop-j l =
+    (l.j ≤ l.symbols) × (find_from l.image l.symbols l.table 0 l.scope.0 l.name ≡ find_from l.image (l.symbols - l.j) l.table l.j l.scope.0 l.name)
+
+abbrev pub decreases-loop-j : goal.decreases-loop-j
+decreases-loop-j l = l.symbols - l.j

@@ -1,0 +1,6 @@
+use borrow.Author.Rules.{rules}
+use Rattle.table.proofs.Steps.{unmarked-is}
+use Rattle.table.proofs.leave_bare.Goals as goal
+
+pub returns : goal.returns
+returns c = unmarked-is _ _ _ _ _ _ _ c.insert_ordered.ensures

@@ -1,0 +1,13 @@
+use mathlib.Core.Path.{sym, ◌∙◌}
+use native.Mathlib.Omega.{arith}
+use Prim.Native.Nat.{◌-◌}
+use Rattle.ast.specs.Image.{nodes}
+use Rattle.ast.proofs.Runs.{RunLeft, run-begin, run-next, run-stop, run_end}
+use Rattle.ast.specs.Tests as tests
+use Rattle.tests.proofs.test_vars.Given as goal
+
+abbrev pub invariant-loop-n : goal.invariant-loop-n
+invariant-loop-n l = RunLeft (tests.test_var l.image) (nodes l.image) l.n
+
+abbrev pub decreases-loop-n : goal.decreases-loop-n
+decreases-loop-n l = l.s.nodes - l.n

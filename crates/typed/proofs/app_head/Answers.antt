@@ -1,0 +1,19 @@
+use mathlib.Core.Path.{refl, sym, ◌∙◌}
+use native.Mathlib.Omega.{arith}
+use lib.ListN.{get_or-eq_default}
+use borrow.Author.Rules.{rules}
+use Rattle.typed.specs.Nodes.{app_head_cases, app_head_of}
+use Rattle.typed.proofs.Cases.{case-read}
+use Rattle.typed.proofs.app_head.Goals as goal
+
+pub returns-in-0 : goal.returns-in-0
+unfolding app_head_of
+returns-in-0 c = case-read app_head_of c.in-0.is c.field-case.ensures c.field.ensures
+
+pub returns-in-1 : goal.returns-in-1
+unfolding app_head_of
+returns-in-1 c = case-read app_head_of c.in-1.is c.field-case.ensures c.field.ensures
+
+pub returns-in_default : goal.returns-in_default
+unfolding app_head_of
+returns-in_default c = sym (get_or-eq_default (app_head_cases (record { 0 = c.field.result })) _ {n = c.field-case.result} (omega arith)) ∙ case-read app_head_of refl c.field-case.ensures c.field.ensures
