@@ -251,6 +251,7 @@ module _ (img : List ℕ) (i first : ℕ) (next : List ℕ) where
     where
       go : (m : ℕ) → (same (name_bytes img m) (name_bytes img i) ≡ false) ⊎ Reach next 0 m → same (name_bytes img m) (name_bytes img i) ≡ false
       go m (inl a) = a
+      go m (inr x3) = elim x3 [ ]
   chain-end (suc j) l z = absurd (omega arith)
 
 -- the chains of all buckets

@@ -1,0 +1,5 @@
+use borrow.Author.Rules.{rules}
+use Rattle.environment.proofs.outside.Goals as goal
+
+pub returns : goal.returns
+returns c = rw c.parent_of-parent.ensures

@@ -1,0 +1,12 @@
+use mathlib.Core.Path.{refl, sym}
+use native.Mathlib.Omega.{arith}
+use Prim.Native.Nat.{◌-◌}
+use Rattle.names.proofs.Names.{name-fits, bucket-is, Buckets, buckets-begin, buckets-next, buckets-stop, buckets-end}
+use Rattle.ast.proofs.Accepted.{rises-of}
+use Rattle.names.proofs.test_twice.Given as goal
+
+abbrev pub invariant-loop-i : goal.invariant-loop-i
+invariant-loop-i l = Buckets l.image l.i l.start l.heads l.next
+
+abbrev pub decreases-loop-i : goal.decreases-loop-i
+decreases-loop-i l = l.s.names - l.i
