@@ -1,10 +1,8 @@
 -- The case that an enum's read hands back, by the row: its number and its child, for a node of an accepted image.
 use mathlib.Core.Path.{◌≡◌, refl, sym, subst, ◌∙◌}
 use mathlib.Core.List.{List, [], ◌∷◌}
-use mathlib.Core.Logic.{⊎_elim}
 use Prim.Native.Nat.{ℕ, zero, suc, ◌<◌}
 use native.Mathlib.Omega.{arith}
-use types.Run.{OneOf}
 use denote.Enum.Declared.{tag_of}
 use Rattle.ast.specs.Image.{field}
 use Rattle.ast.specs.Is.{Is}
@@ -15,6 +13,7 @@ use Rattle.ast.proofs.Shapes.{case-last}
 use Rattle.typed.specs.Nodes.{decl_of, decl_at, term_of, term_at, app_head_of, app_head_at, type_expr_of, type_expr_at, pred_expr_of, pred_expr_at, if_atom_of, if_atom_at, then_atom_of, then_atom_at, stmt_of, stmt_at}
 use Rattle.typed.specs.declared.nodes.Decl.{Decl}
 use Rattle.typed.specs.declared.nodes.Decl.TheVariants as decl
+use Rattle.typed.specs.declared.nodes.IdentTermId.{IdentTermId}
 use Rattle.typed.specs.declared.nodes.Term.{Term}
 use Rattle.typed.specs.declared.nodes.Term.TheVariants as term
 use Rattle.typed.specs.declared.nodes.AppHead.{AppHead}
@@ -88,10 +87,6 @@ module _ (img : List ℕ) (n : ℕ) where
   StmtIs (stmt.Match i) = Cased 3 i.0
 
 -- the case s of the answer t
--- a tag that is one of those after the first: what an arm `_` after the first case of a term knows
-after_first : {x : ℕ} → OneOf (1 ∷ 2 ∷ 3 ∷ 4 ∷ 5 ∷ 6 ∷ 7 ∷ []) x → x ≡ 0 → ⊥
-after_first {x} s z = ⊎_elim (λ (i : x ≡ 1). omega arith) (λ s. ⊎_elim (λ (i : x ≡ 2). omega arith) (λ s. ⊎_elim (λ (i : x ≡ 3). omega arith) (λ s. ⊎_elim (λ (i : x ≡ 4). omega arith) (λ s. ⊎_elim (λ (i : x ≡ 5). omega arith) (λ s. ⊎_elim (λ (i : x ≡ 6). omega arith) (λ (i : x ≡ 7). omega arith) s) s) s) s) s) s
-
 module _ (img : List ℕ) where
   pub decl-is : {n : ℕ} {t s : Decl} → Is img (kind_of decl_kind) n → t ≡ decl_at img n → t ≡ s → DeclIs img n s
   unfolding decl_of kind_of
@@ -183,7 +178,6 @@ module _ (img : List ℕ) where
       go (suc (suc (suc zero))) h l = record { number = h; child = refl }
       go (suc (suc (suc (suc c)))) h l = absurd (omega arith)
 
-  -- a term that is no ident
   -- the place of the variant is the row's number
   pub term-number : {n : ℕ} {t : Term} → Is img (kind_of term_kind) n → t ≡ term_at img n → tag_of TermCode.the_type t ≡ field img n 0
   term-number {n} {t} is q = go t q
@@ -199,5 +193,15 @@ module _ (img : List ℕ) where
       go (term.Comp i) e = (term_is is e refl).number
 
   -- a term that is no ident
-  pub no-ident : {n : ℕ} {t : Term} → Is img (kind_of term_kind) n → t ≡ term_at img n → OneOf (1 ∷ 2 ∷ 3 ∷ 4 ∷ 5 ∷ 6 ∷ 7 ∷ []) (tag_of TermCode.the_type t) → 0 ≡ field img n 0 → ⊥
-  no-ident is q h z = after_first h (term-number is q ∙ sym z)
+  pub no-ident : {n : ℕ} {t : Term} → Is img (kind_of term_kind) n → t ≡ term_at img n → ((i : IdentTermId) → t ≡ term.Ident i → ⊥) → 0 ≡ field img n 0 → ⊥
+  no-ident {t = t} is q h z = go t refl (term-number is q ∙ sym z)
+    where
+      go : (s : Term) → t ≡ s → tag_of TermCode.the_type s ≡ 0 → ⊥
+      go (term.Ident i) e k = h i e
+      go term.Wildcard e k = absurd (omega arith)
+      go (term.App i) e k = absurd (omega arith)
+      go (term.Member i) e k = absurd (omega arith)
+      go (term.Dom i) e k = absurd (omega arith)
+      go (term.Cod i) e k = absurd (omega arith)
+      go (term.Id i) e k = absurd (omega arith)
+      go (term.Comp i) e k = absurd (omega arith)

@@ -1,0 +1,19 @@
+use mathlib.Core.Path.{sym, subst}
+use Rattle.ast.specs.Kinds.{kind_of}
+use Rattle.ordered.specs.Promises.{Ready}
+use Rattle.ordered.proofs.Steps.{two}
+use Rattle.ordered.proofs.Idents.{two_ends}
+use borrow.Author.Rules.{rules}
+use Rattle.ordered.proofs.walk_pred_atom.Goals as goal
+
+pub walk_pred_expr-after_pred-requires : goal.walk_pred_expr-after_pred-requires
+unfolding kind_of
+walk_pred_expr-after_pred-requires c = ((two _ c.requires.0 c.pred_atom.ensures.first c.pred_atom.ensures.second).first, c.requires.1)
+
+pub walk_term_list-after_args-requires : goal.walk_term_list-after_args-requires
+unfolding kind_of
+walk_term_list-after_args-requires c = (subst (Ready _ _ _) (sym c.walk_pred_expr-after_pred.ensures.same) (two _ c.requires.0 c.pred_atom.ensures.first c.pred_atom.ensures.second).second, c.walk_pred_expr-after_pred.ensures.stands)
+
+pub returns : goal.returns
+unfolding kind_of
+returns c = two_ends _ c.requires.0 c.pred_atom.ensures.first c.pred_atom.ensures.second c.walk_pred_expr-after_pred.ensures c.walk_term_list-after_args.ensures c.leave.ensures

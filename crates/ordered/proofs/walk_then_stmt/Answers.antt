@@ -1,0 +1,13 @@
+use Rattle.ast.specs.Kinds.{kind_of}
+use Rattle.ordered.proofs.Steps.{one}
+use Rattle.ordered.proofs.Idents.{one-ends}
+use borrow.Author.Rules.{rules}
+use Rattle.ordered.proofs.walk_then_stmt.Goals as goal
+
+pub walk_then_atom-after-requires : goal.walk_then_atom-after-requires
+unfolding kind_of
+walk_then_atom-after-requires c = ((one _ c.requires.0 c.then_stmt.ensures).first, c.requires.1)
+
+pub returns : goal.returns
+unfolding kind_of
+returns c = one-ends _ c.requires.0 c.then_stmt.ensures c.walk_then_atom-after.ensures c.leave.ensures

@@ -1,0 +1,13 @@
+use mathlib.Core.Path.{refl}
+use Rattle.ast.specs.Kinds.{kind_of}
+use Rattle.environment.proofs.Asking.{loud_fields}
+use Rattle.ordered.proofs.Ends.{plain-ends}
+use borrow.Author.Rules.{rules}
+use Rattle.ordered.proofs.walk_type_expr.Goals as goal
+
+pub walk_type_expr_case-exit-requires : goal.walk_type_expr_case-exit-requires
+walk_type_expr_case-exit-requires c = c.requires
+
+pub returns : goal.returns
+unfolding kind_of loud_fields
+returns c = plain-ends _ refl c.requires.0 c.walk_type_expr_case-exit.ensures c.leave.ensures
