@@ -1,0 +1,19 @@
+use mathlib.Core.Path.{sym, ap, ◌∙◌}
+use Rattle.table.specs.Table.{lookup, is_kind}
+use Rattle.ast.specs.Named.{ctor_decl_kind}
+use Rattle.typed.proofs.Enums.{app-head-is}
+use Rattle.bindings.proofs.RowLaws.{ctor-none, ctor-ident}
+use Rattle.bindings.proofs.Cases.{no_name}
+use Rattle.bindings.proofs.Looked.{looked, head-asks}
+use borrow.Author.Rules.{rules}
+use Rattle.bindings.proofs.is_ctor_head.Goals as goal
+
+pub at_exit-found-requires : goal.at_exit-found-requires
+at_exit-found-requires c = let o = app-head-is _ c.requires.is c.app_head.ensures c.in-Ident.is in looked _ c.requires.room.noted (head-asks _ c.requires.is o.number o.child)
+
+pub returns-in-Ident : goal.returns-in-Ident
+unfolding lookup
+returns-in-Ident c = let o = app-head-is _ c.requires.is c.app_head.ensures c.in-Ident.is in c.is_kind.ensures ∙ ap (is_kind _ ctor_decl_kind) c.at_exit-found.ensures ∙ sym (ctor-ident _ _ c.requires.is o.number o.child)
+
+pub returns-in-Member : goal.returns-in-Member
+returns-in-Member c = sym (ctor-none _ _ c.requires.is (no_name _ c.requires.is c.app_head.ensures c.in-Member.in-Member-own.keys2))

@@ -1,0 +1,25 @@
+use native.Mathlib.Omega.{arith}
+use Prim.Native.Nat.{◌-◌}
+use borrow.Author.Rules.{rules}
+use Rattle.table.specs.Values.{sought}
+use Rattle.rows.proofs.Appends.{appended-next}
+use Rattle.rows.proofs.Parts.{appended-no}
+use Rattle.occurrences.proofs.CollectSteps.{appended-as, two-terms, app-term, term-member, head-member, RowsLeft, rows_start, term-item, rows_next, rows_end, term_list}
+use Rattle.occurrences.proofs.CollectCases.{term-one, term-case, head-case}
+use Prim.Native.Nat.{ℕ, ◌<◌}
+use Rattle.occurrences.proofs.+terms.Given as goal
+
+abbrev pub decreases-collect_app_head : goal.decreases-collect_app_head
+decreases-collect_app_head l = l.head.0.0
+
+abbrev pub decreases-collect_term : goal.decreases-collect_term
+decreases-collect_term l = l.term.0.0
+
+abbrev pub decreases-collect_term_list : goal.decreases-collect_term_list
+decreases-collect_term_list l = l.list.0.0
+
+abbrev pub invariant-collect_term_list-loop-i : goal.invariant-collect_term_list-loop-i
+invariant-collect_term_list-loop-i l = RowsLeft l.image (sought l.table l.symbols) l.terms.0 l.i l.written l.initial.rows l.after l.rows
+
+abbrev pub decreases-collect_term_list-loop-i : goal.decreases-collect_term_list-loop-i
+decreases-collect_term_list-loop-i l = l.terms.0.count - l.i

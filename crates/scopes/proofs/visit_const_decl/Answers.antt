@@ -1,0 +1,12 @@
+use Rattle.scopes.proofs.Visiting.{sig_one, sig-one-walked, inside-path, put-ends}
+use borrow.Author.Rules.{rules}
+use Rattle.scopes.proofs.visit_const_decl.Goals as goal
+
+pub walk_type_expr-after_result-requires : goal.walk_type_expr-after_result-requires
+walk_type_expr-after_result-requires c = ((sig_one _ c.requires.0 c.const_decl.ensures.second).first, c.requires.1)
+
+pub put_back-requires : goal.put_back-requires
+put_back-requires c = (c.walk_type_expr-after_result.ensures.stands, inside-path _ c.requires.0 c.requires.1 (sig-one-walked _ c.requires.0 c.const_decl.ensures.second c.walk_type_expr-after_result.ensures.same))
+
+pub returns : goal.returns
+returns c = put-ends _ _ _ c.put_back.ensures (sig-one-walked _ c.requires.0 c.const_decl.ensures.second c.walk_type_expr-after_result.ensures.same)
