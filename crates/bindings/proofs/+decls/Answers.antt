@@ -12,6 +12,7 @@ use Rattle.bindings.proofs.RowLaws.{decl-none}
 use Rattle.bindings.proofs.Bodies.{declared-start, declared-end, decls-item, decl-rule, decl-model}
 use Prim.Native.Nat.{ℕ, ◌<◌}
 use borrow.Author.Rules.{rules}
+use borrow.Enum.Refused.{opened}
 use Rattle.bindings.proofs.+decls.Goals as goal
 
 pub walk_decl-walk_stmt_block-requires : goal.walk_decl-walk_stmt_block-requires
@@ -21,7 +22,7 @@ pub walk_decl-walk_decls-requires : goal.walk_decl-walk_decls-requires
 walk_decl-walk_decls-requires t c = let s = decl-is _ c.requires.is c.decl.ensures c.in-Model.is in let o = decl-model _ _ c.requires.is s.number s.child c.model_decl.ensures.list in (let l = o.low in omega arith, record { run = o.run; room = room_as o.same c.requires.room })
 
 pub walk_decl-returns-in-Type : goal.walk_decl-returns-in-Type
-walk_decl-returns-in-Type t c = let h = no_body _ c.requires.is c.decl.ensures c.in-Type.in-Type-own.keys1 in appended-no _ _ (decl-none _ _ c.requires.is h.0 h.1)
+walk_decl-returns-in-Type t c = let h = no_body _ c.requires.is c.decl.ensures (opened c.in-Type.in-Type-own.keys1) in appended-no _ _ (decl-none _ _ c.requires.is h.0 h.1)
 
 pub walk_decl-returns-in-Rule : goal.walk_decl-returns-in-Rule
 walk_decl-returns-in-Rule t c = let s = decl-is _ c.requires.is c.decl.ensures c.in-Rule.is in let o = decl-rule _ _ c.requires.is s.number s.child c.rule_decl.ensures.list in appended-as (sym o.same) c.walk_stmt_block.ensures

@@ -20,4 +20,4 @@ unfolding lookup
 returns-in-Ident c = let o = term_is _ c.requires.is c.term.ensures c.in-Ident.is in appended-as (sym (row-when _ (arg-ident _ _ c.requires.is o.number o.child) (c.is_var-test.ensures ∙ ap (is_var _) c.at_entry-found.ensures) c.row_number-number.ensures)) c.put_if.ensures
 
 pub returns-in_default : goal.returns-in_default
-returns-in_default c = appended-no _ _ (arg-none _ _ c.requires.is (no-ident _ c.requires.is c.term.ensures c.in_default.in_default-own.keys2))
+returns-in_default c = appended-no _ _ (arg-none _ _ c.requires.is (no-ident _ c.requires.is c.term.ensures c.in_default.not-Ident))

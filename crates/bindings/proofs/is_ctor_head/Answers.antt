@@ -6,6 +6,7 @@ use Rattle.bindings.proofs.RowLaws.{ctor-none, ctor-ident}
 use Rattle.bindings.proofs.Cases.{no_name}
 use Rattle.bindings.proofs.Looked.{looked, head-asks}
 use borrow.Author.Rules.{rules}
+use borrow.Enum.Refused.{opened}
 use Rattle.bindings.proofs.is_ctor_head.Goals as goal
 
 pub at_exit-found-requires : goal.at_exit-found-requires
@@ -16,4 +17,4 @@ unfolding lookup
 returns-in-Ident c = let o = app-head-is _ c.requires.is c.app_head.ensures c.in-Ident.is in c.is_kind.ensures ∙ ap (is_kind _ ctor_decl_kind) c.at_exit-found.ensures ∙ sym (ctor-ident _ _ c.requires.is o.number o.child)
 
 pub returns-in-Member : goal.returns-in-Member
-returns-in-Member c = sym (ctor-none _ _ c.requires.is (no_name _ c.requires.is c.app_head.ensures c.in-Member.in-Member-own.keys2))
+returns-in-Member c = sym (ctor-none _ _ c.requires.is (no_name _ c.requires.is c.app_head.ensures (opened c.in-Member.in-Member-own.keys2)))

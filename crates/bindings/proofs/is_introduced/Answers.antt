@@ -1,5 +1,4 @@
 use mathlib.Core.Path.{sym, ap, ◌∙◌}
-use borrow.Author.Tests.{not-true, not-false}
 use Rattle.table.specs.Table.{lookup, is_kind}
 use Rattle.table.specs.Values.{option_of}
 use Rattle.bindings.proofs.Leaves.{introduces-other, introduces-var}
@@ -12,11 +11,11 @@ at_exit-found-requires c = looked _ c.requires.0 c.requires.1
 
 pub returns-then-not-is_var : goal.returns-then-not-is_var
 unfolding lookup
-returns-then-not-is_var c = sym (introduces-other _ _ _ _ c.at_exit-found.ensures (sym c.is_var.ensures ∙ not-true c.is_var.result c.if-not-is_var.true))
+returns-then-not-is_var c = sym (introduces-other _ _ _ _ c.at_exit-found.ensures (sym c.is_var.ensures ∙ c.if-not-is_var.true))
 
 pub returns-in-At : goal.returns-in-At
 unfolding lookup
-returns-in-At c = sym (introduces-var _ _ _ _ c.at_exit-found.ensures (sym c.is_var.ensures ∙ not-false c.is_var.result c.if-not-is_var.false) (ap option_of c.in-At.is) c.binding_visible_before.ensures)
+returns-in-At c = sym (introduces-var _ _ _ _ c.at_exit-found.ensures (sym c.is_var.ensures ∙ c.if-not-is_var.false) (ap option_of c.in-At.is) c.binding_visible_before.ensures)
 
 pub returns-in-Nothing : goal.returns-in-Nothing
 unfolding is_kind lookup

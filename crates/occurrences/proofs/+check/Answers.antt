@@ -7,6 +7,7 @@ use Rattle.table.specs.Values.{sought}
 use Rattle.occurrences.proofs.CollectRules.{decl-case, decl-none, model_run}
 use Rattle.occurrences.proofs.CollectLone.{searched-as, searched-nothing, ChecksLeft, checks-start, checks-item, checks-scratch, checks-next, checks-found, checks-end}
 use Prim.Native.Nat.{ℕ, ◌<◌}
+use borrow.Enum.Refused.{opened}
 use Rattle.occurrences.proofs.+check.Goals as goal
 
 pub check_decl-check_rule-requires : goal.check_decl-check_rule-requires
@@ -16,7 +17,7 @@ pub check_decl-check_decls-requires : goal.check_decl-check_decls-requires
 check_decl-check_decls-requires t c = let d = decl-case _ _ _ c.requires.0 c.decl.ensures c.in-Model.is in let m = model_run _ _ _ d.listing c.model_decl.ensures in (let l = d.low in let e = m.node in omega arith, (m.run, c.requires.1))
 
 pub check_decl-returns-in-Type : goal.check_decl-returns-in-Type
-check_decl-returns-in-Type t c = searched-nothing (decl-none _ _ _ c.requires.0 c.decl.ensures c.in-Type.in-Type-own.keys1)
+check_decl-returns-in-Type t c = searched-nothing (decl-none _ _ _ c.requires.0 c.decl.ensures (opened c.in-Type.in-Type-own.keys1))
 
 pub check_decl-returns-in-Rule : goal.check_decl-returns-in-Rule
 check_decl-returns-in-Rule t c = searched-as (decl-case _ _ _ c.requires.0 c.decl.ensures c.in-Rule.is).whole c.check_rule.ensures

@@ -8,6 +8,7 @@ use Rattle.occurrences.specs.Promises.{joined}
 use Rattle.occurrences.proofs.CollectRules.{decl-case, decl-none, rule_run, model_run, DeclsLeft, decls-start, decls-item, decls-next, decls-end}
 use Rattle.occurrences.proofs.CollectSteps.{appended-as}
 use Prim.Native.Nat.{ℕ, ◌<◌}
+use borrow.Enum.Refused.{opened}
 use Rattle.occurrences.proofs.+decls.Goals as goal
 
 pub collect_decl-collect_stmts-requires : goal.collect_decl-collect_stmts-requires
@@ -18,7 +19,7 @@ collect_decl-collect_decls-requires t c = let d = decl-case _ _ _ c.requires c.d
 
 pub collect_decl-returns-in-Type : goal.collect_decl-returns-in-Type
 unfolding joined
-collect_decl-returns-in-Type t c = appended-no _ _ (ap joined (decl-none _ _ _ c.requires c.decl.ensures c.in-Type.in-Type-own.keys1))
+collect_decl-returns-in-Type t c = appended-no _ _ (ap joined (decl-none _ _ _ c.requires c.decl.ensures (opened c.in-Type.in-Type-own.keys1)))
 
 pub collect_decl-returns-in-Rule : goal.collect_decl-returns-in-Rule
 collect_decl-returns-in-Rule t c = appended-as (ap joined (decl-case _ _ _ c.requires c.decl.ensures c.in-Rule.is).whole ∙ (rule_run _ _ _ (decl-case _ _ _ c.requires c.decl.ensures c.in-Rule.is).listing c.rule_decl.ensures).whole) c.collect_stmts.ensures
