@@ -1,6 +1,6 @@
 /* The proved scope resolver for eqlog sharing rules, for C11.
  *
- * Link target/staticlib/libexports.a, which `rt staticlib exports` writes (x86-64 Linux, no other library is needed but
+ * Link target/staticlib/libexports.a, which the script `staticlib` writes (x86-64 Linux, no other library is needed but
  * memset). Every function is proved to answer as said here for all inputs: nothing is asked of the caller but what
  * stands under "Lent memory". No call allocates, keeps anything between calls, or locks; calls on different buffers may
  * run in different threads at once.
@@ -15,9 +15,9 @@
  * table and past EQLOG_ROWS_WORDS(N) of rows, whatever their lengths.
  *
  * Stack: EQLOG_STACK_BYTES are enough for any call on any image. Nesting reaches some 1,000 levels, and the walks
- * over the tree call themselves once or more for each. Measured on the deepest images of eight forms (terms, app heads,
- * members, arguments, branches, matches, models, each in itself): at most 380,000 bytes, by eqlog_sorted on branches in
- * branches.
+ * over the tree call themselves once or more for each. Measured with the older Rattle kit, on the deepest images of
+ * eight forms (terms, app heads, members, arguments, branches, matches, models, each in itself): at most 380,000 bytes,
+ * by eqlog_sorted on branches in branches.
  * The proof is about a machine with no stack: a thread with less is ended by the system's guard page.
  *
  * The image

@@ -1,4 +1,4 @@
-// Links the archive that `rt staticlib exports` writes.
+// Links the archive that the script `staticlib` at the top of the repository writes.
 use std::env;
 use std::path::{Path, PathBuf};
 
@@ -11,7 +11,7 @@ fn main() {
     let archive = folder.join("libexports.a");
     println!("cargo:rerun-if-changed={}", archive.display());
     if !archive.exists() {
-        panic!("{} is not there: run `rt staticlib exports` first, or set EQLOG_LIB_DIR", archive.display());
+        panic!("{} is not there: run ./staticlib at the top of the repository first, or set EQLOG_LIB_DIR", archive.display());
     }
     println!("cargo:rustc-link-search=native={}", folder.display());
     println!("cargo:rustc-link-lib=static=exports");
