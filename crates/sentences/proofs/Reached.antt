@@ -55,6 +55,7 @@ module _ (img : List ℕ) (f : Tree → List Row) (all : Trees → List Row) (ea
 
   among-all : {c : ℕ} (cs : List ℕ) → Memᴰ c cs → Sub (f (tree_at img c)) (all (grow_all (tree_at img) cs))
   unfolding grow_all
+  among-all {c = c} [] x' = elim x' [ ]
   among-all (x ∷ cs) (Memᴰ.head e) = sub_as (ap (λ (i : ℕ). f (tree_at img i)) e) (first_of (tree_at img x) (grow_all (tree_at img) cs))
   among-all (x ∷ cs) (Memᴰ.tail m) = λ r k. rest_of (tree_at img x) (grow_all (tree_at img) cs) r (among-all cs m r k)
 

@@ -32,6 +32,7 @@ module _ (n : ℕ) where
 
   mem-among : (ns : List ℕ) → Memᴰ n ns → among n ns ≡ true
   unfolding among
+  mem-among [] x' = elim x' [ ]
   mem-among (x ∷ ns) (mathlib.Core.List.Memᴰ.head e) = ap (λ (b : Bool). b || among n ns) (eq-eqb n x e)
   mem-among (x ∷ ns) (mathlib.Core.List.Memᴰ.tail m) = go (eqb n x) (mem-among ns m)
     where
