@@ -13,7 +13,7 @@ use lib.ListN.{length, get_or}
 use Rattle.ast.specs.Image.{nodes, kind_at, start_at, op_at, last}
 use Rattle.ast.specs.Kinds.{Field, name, opt_name, child, opt_child, list, lists, cases, no_child, Kind, kinds, kind_of}
 use Rattle.ast.specs.Rows.{one, numbers, ops_from, after, block_kids, field_kids, fields_kids, fields_at, kids, kids_to}
-use Rattle.ast.specs.Tests.{is, times, verdict}
+use Rattle.ast.specs.Tests.{times, verdict}
 use Rattle.ast.proofs.Formed.{Child, Items, FormedBlocks, FormedField, FormedFields, FormedNode}
 use Rattle.ast.proofs.Unfold.{All, nil, cons, All-append, All-map, numbers-append, numbers-ones}
 use Rattle.ast.proofs.Count.{is-other, parents}

@@ -8,7 +8,7 @@ use native.Mathlib.Omega.{arith}
 use lib.Dec.{eqb}
 use lib.ListN.{get_or}
 use Rattle.ast.specs.Image.{kind_at, field}
-use Rattle.ast.specs.Kinds.{inner, plain, term, head, case, defined_then, no_child, kind_of}
+use Rattle.ast.specs.Kinds.{inner, plain, term, case, defined_then, no_child, kind_of}
 use Rattle.ast.specs.Is.{Is, Run}
 use Rattle.ast.specs.Tree.{Tree, node, block, none, ◌◂◌, swaps, ordered, tree_at}
 use Rattle.ast.specs.Items.{items, blocks}

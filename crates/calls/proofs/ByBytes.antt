@@ -3,7 +3,7 @@
 use mathlib.Core.Path.{◌≡◌, refl, sym, ap, subst, ◌∙◌}
 use mathlib.Core.Bool.{Bool, true, false, ◌&&◌}
 use mathlib.Core.List.{List, [], ◌∷◌}
-use mathlib.Core.Option.{Option, none as nothing, some}
+use mathlib.Core.Option.{Option, some}
 use Prim.Native.Nat.{ℕ, zero, suc, ◌+◌, ◌<◌, ◌≤◌}
 use native.Mathlib.Decide.{ℕ_discrete}
 use native.Mathlib.Nat.{zero-add}
@@ -13,7 +13,7 @@ use lib.ListN.{length}
 use borrow.Author.Tests.{eq-eqb, eqb-true, lt-ltb, le-leb, ltb-true}
 use Rattle.ast.specs.Answer.{Answer, refused, result}
 use Rattle.ast.specs.Image.{nodes, names, kind_at, name_of, name_bytes}
-use Rattle.ast.specs.Kinds.{kind_of, name}
+use Rattle.ast.specs.Kinds.{kind_of}
 use Rattle.ast.specs.Rows.{fields_at}
 use Rattle.ast.specs.Rules.{Rule, module_rules}
 use Rattle.ast.specs.Tests.{same, need, verdict}

@@ -1,12 +1,12 @@
 -- What the environment's words say along a walk: by name, what lookup gives at the scope that the walk stands in; by symbol row,
 -- what the row's name is above its scope; by node, what the name asked for there is at the node's entry and at its exit.
-use Rattle.std.specs.Prelude.{◌≡◌, List, ℕ, zero, suc, ◌+◌, ◌-◌, ◌<◌, ◌≤◌, length}
+use Rattle.std.specs.Prelude.{◌≡◌, List, ℕ, zero, suc, ◌-◌, ◌<◌, ◌≤◌, length}
 use Rattle.std.proofs.Math.Option.{Option, none, some}
 use Rattle.ast.specs.Image.{nodes, name_of}
 use Rattle.table.specs.Kept.{Kept}
 use Rattle.table.specs.Rising.{scope_of, node_at, parent_at}
 use Rattle.table.specs.State.{Walked}
-use Rattle.table.specs.Table.{Table, find, lookup, entry_at, exit_at}
+use Rattle.table.specs.Table.{Table, lookup, entry_at, exit_at}
 use Rattle.environment.specs.Layout.{names_most, nodes_most, environment_length, standing, hidden, noted_entry, noted_exit}
 use Rattle.environment.specs.Asked.{asked}
 

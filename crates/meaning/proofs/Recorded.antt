@@ -9,7 +9,7 @@ use Rattle.ast.specs.Rules.{Rule, module_rules}
 use Rattle.ast.specs.Tests.{verdict}
 use Rattle.ast.specs.Tree.{Tree, node, block, Trees, none, ◌◂◌}
 use Rattle.table.specs.State.{Walked}
-use Rattle.table.specs.Table.{Table, lookup}
+use Rattle.table.specs.Table.{Table}
 use Rattle.scopes.specs.Resolve.{walked, counted}
 use Rattle.scopes.specs.Walk.{done}
 use Rattle.sight.specs.Sight.{In}

@@ -1,6 +1,6 @@
 -- What the tests of the names (4, 5) ask and hand back as the code goes through them: names by place, and buckets of names by a hash
 -- of their bytes. Vocabulary of its contracts.
-use Rattle.std.specs.Prelude.{◌≡◌, Bool, true, false, List, [], ◌∷◌, ℕ, suc, ◌+◌, ◌-◌, ◌*◌, ◌%◌, ◌<◌, ◌≤◌, get_or}
+use Rattle.std.specs.Prelude.{◌≡◌, Bool, true, false, List, [], ◌∷◌, ℕ, suc, ◌+◌, ◌*◌, ◌%◌, ◌<◌, ◌≤◌, get_or}
 use Rattle.ast.specs.Image.{names, bytes_place, name_start, name_end, name_bytes}
 use Rattle.ast.specs.Promises.{Within, Rises}
 use Rattle.ast.specs.Tests.{run, same, unequal}

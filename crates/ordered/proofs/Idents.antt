@@ -14,7 +14,7 @@ use Rattle.ast.specs.Image.{nodes, field, name_of}
 use Rattle.ast.specs.Is.{Is, Run, kind_by}
 use Rattle.ast.specs.Kinds.{inner, plain, child, list, cases, no_child, kind_of}
 use Rattle.ast.specs.Tree.{tree_at}
-use Rattle.ast.proofs.Shapes.{run-item, term_kinds, head_kinds}
+use Rattle.ast.proofs.Shapes.{run-item, head_kinds}
 use Rattle.ast.proofs.Small.{tree-small}
 use Rattle.typed.specs.Nodes.{term_at}
 use Rattle.typed.specs.RowShapes.{Two, Listed, WordList}
@@ -31,7 +31,7 @@ use Rattle.environment.proofs.Asking.{loud_fields, quiet, quiet-term, quiet-head
 use Rattle.environment.proofs.Laws.{left, left-bare, Older, tells-later}
 use Rattle.ordered.specs.Walk.{Role, occurs, declares, names, defines, walk_ident, walk}
 use Rattle.ordered.specs.Promises.{over, inside, rest, over_all, unless, Ends, Few, Ready, Variable, Defining}
-use Rattle.ordered.proofs.Steps.{ident-step, name-step, one, two, member_of, term-whole, term-wild, plain-whole, term-wrapped, head-whole, head-case, head-wrapped, head-ident}
+use Rattle.ordered.proofs.Steps.{ident-step, name-step, one, two, member_of, term-whole, term-wild, plain-whole, head-whole, head-case, head-wrapped, head-ident}
 use Rattle.ordered.proofs.Lists.{rest_more, rest_end, list_of, head_member_of}
 use Rattle.ordered.proofs.Atoms.{plain-wrapped, var-ident, var-other, Defined, defined_of}
 use Rattle.ordered.proofs.Paths.{walk-older}

@@ -2,7 +2,7 @@
 -- what is left of a list; and what a walker asks before it starts.
 use Rattle.std.specs.Prelude.{◌≡◌, Bool, List, ℕ, suc, ◌+◌, ◌-◌, ◌<◌, ◌≤◌, ◌^◌}
 use Rattle.std.proofs.Math.Bool.{true, false}
-use Rattle.ast.specs.Image.{nodes, field}
+use Rattle.ast.specs.Image.{nodes}
 use Rattle.ast.specs.Kinds.{Kind, kind_of}
 use Rattle.ast.specs.Tree.{tree_at}
 use Rattle.ast.specs.Items.{items, below}

@@ -1,3 +1,2 @@
 // The image tests and Name, computed: a damaged image for each refusal, in proofs/.
 #![tactic(auto)]
-

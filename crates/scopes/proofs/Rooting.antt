@@ -2,14 +2,14 @@
 use mathlib.Core.Path.{◌≡◌, refl, sym, ap, subst, ◌∙◌}
 use mathlib.Core.List.{List, ◌++◌}
 use mathlib.Core.Option.{none as nothing}
-use Prim.Native.Nat.{ℕ, suc, ◌+◌, ◌<◌, ◌≤◌}
+use Prim.Native.Nat.{ℕ, suc, ◌<◌, ◌≤◌}
 use native.Mathlib.Omega.{arith}
 use lib.ListN.{length, get_or, drop, replicate, length-replicate, get_or-replicate, get_or-append}
 use Rattle.ast.specs.Answer.{Answer, refused, twice as twice_answer, result}
 use Rattle.ast.specs.Image.{nodes, last, field}
 use Rattle.ast.specs.Is.{Is}
 use Rattle.ast.specs.Items.{items}
-use Rattle.ast.specs.Kinds.{root, list, kind_of}
+use Rattle.ast.specs.Kinds.{kind_of}
 use Rattle.ast.specs.Named.{module_kind}
 use Rattle.ast.specs.Tests.{verdict}
 use Rattle.ast.specs.Tree.{Tree, Trees, none, tree_at, size, sizes}

@@ -12,7 +12,7 @@ use lib.Dec.{T, eqb, eqb→eq}
 use lib.ListN.{get_or}
 use borrow.Author.Tests.{ne_eqb}
 use Rattle.ast.specs.Image.{nodes, kind_at, start_at, op_at, field, last}
-use Rattle.ast.specs.Kinds.{Class, outer, inner, root, decl, plain, term, ident, head, head_member, member, case, if_var, defined_then, arg, Field, name, cases, no_child, Kind, kinds, kind_of}
+use Rattle.ast.specs.Kinds.{Class, outer, inner, decl, plain, term, ident, head, head_member, member, case, if_var, defined_then, arg, Field, cases, no_child, Kind, kinds, kind_of}
 use Rattle.ast.specs.Is.{Is, kind_by}
 use Rattle.ast.specs.Rows.{Kid, one, many, ones, numbers, ops_from, kids, fields_kids, field_kids, after}
 use Rattle.ast.specs.Tests.{verdict}

@@ -6,7 +6,7 @@ use Prim.Native.Nat.{ℕ, zero, suc, ◌+◌, ◌≤◌, ◌<◌}
 use native.Mathlib.Omega.{arith}
 use Rattle.ast.specs.Image.{kind_at}
 use Rattle.ast.specs.Kinds.{outer, inner, plain, term, ident, head, head_member, member, case, if_var, defined_then, arg}
-use Rattle.ast.specs.Tests.{is, times}
+use Rattle.ast.specs.Tests.{times}
 use Rattle.ast.specs.Tree.{Tree, node, block, Trees, none, ◌◂◌}
 use Rattle.ast.proofs.Count.{times-append}
 use Rattle.ordered.proofs.Moves.{numbers, numbers_seq}

@@ -1,5 +1,4 @@
 use Prim.Native.Nat.{◌-◌}
-use borrow.Author.Rules.{rules}
 use mathlib.Core.Path.{sym, ap, ◌∙◌}
 use Rattle.ast.proofs.Words.{name-rule, name-arg, name-plain}
 use Rattle.ast.proofs.name_of.Goals as goal

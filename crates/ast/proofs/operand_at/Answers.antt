@@ -2,7 +2,6 @@ use mathlib.Core.Path.{sym}
 use native.Mathlib.Omega.{arith}
 use Rattle.ast.specs.Image.{op_at}
 use Rattle.ast.proofs.Words.{word_out}
-use borrow.Author.Rules.{rules}
 use Rattle.ast.proofs.operand_at.Goals as goal
 
 pub returns-then-at-gt-NOWHERE : goal.returns-then-at-gt-NOWHERE

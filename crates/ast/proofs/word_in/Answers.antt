@@ -1,5 +1,4 @@
 use native.Mathlib.Omega.{arith}
-use borrow.Author.Rules.{rules}
 use Rattle.ast.proofs.Words.{word_in}
 use Rattle.ast.proofs.word_in.Goals as goal
 

@@ -1,17 +1,11 @@
 use mathlib.Core.Path.{sym}
 use native.Mathlib.Omega.{arith}
-use Prim.Native.Nat.{◌+◌, ◌*◌, ◌-◌, ◌≤◌}
-use Rattle.ast.specs.Image.{nodes}
 use Rattle.typed.proofs.Enums.{decl-is}
-use Rattle.table.specs.Values.{table_of}
-use Rattle.rows.proofs.Parts.{appended-as, appended-no, Left, left-start, left-next, left_end}
-use Rattle.bindings.specs.Promises.{declared, of_decls}
+use Rattle.rows.proofs.Parts.{appended-as, appended-no, left-start, left-next, left_end}
 use Rattle.bindings.proofs.Cases.{no_body}
 use Rattle.bindings.proofs.Epic.{room_as, room-left}
 use Rattle.bindings.proofs.RowLaws.{decl-none}
 use Rattle.bindings.proofs.Bodies.{declared-start, declared-end, decls-item, decl-rule, decl-model}
-use Prim.Native.Nat.{ℕ, ◌<◌}
-use borrow.Author.Rules.{rules}
 use borrow.Enum.Refused.{opened}
 use Rattle.bindings.proofs.+decls.Goals as goal
 

@@ -1,17 +1,8 @@
-use mathlib.Core.Path.{sym}
-use native.Mathlib.Omega.{arith}
 use Prim.Native.Nat.{◌+◌, ◌*◌, ◌-◌, ◌≤◌}
 use Rattle.ast.specs.Image.{nodes}
-use Rattle.typed.proofs.Enums.{decl-is}
 use Rattle.table.specs.Values.{table_of}
-use Rattle.rows.proofs.Parts.{appended-as, appended-no, Left, left-start, left-next, left_end}
+use Rattle.rows.proofs.Parts.{Left}
 use Rattle.bindings.specs.Promises.{declared, of_decls}
-use Rattle.bindings.proofs.Cases.{no_body}
-use Rattle.bindings.proofs.Epic.{room_as, room-left}
-use Rattle.bindings.proofs.RowLaws.{decl-none}
-use Rattle.bindings.proofs.Bodies.{declared-start, declared-end, decls-item, decl-rule, decl-model}
-use Prim.Native.Nat.{ℕ, ◌<◌}
-use borrow.Author.Rules.{rules}
 use Rattle.bindings.proofs.+decls.Given as goal
 
 abbrev pub decreases-walk_decl : goal.decreases-walk_decl

@@ -1,19 +1,14 @@
 use mathlib.Core.Path.{sym}
 use native.Mathlib.Omega.{arith}
-use Prim.Native.Nat.{◌+◌, ◌-◌, ◌≤◌}
 use mathlib.Core.Bool.{true}
-use Rattle.ast.specs.Image.{nodes}
 use Rattle.typed.proofs.Enums.{term_is, app-head-is}
 use Rattle.table.specs.Values.{table_of}
 use Rattle.rows.proofs.Appends.{appended-next}
-use Rattle.rows.proofs.Parts.{appended-as, appended-no, Left, left-start, left-next, left_end}
-use Rattle.bindings.specs.Promises.{listed}
+use Rattle.rows.proofs.Parts.{appended-as, appended-no, left-start, left-next, left_end}
 use Rattle.bindings.proofs.Cases.{dom-or-cod}
 use Rattle.bindings.proofs.Leaves.{fits-as}
 use Rattle.bindings.proofs.Epic.{room_as, room-first, room-rest, room-left, app-down, two_down, head-none, head-receiver, head-term, epic-ident, epic-app, epic-member, epic-id, epic-comp, epic-wild, epic-below, terms-list, terms-item, listed_start, listed-end}
-use Prim.Native.Nat.{ℕ, ◌<◌}
 use Rattle.bindings.proofs.Looked.{term_asks}
-use borrow.Author.Rules.{rules}
 use Rattle.bindings.proofs.+epic.Goals as goal
 
 pub check_epic_app_head-check_epic_term-requires : goal.check_epic_app_head-check_epic_term-requires

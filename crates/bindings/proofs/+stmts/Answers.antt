@@ -1,19 +1,14 @@
 use mathlib.Core.Path.{refl, sym}
 use native.Mathlib.Omega.{arith}
-use Prim.Native.Nat.{◌+◌, ◌*◌, ◌-◌, ◌≤◌}
 use mathlib.Core.Bool.{false}
-use Rattle.ast.specs.Image.{nodes}
-use Rattle.ast.proofs.Blocks.{BlocksFrom, blocks-place}
+use Rattle.ast.proofs.Blocks.{blocks-place}
 use Rattle.typed.proofs.Enums.{stmt-is}
 use Rattle.table.specs.Values.{table_of}
 use Rattle.rows.proofs.Appends.{appended-next}
-use Rattle.rows.proofs.Parts.{appended-as, appended-no, Left, left-start, left-next, left_end}
-use Rattle.bindings.specs.Promises.{listed, of_stmts}
+use Rattle.rows.proofs.Parts.{appended-as, appended-no, left-start, left-next, left_end}
 use Rattle.bindings.proofs.Leaves.{fits-as}
 use Rattle.bindings.proofs.Epic.{room_as, room-first, room-rest, room-left, listed_start, listed-end}
-use Rattle.bindings.proofs.Bodies.{blocks_left, block-list, blocks_start, block-item, blocks-end, cases-list, cases-item, case-list, stmt-if, stmt-then, stmt-branch, stmt-match, stmts-item}
-use Prim.Native.Nat.{ℕ, ◌<◌}
-use borrow.Author.Rules.{rules}
+use Rattle.bindings.proofs.Bodies.{block-list, blocks_start, block-item, blocks-end, cases-list, cases-item, case-list, stmt-if, stmt-then, stmt-branch, stmt-match, stmts-item}
 use Rattle.bindings.proofs.+stmts.Goals as goal
 
 pub walk_branch-loop-i-init : goal.walk_branch-loop-i-init

@@ -4,7 +4,6 @@ use Rattle.bindings.specs.Errors.{same_node}
 use Rattle.table.specs.Table.{lookup}
 use Rattle.table.specs.Values.{option_of}
 use Rattle.bindings.proofs.Looked.{looked}
-use borrow.Author.Rules.{rules}
 use Rattle.bindings.proofs.binding_visible_before.Goals as goal
 
 pub at_entry-requires : goal.at_entry-requires

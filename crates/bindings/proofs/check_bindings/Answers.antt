@@ -2,7 +2,6 @@ use mathlib.Core.Path.{refl, sym, ◌∙◌}
 use Rattle.scopes.proofs.Calls.{rowed-refused, rowed-filled, rowed-stopped}
 use Rattle.bindings.specs.Errors.{errors}
 use Rattle.bindings.proofs.Calls.{errors-table, errors-filled}
-use borrow.Author.Rules.{rules}
 use Rattle.bindings.proofs.check_bindings.Goals as goal
 
 pub returns-then-code-ne0 : goal.returns-then-code-ne0

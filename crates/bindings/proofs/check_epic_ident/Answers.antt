@@ -1,7 +1,6 @@
 use mathlib.Core.Path.{sym, ◌∙◌}
 use Rattle.rows.proofs.Parts.{appended-as}
 use Rattle.bindings.proofs.Leaves.{fits-as, introduced-is, when-number}
-use borrow.Author.Rules.{rules}
 use Rattle.bindings.proofs.check_epic_ident.Goals as goal
 
 pub is_introduced-test-requires : goal.is_introduced-test-requires

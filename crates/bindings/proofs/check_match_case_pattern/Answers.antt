@@ -6,7 +6,6 @@ use Rattle.rows.proofs.Parts.{appended-as, appended-no}
 use Rattle.bindings.proofs.Cases.{no-app}
 use Rattle.bindings.proofs.Epic.{room_as}
 use Rattle.bindings.proofs.Bodies.{case-pattern, no-pattern, applied, applied-yes, applied-no}
-use borrow.Author.Rules.{rules}
 use borrow.Enum.Refused.{opened}
 use Rattle.bindings.proofs.check_match_case_pattern.Goals as goal
 

@@ -1,6 +1,5 @@
 use Rattle.rows.proofs.Parts.{appended-as, appended-no}
 use Rattle.bindings.proofs.Calls.{mode-strict, mode-plain}
-use borrow.Author.Rules.{rules}
 use Rattle.bindings.proofs.check_mode.Goals as goal
 
 pub returns-then-mode-eq2 : goal.returns-then-mode-eq2

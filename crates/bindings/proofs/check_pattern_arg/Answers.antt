@@ -5,7 +5,6 @@ use Rattle.typed.proofs.Enums.{term_is, no-ident}
 use Rattle.bindings.proofs.Leaves.{row-when, fits-as}
 use Rattle.bindings.proofs.RowLaws.{arg-ident, arg-none}
 use Rattle.bindings.proofs.Looked.{looked, term_asks}
-use borrow.Author.Rules.{rules}
 use Rattle.bindings.proofs.check_pattern_arg.Goals as goal
 
 pub at_entry-found-requires : goal.at_entry-found-requires

@@ -1,15 +1,10 @@
-use mathlib.Core.Path.{sym}
-use native.Mathlib.Omega.{arith}
 use Prim.Native.Nat.{◌-◌, ◌≤◌}
 use Rattle.ast.specs.Image.{nodes}
 use Rattle.ast.specs.Items.{items}
 use Rattle.table.specs.Values.{table_of}
 use Rattle.bindings.specs.Errors.{arg_rows}
-use Rattle.rows.proofs.Parts.{appended-as, Left, left-start, left-next, left_end}
-use Rattle.bindings.proofs.Leaves.{fits-as}
-use Rattle.bindings.proofs.Epic.{room-left}
-use Rattle.bindings.proofs.Bodies.{args_left, args-list, args-start, args-item, args_end}
-use borrow.Author.Rules.{rules}
+use Rattle.rows.proofs.Parts.{Left}
+use Rattle.bindings.proofs.Bodies.{args_left}
 use Rattle.bindings.proofs.check_pattern_args.Given as goal
 
 abbrev pub invariant-loop-i : goal.invariant-loop-i

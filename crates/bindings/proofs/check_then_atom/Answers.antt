@@ -4,7 +4,6 @@ use Rattle.rows.proofs.Appends.{appended-next}
 use Rattle.rows.proofs.Parts.{appended-as}
 use Rattle.bindings.proofs.Epic.{room_as, room-first, room-rest, two_down}
 use Rattle.bindings.proofs.Bodies.{atom-equal, atom-defined, atom-pred}
-use borrow.Author.Rules.{rules}
 use Rattle.bindings.proofs.check_then_atom.Goals as goal
 
 pub check_epic_term-after_lhs-requires : goal.check_epic_term-after_lhs-requires

@@ -5,7 +5,6 @@ use Rattle.rows.proofs.Parts.{appended-as}
 use Rattle.bindings.proofs.Epic.{room_as, room-first, room-rest}
 use Rattle.bindings.proofs.Bodies.{then-none, then_some}
 use Rattle.bindings.proofs.Looked.{then-asks}
-use borrow.Author.Rules.{rules}
 use Rattle.bindings.proofs.check_then_defined.Goals as goal
 
 pub check_then_defined_var-after_var-requires : goal.check_then_defined_var-after_var-requires

@@ -6,7 +6,6 @@ use Rattle.bindings.proofs.Leaves.{row-when, fits-as}
 use Rattle.bindings.proofs.RowLaws.{defined-ident, defined-wild}
 use Rattle.bindings.proofs.Cases.{one_left}
 use Rattle.bindings.proofs.Looked.{looked}
-use borrow.Author.Rules.{rules}
 use Rattle.bindings.proofs.check_then_defined_var.Goals as goal
 
 pub at_entry-found-requires : goal.at_entry-found-requires

@@ -5,7 +5,6 @@ use Rattle.typed.proofs.Enums.{app-head-is}
 use Rattle.bindings.proofs.RowLaws.{ctor-none, ctor-ident}
 use Rattle.bindings.proofs.Cases.{no_name}
 use Rattle.bindings.proofs.Looked.{looked, head-asks}
-use borrow.Author.Rules.{rules}
 use borrow.Enum.Refused.{opened}
 use Rattle.bindings.proofs.is_ctor_head.Goals as goal
 

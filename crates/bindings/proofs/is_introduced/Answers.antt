@@ -3,7 +3,6 @@ use Rattle.table.specs.Table.{lookup, is_kind}
 use Rattle.table.specs.Values.{option_of}
 use Rattle.bindings.proofs.Leaves.{introduces-other, introduces-var}
 use Rattle.bindings.proofs.Looked.{looked}
-use borrow.Author.Rules.{rules}
 use Rattle.bindings.proofs.is_introduced.Goals as goal
 
 pub at_exit-found-requires : goal.at_exit-found-requires

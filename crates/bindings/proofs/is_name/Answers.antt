@@ -3,7 +3,6 @@ use lib.Dec.{eqb, eqb-suc-suc, eqb-zero-suc}
 use Prim.Native.Nat.{suc}
 use Rattle.typed.specs.Nodes.{name_word}
 use Rattle.typed.specs.declared.nodes.OptName.{OptName}
-use borrow.Author.Rules.{rules}
 use Rattle.bindings.proofs.is_name.Goals as goal
 
 pub returns-in-Given : goal.returns-in-Given

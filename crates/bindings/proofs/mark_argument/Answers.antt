@@ -1,7 +1,6 @@
 use mathlib.Core.Path.{ap}
 use Rattle.typed.specs.Nodes.{name_word}
 use Rattle.bindings.proofs.Marking.{mark-unnamed, mark-new, mark-again}
-use borrow.Author.Rules.{rules}
 use Rattle.bindings.proofs.mark_argument.Goals as goal
 
 pub returns-in_default : goal.returns-in_default

@@ -1,12 +1,8 @@
-use mathlib.Core.Path.{◌≡◌, sym, ap, ◌∙◌}
+use mathlib.Core.Path.{sym, ap, ◌∙◌}
 use native.Mathlib.Omega.{arith}
-use Prim.Native.Nat.{◌-◌, ◌≤◌}
 use Rattle.ast.specs.Image.{kind_at}
 use Rattle.typed.specs.Nodes.{name_word}
-use Rattle.bindings.specs.Errors.{repeated, repeated_in}
-use Rattle.bindings.specs.Promises.{marked}
-use Rattle.bindings.proofs.Marking.{args_from, no-list, list-is, list-start, list-next, list_done, arg-low, arguments, arg-read}
-use borrow.Author.Rules.{rules}
+use Rattle.bindings.proofs.Marking.{no-list, list-is, list-start, list-next, list_done, arg-low, arguments, arg-read}
 use Rattle.bindings.proofs.mark_list.Goals as goal
 
 pub returns-then-kind_at-ne-ARG_DECL_LIST : goal.returns-then-kind_at-ne-ARG_DECL_LIST

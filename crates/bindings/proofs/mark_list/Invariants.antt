@@ -1,12 +1,9 @@
-use mathlib.Core.Path.{◌≡◌, sym, ap, ◌∙◌}
-use native.Mathlib.Omega.{arith}
+use mathlib.Core.Path.{◌≡◌}
 use Prim.Native.Nat.{◌-◌, ◌≤◌}
-use Rattle.ast.specs.Image.{kind_at}
 use Rattle.typed.specs.Nodes.{name_word}
 use Rattle.bindings.specs.Errors.{repeated, repeated_in}
 use Rattle.bindings.specs.Promises.{marked}
-use Rattle.bindings.proofs.Marking.{args_from, no-list, list-is, list-start, list-next, list_done, arg-low, arguments, arg-read}
-use borrow.Author.Rules.{rules}
+use Rattle.bindings.proofs.Marking.{args_from}
 use Rattle.bindings.proofs.mark_list.Given as goal
 
 abbrev pub invariant-loop-i : goal.invariant-loop-i

@@ -1,8 +1,6 @@
-use mathlib.Core.Path.{◌≡◌, ap, ◌∙◌}
+use mathlib.Core.Path.{ap, ◌∙◌}
 use native.Mathlib.Omega.{arith}
-use borrow.Author.Rules.{rules}
-use Prim.Native.Nat.{◌-◌, ◌≤◌}
-use Rattle.bindings.specs.Errors.{repeated_in, repeated_to}
+use Rattle.bindings.specs.Errors.{repeated_in}
 use Rattle.bindings.specs.Promises.{marked}
 use Rattle.bindings.proofs.Marking.{to_start, to-next, to_end}
 use Rattle.bindings.proofs.mark_lists.Goals as goal

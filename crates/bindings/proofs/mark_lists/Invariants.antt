@@ -1,10 +1,7 @@
-use mathlib.Core.Path.{◌≡◌, ap, ◌∙◌}
-use native.Mathlib.Omega.{arith}
-use borrow.Author.Rules.{rules}
+use mathlib.Core.Path.{◌≡◌}
 use Prim.Native.Nat.{◌-◌, ◌≤◌}
-use Rattle.bindings.specs.Errors.{repeated_in, repeated_to}
+use Rattle.bindings.specs.Errors.{repeated_to}
 use Rattle.bindings.specs.Promises.{marked}
-use Rattle.bindings.proofs.Marking.{to_start, to-next, to_end}
 use Rattle.bindings.proofs.mark_lists.Given as goal
 
 abbrev pub invariant-loop-m : goal.invariant-loop-m

@@ -2,7 +2,6 @@ use mathlib.Core.Path.{sym}
 use native.Mathlib.Omega.{arith}
 use Rattle.rows.proofs.Parts.{appended-as, appended-at, appended-no}
 use Rattle.bindings.proofs.Leaves.{when_true, when_false, fits-as}
-use borrow.Author.Rules.{rules}
 use Rattle.bindings.proofs.put_if.Goals as goal
 
 pub put_row-requires : goal.put_row-requires

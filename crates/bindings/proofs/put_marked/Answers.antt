@@ -1,11 +1,7 @@
 use native.Mathlib.Omega.{arith}
-use borrow.Author.Rules.{rules}
-use Prim.Native.Nat.{◌-◌, ◌≤◌}
-use Rattle.ast.specs.Image.{nodes}
 use Rattle.ast.proofs.Accepted.{sized}
-use Rattle.bindings.specs.Errors.{strict_rows}
-use Rattle.rows.proofs.Parts.{Left, left-start, left-next, left_end}
-use Rattle.bindings.proofs.Marking.{strict_left, strict-start, strict-item, strict-room, strict-end}
+use Rattle.rows.proofs.Parts.{left-start, left-next, left_end}
+use Rattle.bindings.proofs.Marking.{strict-start, strict-item, strict-room, strict-end}
 use Rattle.bindings.proofs.put_marked.Goals as goal
 
 pub loop-m-init : goal.loop-m-init

@@ -1,7 +1,6 @@
 use mathlib.Core.Path.{sym, ◌∙◌}
 use native.Mathlib.Omega.{arith}
 use Rattle.bindings.proofs.Calls.{errors-refused, mode-over, mode-known}
-use borrow.Author.Rules.{rules}
 use Rattle.bindings.proofs.test_errors.Goals as goal
 
 pub returns-then-code-ne0 : goal.returns-then-code-ne0

@@ -2,7 +2,6 @@ use mathlib.Core.Path.{sym}
 use Rattle.rows.proofs.Parts.{appended-as}
 use Rattle.bindings.proofs.Epic.{room_as}
 use Rattle.bindings.proofs.Bodies.{module-list}
-use borrow.Author.Rules.{rules}
 use Rattle.bindings.proofs.walk_module.Goals as goal
 
 pub walk_decls-requires : goal.walk_decls-requires

@@ -7,7 +7,6 @@ use Rattle.rows.proofs.Appends.{appended-next, wrote}
 use Rattle.rows.proofs.Parts.{appended-as}
 use Rattle.bindings.proofs.Calls.{root-ready, plain_of, mode-fits, errors-are}
 use Rattle.bindings.proofs.Bound.{rows_few}
-use borrow.Author.Rules.{rules}
 use Rattle.bindings.proofs.write_rows.Goals as goal
 
 pub overflow_sub-n : goal.overflow_sub-n

@@ -1,6 +1,5 @@
 use mathlib.Core.Path.{◌∙◌}
 use Rattle.environment.proofs.Noting.{noted-told}
-use borrow.Author.Rules.{rules}
 use Rattle.environment.proofs.at_entry.Goals as goal
 
 pub returns : goal.returns

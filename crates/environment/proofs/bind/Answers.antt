@@ -1,5 +1,4 @@
 use Rattle.environment.specs.Layout.{bound}
-use borrow.Author.Rules.{rules}
 use Rattle.environment.proofs.bind.Goals as goal
 
 pub returns : goal.returns

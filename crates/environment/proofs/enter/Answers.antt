@@ -1,5 +1,4 @@
 use Rattle.environment.proofs.Laws.{entered}
-use borrow.Author.Rules.{rules}
 use Rattle.environment.proofs.enter.Goals as goal
 
 pub returns : goal.returns

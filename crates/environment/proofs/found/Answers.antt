@@ -5,7 +5,6 @@ use Rattle.ast.specs.Image.{nodes}
 use Rattle.table.specs.Rising.{node_at}
 use Rattle.environment.specs.Stands.{told}
 use Rattle.environment.proofs.Words.{told-some}
-use borrow.Author.Rules.{rules}
 use Rattle.environment.proofs.found.Goals as goal
 
 pub returns-then-word-eq0 : goal.returns-then-word-eq0

@@ -1,5 +1,4 @@
 use Rattle.environment.proofs.Laws.{introduced}
-use borrow.Author.Rules.{rules}
 use Rattle.environment.proofs.introduce.Goals as goal
 
 pub returns : goal.returns

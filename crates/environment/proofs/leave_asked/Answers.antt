@@ -1,7 +1,6 @@
 use mathlib.Core.Path.{ap, ◌∙◌}
 use Rattle.environment.specs.Layout.{noted}
 use Rattle.environment.proofs.Laws.{left-asked}
-use borrow.Author.Rules.{rules}
 use Rattle.environment.proofs.leave_asked.Goals as goal
 
 pub returns : goal.returns

@@ -1,9 +1,6 @@
-use borrow.Author.Rules.{rules}
-use mathlib.Core.Path.{sym, ◌∙◌}
-use native.Mathlib.Omega.{arith}
 use Prim.Native.Nat.{◌-◌}
 use Rattle.table.specs.Values.{table_of}
-use Rattle.environment.proofs.Leaving.{Leaving, leaving-start, leaving-few, leaving-row, leaving-done}
+use Rattle.environment.proofs.Leaving.{Leaving}
 use Rattle.environment.proofs.leave_scope.Given as goal
 
 abbrev pub invariant-loop-row : goal.invariant-loop-row

@@ -1,5 +1,4 @@
 use Rattle.environment.specs.Layout.{noted}
-use borrow.Author.Rules.{rules}
 use Rattle.environment.proofs.note.Goals as goal
 
 pub returns : goal.returns

@@ -1,4 +1,3 @@
-use borrow.Author.Rules.{rules}
 use Rattle.environment.proofs.outside.Goals as goal
 
 pub returns : goal.returns

@@ -1,7 +1,5 @@
-use borrow.Author.Rules.{rules}
 use mathlib.Core.Path.{refl}
-use Rattle.table.specs.Values.{table_of, walked_of}
-use Rattle.environment.proofs.Leaving.{Going, going_step, going-up, going_less, going_end}
+use Rattle.environment.proofs.Leaving.{going_step, going-up, going_less, going_end}
 use Rattle.environment.proofs.put_back.Goals as goal
 
 pub loop-inner-init : goal.loop-inner-init

@@ -1,7 +1,5 @@
-use borrow.Author.Rules.{rules}
-use mathlib.Core.Path.{refl}
 use Rattle.table.specs.Values.{table_of, walked_of}
-use Rattle.environment.proofs.Leaving.{Going, going_step, going-up, going_less, going_end}
+use Rattle.environment.proofs.Leaving.{Going}
 use Rattle.environment.proofs.put_back.Given as goal
 
 abbrev pub invariant-loop-inner : goal.invariant-loop-inner

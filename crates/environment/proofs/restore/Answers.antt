@@ -1,7 +1,6 @@
 use mathlib.Core.Path.{ap}
 use native.Mathlib.Omega.{arith}
 use Rattle.ast.specs.Image.{name_of}
-use borrow.Author.Rules.{rules}
 use Rattle.environment.proofs.restore.Goals as goal
 
 pub put-requires : goal.put-requires

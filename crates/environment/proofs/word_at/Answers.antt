@@ -2,7 +2,6 @@ use mathlib.Core.Path.{ap, ◌∙◌}
 use lib.ListN.{get_or}
 use Prim.Native.Nat.{◌+◌}
 use native.Mathlib.Omega.{arith}
-use borrow.Author.Rules.{rules}
 use Rattle.environment.proofs.word_at.Goals as goal
 
 pub returns-then-scope-eq0 : goal.returns-then-scope-eq0

@@ -1,6 +1,5 @@
 use Rattle.lines.specs.Report.{body_lines, error_lines, var_lines}
 use Rattle.lines.proofs.Calls.{lines_next}
-use borrow.Author.Rules.{rules}
 use Rattle.lines.proofs.put_body.Goals as goal
 
 pub returns : goal.returns

@@ -1,6 +1,5 @@
 use mathlib.Core.Path.{sym}
 use native.Mathlib.Omega.{arith}
-use borrow.Author.Rules.{rules}
 use Rattle.lines.proofs.Puts.{put-there, put-past}
 use Rattle.lines.proofs.put_byte.Goals as goal
 

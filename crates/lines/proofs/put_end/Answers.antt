@@ -4,7 +4,6 @@ use Rattle.scopes.specs.Resolve.{Outcome}
 use Rattle.occurrences.specs.Answers.{once_answer}
 use Rattle.lines.specs.Report.{end_lines}
 use Rattle.lines.proofs.Calls.{lines_none, lines-one}
-use borrow.Author.Rules.{rules}
 use Rattle.lines.proofs.put_end.Goals as goal
 
 pub returns-in-Refused : goal.returns-in-Refused

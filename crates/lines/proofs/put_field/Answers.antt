@@ -2,7 +2,6 @@ use mathlib.Core.Path.{sym, ap, ◌∙◌}
 use Rattle.lines.specs.Bytes.{digits}
 use Rattle.lines.specs.Out.{out_at, write}
 use Rattle.lines.proofs.Puts.{write-more}
-use borrow.Author.Rules.{rules}
 use Rattle.lines.proofs.put_field.Goals as goal
 
 pub returns : goal.returns

@@ -2,7 +2,6 @@ use Prim.Native.Nat.{◌<◌, ◌^◌}
 use native.Mathlib.Omega.{arith}
 use Rattle.lines.specs.Bytes.{text, line_bytes}
 use Rattle.lines.proofs.RowLines.{worded-two}
-use borrow.Author.Rules.{rules}
 use Rattle.lines.proofs.put_lone.Goals as goal
 
 pub returns : goal.returns

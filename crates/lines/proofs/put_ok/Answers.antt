@@ -1,6 +1,5 @@
 use native.Mathlib.Omega.{arith}
 use Rattle.lines.specs.Bytes.{text, numbers, line_bytes}
-use borrow.Author.Rules.{rules}
 use Rattle.lines.proofs.put_ok.Goals as goal
 
 pub returns : goal.returns

@@ -2,7 +2,6 @@ use mathlib.Core.Path.{sym, ap, ◌∙◌}
 use mathlib.Core.List.{[]}
 use Rattle.lines.specs.Out.{out_at, put}
 use Rattle.lines.proofs.Puts.{numbers-none, numbers_more}
-use borrow.Author.Rules.{rules}
 use Rattle.lines.proofs.put_one.Goals as goal
 
 pub returns : goal.returns

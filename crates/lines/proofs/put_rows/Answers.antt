@@ -1,11 +1,10 @@
 use mathlib.Core.Path.{◌≡◌, refl, sym, ap, ◌∙◌}
 use mathlib.Core.List.{List, [], ◌∷◌}
-use Prim.Native.Nat.{ℕ, ◌+◌, ◌*◌, ◌-◌, ◌^◌, ◌<◌, ◌≤◌}
+use Prim.Native.Nat.{ℕ, ◌+◌, ◌-◌, ◌^◌, ◌<◌}
 use native.Mathlib.Omega.{arith}
-use borrow.Author.Rules.{rules}
 use lib.ListN.{length}
 use Rattle.lines.specs.Bytes.{numbers}
-use Rattle.lines.specs.Out.{Out, out_at, write, rows_from}
+use Rattle.lines.specs.Out.{Out, write, rows_from}
 use Rattle.lines.proofs.RowLines.{rows_next, rows_end, rows_short, rows-done}
 use Rattle.lines.proofs.put_rows.Invariants.{Left}
 use Rattle.lines.proofs.put_rows.Goals as goal

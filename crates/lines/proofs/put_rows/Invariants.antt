@@ -1,12 +1,8 @@
-use mathlib.Core.Path.{◌≡◌, refl, sym, ap, ◌∙◌}
-use mathlib.Core.List.{List, [], ◌∷◌}
-use Prim.Native.Nat.{ℕ, ◌+◌, ◌*◌, ◌-◌, ◌^◌, ◌<◌, ◌≤◌}
-use native.Mathlib.Omega.{arith}
-use borrow.Author.Rules.{rules}
+use mathlib.Core.Path.{◌≡◌}
+use mathlib.Core.List.{List}
+use Prim.Native.Nat.{ℕ, ◌+◌, ◌*◌, ◌-◌, ◌≤◌}
 use lib.ListN.{length}
-use Rattle.lines.specs.Bytes.{numbers}
 use Rattle.lines.specs.Out.{Out, out_at, write, rows_from}
-use Rattle.lines.proofs.RowLines.{rows_next, rows_end, rows_short, rows-done}
 use Rattle.lines.proofs.put_rows.Given as goal
 
 -- what is left from the i-th row on, put from here, is the whole

@@ -1,9 +1,8 @@
-use mathlib.Core.Path.{◌≡◌, refl, sym, ap, ◌∙◌}
-use Prim.Native.Nat.{◌+◌, ◌-◌, ◌≤◌}
+use mathlib.Core.Path.{refl, sym, ap, ◌∙◌}
+use Prim.Native.Nat.{◌+◌}
 use native.Mathlib.Omega.{arith}
-use borrow.Author.Rules.{rules}
-use lib.ListN.{length, drop}
-use Rattle.lines.specs.Out.{out_at, write}
+use lib.ListN.{drop}
+use Rattle.lines.specs.Out.{write}
 use Rattle.lines.proofs.Puts.{write-next, write-end}
 use Rattle.lines.proofs.put_text.Goals as goal
 

@@ -3,7 +3,6 @@ use mathlib.Core.List.{[], ◌∷◌}
 use Rattle.lines.specs.Bytes.{numbers}
 use Rattle.lines.specs.Out.{out_at, write}
 use Rattle.lines.proofs.Puts.{numbers_more}
-use borrow.Author.Rules.{rules}
 use Rattle.lines.proofs.put_three.Goals as goal
 
 pub returns : goal.returns

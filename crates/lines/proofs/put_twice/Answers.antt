@@ -2,7 +2,6 @@ use Prim.Native.Nat.{◌<◌, ◌^◌}
 use native.Mathlib.Omega.{arith}
 use Rattle.lines.specs.Bytes.{text, line_bytes}
 use Rattle.lines.proofs.RowLines.{worded-three}
-use borrow.Author.Rules.{rules}
 use Rattle.lines.proofs.put_twice.Goals as goal
 
 pub returns : goal.returns

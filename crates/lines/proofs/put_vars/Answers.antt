@@ -4,7 +4,6 @@ use Rattle.scopes.specs.Answers.{rowed_answer}
 use Rattle.lines.specs.Report.{var}
 use Rattle.lines.specs.Bytes.{text}
 use Rattle.lines.proofs.Calls.{lines_none, refused_none, twice-none, var-lines}
-use borrow.Author.Rules.{rules}
 use Rattle.lines.proofs.put_vars.Goals as goal
 
 pub returns-in-Refused : goal.returns-in-Refused

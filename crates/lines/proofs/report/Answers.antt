@@ -3,7 +3,6 @@ use native.Mathlib.Omega.{arith}
 use Rattle.scopes.specs.Answers.{resolved_answer}
 use Rattle.lines.specs.Report.{lines_of, report}
 use Rattle.lines.proofs.Calls.{lines-one, lines_more, printed}
-use borrow.Author.Rules.{rules}
 use Rattle.lines.proofs.report.Goals as goal
 
 pub returns-in-Refused : goal.returns-in-Refused

@@ -1,7 +1,6 @@
 use mathlib.Core.Path.{refl, sym, ◌∙◌}
 use native.Mathlib.Omega.{arith}
-use Prim.Native.Nat.{◌-◌}
-use Rattle.names.proofs.Names.{AgreeLeft, agree-next, agree-stop, agree-end}
+use Rattle.names.proofs.Names.{agree-next, agree-stop, agree-end}
 use Rattle.names.proofs.agree.Goals as goal
 
 pub loop-j-init : goal.loop-j-init

@@ -1,7 +1,5 @@
-use mathlib.Core.Path.{refl, sym, ◌∙◌}
-use native.Mathlib.Omega.{arith}
 use Prim.Native.Nat.{◌-◌}
-use Rattle.names.proofs.Names.{AgreeLeft, agree-next, agree-stop, agree-end}
+use Rattle.names.proofs.Names.{AgreeLeft}
 use Rattle.names.proofs.agree.Given as goal
 
 abbrev pub invariant-loop-j : goal.invariant-loop-j

@@ -1,7 +1,6 @@
 use mathlib.Core.Path.{refl}
 use native.Mathlib.Omega.{arith}
-use Prim.Native.Nat.{◌-◌}
-use Rattle.names.proofs.Names.{HashLeft, hash-next, hash-end}
+use Rattle.names.proofs.Names.{hash-next, hash-end}
 use Rattle.names.proofs.bucket.Goals as goal
 
 pub loop-i-init : goal.loop-i-init

@@ -1,7 +1,5 @@
-use mathlib.Core.Path.{refl}
-use native.Mathlib.Omega.{arith}
 use Prim.Native.Nat.{◌-◌}
-use Rattle.names.proofs.Names.{HashLeft, hash-next, hash-end}
+use Rattle.names.proofs.Names.{HashLeft}
 use Rattle.names.proofs.bucket.Given as goal
 
 abbrev pub invariant-loop-i : goal.invariant-loop-i

@@ -1,7 +1,7 @@
 use mathlib.Core.Path.{sym, ◌∙◌}
 use native.Mathlib.Omega.{arith}
 use Prim.Native.Nat.{◌-◌}
-use Rattle.names.proofs.Names.{ChainLeft, chain-begin, chain_next, chain-found, chain-end}
+use Rattle.names.proofs.Names.{chain-begin, chain_next, chain-found, chain-end}
 use Rattle.names.proofs.meets.Goals as goal
 
 pub loop-j-init : goal.loop-j-init

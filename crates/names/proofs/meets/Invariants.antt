@@ -1,7 +1,4 @@
-use mathlib.Core.Path.{sym, ◌∙◌}
-use native.Mathlib.Omega.{arith}
-use Prim.Native.Nat.{◌-◌}
-use Rattle.names.proofs.Names.{ChainLeft, chain-begin, chain_next, chain-found, chain-end}
+use Rattle.names.proofs.Names.{ChainLeft}
 use Rattle.names.proofs.meets.Given as goal
 
 abbrev pub invariant-loop-j : goal.invariant-loop-j

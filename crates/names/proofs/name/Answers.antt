@@ -4,7 +4,6 @@ use native.Mathlib.Nat.{add_comm}
 use Rattle.names.specs.declared.NamePlace.{NamePlace}
 use native.Mathlib.Omega.{arith}
 use Rattle.names.proofs.NameParts.{name-part}
-use borrow.Author.Rules.{rules}
 use Rattle.names.proofs.name.Goals as goal
 
 pub slice_bounds-result-end : goal.slice_bounds-result-end

@@ -1,10 +1,8 @@
 use native.Mathlib.Omega.{arith}
-use Prim.Native.Nat.{◌-◌}
-use Rattle.names.proofs.Numbers.{NumberLeft, number-begin, number-hit, number-miss, number-end}
+use Rattle.names.proofs.Numbers.{number-begin, number-hit, number-miss, number-end}
 use Rattle.ast.proofs.Accepted.{passed, named}
 use Rattle.tests.proofs.Whole.{sized-within}
 use Rattle.names.proofs.Names.{name-fits}
-use borrow.Author.Rules.{rules}
 use Rattle.names.proofs.number_of.Goals as goal
 
 pub loop-i-init : goal.loop-i-init

@@ -1,8 +1,6 @@
 use mathlib.Core.Path.{sym}
 use native.Mathlib.Omega.{arith}
-use Prim.Native.Nat.{◌-◌, ◌≤◌}
-use lib.ListN.{length}
-use Rattle.names.proofs.Numbers.{SpellsLeft, spells-other, spells-begin, spells-next, spells-stop, spells-end}
+use Rattle.names.proofs.Numbers.{spells-other, spells-begin, spells-next, spells-stop, spells-end}
 use Rattle.names.proofs.spells.Goals as goal
 
 pub overflow_sub-to : goal.overflow_sub-to

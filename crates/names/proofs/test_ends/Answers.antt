@@ -1,7 +1,6 @@
 use mathlib.Core.Path.{sym, ◌∙◌}
 use native.Mathlib.Omega.{arith}
-use Prim.Native.Nat.{◌-◌}
-use Rattle.names.proofs.Names.{EndsLeft, ends-begin, ends_next, ends-stop, ends-bad, ends-good}
+use Rattle.names.proofs.Names.{ends-begin, ends_next, ends-stop, ends-bad, ends-good}
 use Rattle.names.proofs.test_ends.Goals as goal
 
 pub loop-i-init : goal.loop-i-init

@@ -1,7 +1,5 @@
-use mathlib.Core.Path.{sym, ◌∙◌}
-use native.Mathlib.Omega.{arith}
 use Prim.Native.Nat.{◌-◌}
-use Rattle.names.proofs.Names.{EndsLeft, ends-begin, ends_next, ends-stop, ends-bad, ends-good}
+use Rattle.names.proofs.Names.{EndsLeft}
 use Rattle.names.proofs.test_ends.Given as goal
 
 abbrev pub invariant-loop-i : goal.invariant-loop-i

@@ -1,7 +1,6 @@
 use mathlib.Core.Path.{refl, sym}
 use native.Mathlib.Omega.{arith}
-use Prim.Native.Nat.{◌-◌}
-use Rattle.names.proofs.Names.{name-fits, bucket-is, Buckets, buckets-begin, buckets-next, buckets-stop, buckets-end}
+use Rattle.names.proofs.Names.{name-fits, bucket-is, buckets-begin, buckets-next, buckets-stop, buckets-end}
 use Rattle.ast.proofs.Accepted.{rises-of}
 use Rattle.names.proofs.test_twice.Goals as goal
 

@@ -1,8 +1,5 @@
-use mathlib.Core.Path.{refl, sym}
-use native.Mathlib.Omega.{arith}
 use Prim.Native.Nat.{◌-◌}
-use Rattle.names.proofs.Names.{name-fits, bucket-is, Buckets, buckets-begin, buckets-next, buckets-stop, buckets-end}
-use Rattle.ast.proofs.Accepted.{rises-of}
+use Rattle.names.proofs.Names.{Buckets}
 use Rattle.names.proofs.test_twice.Given as goal
 
 abbrev pub invariant-loop-i : goal.invariant-loop-i

@@ -1,12 +1,8 @@
 use mathlib.Core.Path.{ap, ◌∙◌}
 use native.Mathlib.Omega.{arith}
-use Prim.Native.Nat.{◌+◌, ◌*◌, ◌-◌}
 use lib.ListN.{length}
-use borrow.Author.Rules.{rules}
-use Rattle.table.specs.Values.{sought}
 use Rattle.occurrences.proofs.CollectRules.{decl-case, decl-none, model_run}
-use Rattle.occurrences.proofs.CollectLone.{searched-as, searched-nothing, ChecksLeft, checks-start, checks-item, checks-scratch, checks-next, checks-found, checks-end}
-use Prim.Native.Nat.{ℕ, ◌<◌}
+use Rattle.occurrences.proofs.CollectLone.{searched-as, searched-nothing, checks-start, checks-item, checks-scratch, checks-next, checks-found, checks-end}
 use borrow.Enum.Refused.{opened}
 use Rattle.occurrences.proofs.+check.Goals as goal
 

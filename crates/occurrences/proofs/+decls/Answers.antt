@@ -1,13 +1,9 @@
 use mathlib.Core.Path.{ap, ◌∙◌}
 use native.Mathlib.Omega.{arith}
-use Prim.Native.Nat.{◌+◌, ◌*◌, ◌-◌}
-use borrow.Author.Rules.{rules}
-use Rattle.table.specs.Values.{sought}
 use Rattle.rows.proofs.Parts.{appended-no}
 use Rattle.occurrences.specs.Promises.{joined}
-use Rattle.occurrences.proofs.CollectRules.{decl-case, decl-none, rule_run, model_run, DeclsLeft, decls-start, decls-item, decls-next, decls-end}
+use Rattle.occurrences.proofs.CollectRules.{decl-case, decl-none, rule_run, model_run, decls-start, decls-item, decls-next, decls-end}
 use Rattle.occurrences.proofs.CollectSteps.{appended-as}
-use Prim.Native.Nat.{ℕ, ◌<◌}
 use borrow.Enum.Refused.{opened}
 use Rattle.occurrences.proofs.+decls.Goals as goal
 

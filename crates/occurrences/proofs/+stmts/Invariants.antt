@@ -1,12 +1,6 @@
-use mathlib.Core.Path.{◌∙◌}
-use native.Mathlib.Omega.{arith}
 use Prim.Native.Nat.{◌+◌, ◌*◌, ◌-◌}
-use borrow.Author.Rules.{rules}
 use Rattle.table.specs.Values.{sought}
-use Rattle.rows.proofs.Appends.{appended-next}
-use Rattle.occurrences.proofs.CollectSteps.{appended-as, if-stmt, then-stmt, RowsLeft, rows_start, stmt-item, case-item, rows_next, rows_end, match_case, match_of, BlocksLeft, blocks_start, blocks-place, block_of, blocks-end}
-use Rattle.occurrences.proofs.CollectCases.{stmt-case}
-use Prim.Native.Nat.{ℕ, ◌<◌}
+use Rattle.occurrences.proofs.CollectSteps.{RowsLeft, BlocksLeft}
 use Rattle.occurrences.proofs.+stmts.Given as goal
 
 abbrev pub decreases-collect_branch : goal.decreases-collect_branch

@@ -1,12 +1,6 @@
-use native.Mathlib.Omega.{arith}
 use Prim.Native.Nat.{◌-◌}
-use borrow.Author.Rules.{rules}
 use Rattle.table.specs.Values.{sought}
-use Rattle.rows.proofs.Appends.{appended-next}
-use Rattle.rows.proofs.Parts.{appended-no}
-use Rattle.occurrences.proofs.CollectSteps.{appended-as, two-terms, app-term, term-member, head-member, RowsLeft, rows_start, term-item, rows_next, rows_end, term_list}
-use Rattle.occurrences.proofs.CollectCases.{term-one, term-case, head-case}
-use Prim.Native.Nat.{ℕ, ◌<◌}
+use Rattle.occurrences.proofs.CollectSteps.{RowsLeft}
 use Rattle.occurrences.proofs.+terms.Given as goal
 
 abbrev pub decreases-collect_app_head : goal.decreases-collect_app_head

@@ -6,7 +6,6 @@ use Rattle.ast.specs.Image.{last}
 use Rattle.ast.proofs.Accepted.{sized}
 use Rattle.occurrences.specs.Occurrences.{lone}
 use Rattle.occurrences.proofs.CollectRules.{module_run}
-use borrow.Author.Rules.{rules}
 use Rattle.occurrences.proofs.check_module.Goals as goal
 
 pub overflow_sub-module : goal.overflow_sub-module

@@ -3,7 +3,6 @@ use Rattle.scopes.proofs.Calls.{call-refused, call-stopped}
 use Rattle.occurrences.specs.Occurrences.{lone_answer, once}
 use Rattle.occurrences.specs.Promises.{lone_of}
 use Rattle.occurrences.proofs.CollectCalls.{whole, symbols, once-checked}
-use borrow.Author.Rules.{rules}
 use Rattle.occurrences.proofs.check_occurrences.Goals as goal
 
 pub returns-then-code-ne0 : goal.returns-then-code-ne0

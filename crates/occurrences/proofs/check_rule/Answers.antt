@@ -1,6 +1,5 @@
 use Rattle.occurrences.proofs.CollectRules.{rule_run}
 use Rattle.occurrences.proofs.CollectLone.{searched}
-use borrow.Author.Rules.{rules}
 use Rattle.occurrences.proofs.check_rule.Goals as goal
 
 pub collect_stmts-written-requires : goal.collect_stmts-written-requires

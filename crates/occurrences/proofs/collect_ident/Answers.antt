@@ -5,7 +5,6 @@ use Rattle.table.specs.Values.{option_of}
 use Rattle.rows.proofs.Parts.{appended-no}
 use Rattle.occurrences.proofs.CollectRows.{ident-other}
 use Rattle.occurrences.proofs.CollectSteps.{ident-put, ident-fits}
-use borrow.Author.Rules.{rules}
 use Rattle.occurrences.proofs.collect_ident.Goals as goal
 
 pub returns-then-not-is_var : goal.returns-then-not-is_var

@@ -1,7 +1,6 @@
 use Rattle.rows.proofs.Appends.{appended-next}
 use Rattle.occurrences.proofs.CollectSteps.{appended-as, one-term, two-terms, pred-atom, if-var}
 use Rattle.occurrences.proofs.CollectCases.{if-case}
-use borrow.Author.Rules.{rules}
 use Rattle.occurrences.proofs.collect_if_atom.Goals as goal
 
 pub collect_term-after_lhs-requires : goal.collect_term-after_lhs-requires

@@ -5,7 +5,6 @@ use Rattle.ast.specs.Image.{last}
 use Rattle.ast.proofs.Accepted.{sized}
 use Rattle.occurrences.proofs.CollectRules.{module_run}
 use Rattle.occurrences.proofs.CollectSteps.{appended-as}
-use borrow.Author.Rules.{rules}
 use Rattle.occurrences.proofs.collect_module.Goals as goal
 
 pub overflow_sub-module : goal.overflow_sub-module

@@ -1,7 +1,6 @@
 use Rattle.rows.proofs.Parts.{appended-no}
 use Rattle.occurrences.proofs.CollectSteps.{appended-as, term-member}
 use Rattle.occurrences.proofs.CollectCases.{pred-case}
-use borrow.Author.Rules.{rules}
 use Rattle.occurrences.proofs.collect_pred_expr.Goals as goal
 
 pub collect_term-requires : goal.collect_term-requires

@@ -1,7 +1,6 @@
 use Rattle.rows.proofs.Appends.{appended-next}
 use Rattle.occurrences.proofs.CollectSteps.{appended-as, two-terms, pred-atom, defined-var, defined-bare}
 use Rattle.occurrences.proofs.CollectCases.{then-case}
-use borrow.Author.Rules.{rules}
 use Rattle.occurrences.proofs.collect_then_atom.Goals as goal
 
 pub collect_term-after_lhs-requires : goal.collect_term-after_lhs-requires

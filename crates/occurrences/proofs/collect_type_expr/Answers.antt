@@ -1,7 +1,6 @@
 use Rattle.rows.proofs.Parts.{appended-no}
 use Rattle.occurrences.proofs.CollectSteps.{appended-as, term-member}
 use Rattle.occurrences.proofs.CollectCases.{type-case, type-none}
-use borrow.Author.Rules.{rules}
 use borrow.Enum.Refused.{opened}
 use Rattle.occurrences.proofs.collect_type_expr.Goals as goal
 

@@ -1,7 +1,6 @@
 use mathlib.Core.Path.{refl, sym, ap, ◌∙◌}
 use mathlib.Core.Bool.{Bool}
 use lib.ListN.{get_or, set}
-use borrow.Author.Rules.{rules}
 use Rattle.ast.proofs.Scans.{bump-first, bump-again}
 use Rattle.occurrences.specs.Promises.{recount}
 use Rattle.occurrences.proofs.count_binding.Goals as goal

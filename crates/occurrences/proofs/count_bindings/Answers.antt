@@ -1,9 +1,8 @@
 use mathlib.Core.Path.{ap, ◌∙◌}
-use Prim.Native.Nat.{ℕ, ◌-◌}
+use Prim.Native.Nat.{ℕ}
 use Rattle.rows.specs.Rows.{rights, read_rows}
 use Rattle.occurrences.specs.Promises.{recounted}
-use Rattle.occurrences.proofs.CollectLone.{Counted, counted_start, counted_next, counted-end}
-use borrow.Author.Rules.{rules}
+use Rattle.occurrences.proofs.CollectLone.{counted_start, counted_next, counted-end}
 use Rattle.occurrences.proofs.count_bindings.Goals as goal
 
 pub loop-i-init : goal.loop-i-init

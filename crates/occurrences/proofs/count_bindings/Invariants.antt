@@ -1,9 +1,5 @@
-use mathlib.Core.Path.{ap, ◌∙◌}
-use Prim.Native.Nat.{ℕ, ◌-◌}
-use Rattle.rows.specs.Rows.{rights, read_rows}
-use Rattle.occurrences.specs.Promises.{recounted}
-use Rattle.occurrences.proofs.CollectLone.{Counted, counted_start, counted_next, counted-end}
-use borrow.Author.Rules.{rules}
+use Prim.Native.Nat.{◌-◌}
+use Rattle.occurrences.proofs.CollectLone.{Counted}
 use Rattle.occurrences.proofs.count_bindings.Given as goal
 
 abbrev pub invariant-loop-i : goal.invariant-loop-i

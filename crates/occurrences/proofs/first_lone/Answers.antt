@@ -1,10 +1,9 @@
 use mathlib.Core.Path.{ap, ◌∙◌}
-use Prim.Native.Nat.{ℕ, ◌-◌}
+use Prim.Native.Nat.{ℕ}
 use lib.ListN.{get_or}
 use Rattle.rows.specs.Rows.{read_rows}
 use Rattle.occurrences.specs.Promises.{under}
-use Rattle.occurrences.proofs.CollectLone.{Under, under-start, under_next, under-here, under-end}
-use borrow.Author.Rules.{rules}
+use Rattle.occurrences.proofs.CollectLone.{under-start, under_next, under-here, under-end}
 use Rattle.occurrences.proofs.first_lone.Goals as goal
 
 pub loop-i-init : goal.loop-i-init

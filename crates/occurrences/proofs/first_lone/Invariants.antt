@@ -1,10 +1,5 @@
-use mathlib.Core.Path.{ap, ◌∙◌}
-use Prim.Native.Nat.{ℕ, ◌-◌}
-use lib.ListN.{get_or}
-use Rattle.rows.specs.Rows.{read_rows}
-use Rattle.occurrences.specs.Promises.{under}
-use Rattle.occurrences.proofs.CollectLone.{Under, under-start, under_next, under-here, under-end}
-use borrow.Author.Rules.{rules}
+use Prim.Native.Nat.{◌-◌}
+use Rattle.occurrences.proofs.CollectLone.{Under}
 use Rattle.occurrences.proofs.first_lone.Given as goal
 
 abbrev pub invariant-loop-i : goal.invariant-loop-i

@@ -2,7 +2,6 @@ use mathlib.Core.Path.{refl, sym, ◌∙◌}
 use Rattle.scopes.proofs.Calls.{rows-table, rows_long, rowed-refused, rowed-filled, rowed-stopped}
 use Rattle.occurrences.specs.Occurrences.{occurrences}
 use Rattle.occurrences.proofs.CollectCalls.{whole, listed-wrote}
-use borrow.Author.Rules.{rules}
 use Rattle.occurrences.proofs.occurrences.Goals as goal
 
 pub returns-then-code-ne0 : goal.returns-then-code-ne0

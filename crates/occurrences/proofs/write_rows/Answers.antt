@@ -1,5 +1,4 @@
 use Rattle.rows.proofs.Appends.{wrote}
-use borrow.Author.Rules.{rules}
 use Rattle.occurrences.proofs.write_rows.Goals as goal
 
 pub returns : goal.returns

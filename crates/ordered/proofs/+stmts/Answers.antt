@@ -2,19 +2,16 @@ use borrow.Author.Rules.{rules}
 use mathlib.Core.Path.{refl, sym, ap, subst, ◌∙◌}
 use mathlib.Core.List.{[], ◌∷◌}
 use native.Mathlib.Omega.{arith}
-use Prim.Native.Nat.{ℕ, ◌+◌, ◌*◌, ◌-◌, ◌<◌}
 use Rattle.ast.specs.Kinds.{kind_of}
 use Rattle.typed.proofs.Enums.{stmt-is}
 use Rattle.table.specs.State.{back}
-use Rattle.table.specs.Values.{walked_of}
-use Rattle.environment.specs.Stands.{Stands}
 use Rattle.environment.proofs.Asking.{loud_fields}
 use Rattle.ordered.specs.Walk.{occurs}
 use Rattle.ordered.specs.Promises.{rest, ReadyRun}
 use Rattle.ordered.proofs.Atoms.{plain-wrapped}
-use Rattle.ordered.proofs.Lists.{Left, rest_end, run_item}
+use Rattle.ordered.proofs.Lists.{rest_end, run_item}
 use Rattle.ordered.proofs.Ends.{ends_as, plain-ends, branch-ends, match-ends, case-ends, block-path, case-path}
-use Rattle.ordered.proofs.Stmts.{match_case, match_of, branch-start, branch-place, branch-end, BlocksLeft, block_item}
+use Rattle.ordered.proofs.Stmts.{match_case, match_of, branch-start, branch-place, branch-end, block_item}
 use Rattle.ordered.proofs.+stmts.Goals as goal
 
 pub walk_blocks-loop-i-init : goal.walk_blocks-loop-i-init

@@ -1,20 +1,9 @@
-use borrow.Author.Rules.{rules}
-use mathlib.Core.Path.{refl, sym, ap, subst, ◌∙◌}
-use mathlib.Core.List.{[], ◌∷◌}
-use native.Mathlib.Omega.{arith}
-use Prim.Native.Nat.{ℕ, ◌+◌, ◌*◌, ◌-◌, ◌<◌}
-use Rattle.ast.specs.Kinds.{kind_of}
-use Rattle.typed.proofs.Enums.{stmt-is}
-use Rattle.table.specs.State.{back}
+use Prim.Native.Nat.{◌+◌, ◌*◌, ◌-◌}
 use Rattle.table.specs.Values.{walked_of}
 use Rattle.environment.specs.Stands.{Stands}
-use Rattle.environment.proofs.Asking.{loud_fields}
 use Rattle.ordered.specs.Walk.{occurs}
-use Rattle.ordered.specs.Promises.{rest, ReadyRun}
-use Rattle.ordered.proofs.Atoms.{plain-wrapped}
-use Rattle.ordered.proofs.Lists.{Left, rest_end, run_item}
-use Rattle.ordered.proofs.Ends.{ends_as, plain-ends, branch-ends, match-ends, case-ends, block-path, case-path}
-use Rattle.ordered.proofs.Stmts.{match_case, match_of, branch-start, branch-place, branch-end, BlocksLeft, block_item}
+use Rattle.ordered.proofs.Lists.{Left}
+use Rattle.ordered.proofs.Stmts.{BlocksLeft}
 use Rattle.ordered.proofs.+stmts.Given as goal
 
 abbrev pub decreases-walk_blocks : goal.decreases-walk_blocks

@@ -1,17 +1,13 @@
 use mathlib.Core.Path.{refl, sym, ap, subst, ◌∙◌}
 use native.Mathlib.Omega.{arith}
 use Rattle.ast.specs.Kinds.{kind_of}
-use Rattle.table.specs.Values.{walked_of}
-use Rattle.environment.specs.Stands.{Stands}
 use Rattle.ordered.specs.Walk.{occurs}
 use Rattle.ordered.specs.Promises.{Ready, rest}
 use Rattle.ordered.proofs.Steps.{one, two, member_of, term-wrapped, head-wrapped}
-use Rattle.ordered.proofs.Lists.{Left, rest_end, head_member_of, list_of, run_item}
+use Rattle.ordered.proofs.Lists.{rest_end, head_member_of, list_of, run_item}
 use Rattle.ordered.proofs.Idents.{one-ends, two_ends, list-ends, other-ends, head-ends, wild-ends, member-ends, head-member-ends}
 use Rattle.typed.proofs.Enums.{term_is, app-head-is, no-ident}
 use Rattle.ordered.proofs.Ends.{ends_as}
-use borrow.Author.Rules.{rules}
-use Prim.Native.Nat.{ℕ, ◌+◌, ◌*◌, ◌-◌, ◌<◌}
 use Rattle.ordered.proofs.+terms.Goals as goal
 
 pub walk_app_head-walk_head_ident-requires : goal.walk_app_head-walk_head_ident-requires

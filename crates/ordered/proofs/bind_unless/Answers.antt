@@ -1,5 +1,4 @@
 use Rattle.ordered.proofs.Idents.{known-ends, new-ends, new-few}
-use borrow.Author.Rules.{rules}
 use Rattle.ordered.proofs.bind_unless.Goals as goal
 
 pub returns-then-known : goal.returns-then-known

@@ -1,6 +1,5 @@
 use mathlib.Core.Path.{ap, ◌∙◌}
 use Rattle.table.specs.Table.{is_value}
-use borrow.Author.Rules.{rules}
 use Rattle.ordered.proofs.is_value.Goals as goal
 
 pub returns : goal.returns

@@ -1,6 +1,5 @@
 use mathlib.Core.Path.{ap, ◌∙◌}
 use Rattle.table.specs.Table.{is_var}
-use borrow.Author.Rules.{rules}
 use Rattle.ordered.proofs.is_var.Goals as goal
 
 pub returns : goal.returns

@@ -4,7 +4,6 @@ use Rattle.typed.specs.Nodes.{name_word}
 use Rattle.environment.proofs.Asking.{arg-named}
 use Rattle.ordered.proofs.Args.{arg_of}
 use Rattle.ordered.proofs.Ends.{arg-ends, arg-ends-bare, arg-room}
-use borrow.Author.Rules.{rules}
 use Rattle.ordered.proofs.walk_arg_decl.Goals as goal
 
 pub walk_type_expr-after_type-requires : goal.walk_type_expr-after_type-requires

@@ -1,7 +1,6 @@
 use Rattle.ast.specs.Kinds.{kind_of}
 use Rattle.ordered.proofs.Lists.{list_of}
 use Rattle.ordered.proofs.Idents.{list-ends}
-use borrow.Author.Rules.{rules}
 use Rattle.ordered.proofs.walk_arg_decl_list.Goals as goal
 
 pub walk_args-exit-requires : goal.walk_args-exit-requires

@@ -1,12 +1,8 @@
-use mathlib.Core.Path.{refl, sym, ap, ◌∙◌}
-use native.Mathlib.Omega.{arith}
 use Prim.Native.Nat.{◌-◌}
 use Rattle.table.specs.Values.{walked_of}
 use Rattle.environment.specs.Stands.{Stands}
 use Rattle.ordered.specs.Walk.{occurs}
-use Rattle.ordered.specs.Promises.{rest}
-use Rattle.ordered.proofs.Lists.{Left, rest_end, run_item}
-use borrow.Author.Rules.{rules}
+use Rattle.ordered.proofs.Lists.{Left}
 use Rattle.ordered.proofs.walk_args.Given as goal
 
 abbrev pub invariant-loop-i : goal.invariant-loop-i

@@ -1,5 +1,4 @@
 use Rattle.ordered.proofs.Idents.{head-below, ident_head, ident-asking, ident-ends}
-use borrow.Author.Rules.{rules}
 use Rattle.ordered.proofs.walk_head_ident.Goals as goal
 
 pub stands-word-requires : goal.stands-word-requires

@@ -1,6 +1,5 @@
 use mathlib.Core.Path.{refl}
 use Rattle.ordered.proofs.Idents.{var-below, as-variable, ident_here, ident-asking, ident-ends}
-use borrow.Author.Rules.{rules}
 use Rattle.ordered.proofs.walk_ident_term.Goals as goal
 
 pub stands-before-requires : goal.stands-before-requires

@@ -2,7 +2,6 @@ use mathlib.Core.Path.{refl}
 use Rattle.ast.specs.Kinds.{kind_of}
 use Rattle.environment.proofs.Asking.{loud_fields}
 use Rattle.ordered.proofs.Ends.{plain-ends}
-use borrow.Author.Rules.{rules}
 use Rattle.ordered.proofs.walk_if_atom.Goals as goal
 
 pub walk_if_atom_case-exit-requires : goal.walk_if_atom_case-exit-requires

@@ -4,7 +4,6 @@ use Rattle.ast.specs.Kinds.{kind_of}
 use Rattle.typed.proofs.Enums.{if-atom-is}
 use Rattle.ordered.proofs.Atoms.{plain-wrapped}
 use Rattle.ordered.proofs.Ends.{ends_as}
-use borrow.Author.Rules.{rules}
 use Rattle.ordered.proofs.walk_if_atom_case.Goals as goal
 
 pub walk_two_terms-requires : goal.walk_two_terms-requires

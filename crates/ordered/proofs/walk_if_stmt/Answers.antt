@@ -1,7 +1,6 @@
 use Rattle.ast.specs.Kinds.{kind_of}
 use Rattle.ordered.proofs.Steps.{one}
 use Rattle.ordered.proofs.Idents.{one-ends}
-use borrow.Author.Rules.{rules}
 use Rattle.ordered.proofs.walk_if_stmt.Goals as goal
 
 pub walk_if_atom-after-requires : goal.walk_if_atom-after-requires

@@ -1,11 +1,7 @@
-use mathlib.Core.Path.{refl, sym, ap, ◌∙◌}
-use native.Mathlib.Omega.{arith}
 use Rattle.table.specs.Values.{walked_of}
 use Rattle.ordered.specs.Walk as roles
-use Rattle.ordered.specs.Promises.{rest}
-use Rattle.ordered.proofs.Lists.{Left, rest_end, name-more}
+use Rattle.ordered.proofs.Lists.{Left}
 use Prim.Native.Nat.{◌-◌}
-use borrow.Author.Rules.{rules}
 use Rattle.ordered.proofs.walk_names.Given as goal
 
 abbrev pub invariant-loop-i : goal.invariant-loop-i

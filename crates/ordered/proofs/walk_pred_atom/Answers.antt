@@ -3,7 +3,6 @@ use Rattle.ast.specs.Kinds.{kind_of}
 use Rattle.ordered.specs.Promises.{Ready}
 use Rattle.ordered.proofs.Steps.{two}
 use Rattle.ordered.proofs.Idents.{two_ends}
-use borrow.Author.Rules.{rules}
 use Rattle.ordered.proofs.walk_pred_atom.Goals as goal
 
 pub walk_pred_expr-after_pred-requires : goal.walk_pred_expr-after_pred-requires

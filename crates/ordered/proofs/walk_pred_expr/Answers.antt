@@ -2,7 +2,6 @@ use mathlib.Core.Path.{refl}
 use Rattle.ast.specs.Kinds.{kind_of}
 use Rattle.environment.proofs.Asking.{loud_fields}
 use Rattle.ordered.proofs.Ends.{plain-ends}
-use borrow.Author.Rules.{rules}
 use Rattle.ordered.proofs.walk_pred_expr.Goals as goal
 
 pub walk_pred_expr_case-exit-requires : goal.walk_pred_expr_case-exit-requires

@@ -4,7 +4,6 @@ use Rattle.ast.specs.Kinds.{kind_of}
 use Rattle.typed.proofs.Enums.{pred-expr-is}
 use Rattle.ordered.proofs.Atoms.{plain-wrapped}
 use Rattle.ordered.proofs.Ends.{ends_as, leaf-ends}
-use borrow.Author.Rules.{rules}
 use Rattle.ordered.proofs.walk_pred_expr_case.Goals as goal
 
 pub walk_term_member-requires : goal.walk_term_member-requires

@@ -5,7 +5,6 @@ use Rattle.ast.specs.Kinds.{kind_of}
 use Rattle.typed.proofs.Enums.{then-atom-is}
 use Rattle.ordered.proofs.Atoms.{plain-wrapped}
 use Rattle.ordered.proofs.Idents.{then-ends}
-use borrow.Author.Rules.{rules}
 use Rattle.ordered.proofs.walk_then_atom.Goals as goal
 
 pub walk_two_terms-exit-requires : goal.walk_two_terms-exit-requires

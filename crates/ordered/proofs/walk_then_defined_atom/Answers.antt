@@ -4,7 +4,6 @@ use Rattle.typed.proofs.Enums.{term_is, no-ident}
 use Rattle.environment.proofs.Asking.{quiet-absent, quiet-other}
 use Rattle.ordered.proofs.Atoms.{var-other}
 use Rattle.ordered.proofs.Idents.{var-ends, defined_atom, absent-ends, given-ends, given-variable, atom-quiet}
-use borrow.Author.Rules.{rules}
 use Rattle.ordered.proofs.walk_then_defined_atom.Goals as goal
 
 pub walk_then_defined_var-requires : goal.walk_then_defined_var-requires

@@ -1,6 +1,5 @@
-use mathlib.Core.Path.{sym, ◌∙◌}
+use mathlib.Core.Path.{◌∙◌}
 use Rattle.ordered.proofs.Idents.{defining-below, ident-asking, ident-ends, defined_atom, given-ends, atom-asked, defining_ident, defining-asking}
-use borrow.Author.Rules.{rules}
 use Rattle.ordered.proofs.walk_then_defined_var.Goals as goal
 
 pub stands-at_atom-requires : goal.stands-at_atom-requires

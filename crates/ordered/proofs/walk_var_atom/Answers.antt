@@ -2,7 +2,6 @@ use mathlib.Core.Path.{sym, subst}
 use Rattle.ordered.specs.Promises.{Variable}
 use Rattle.ordered.proofs.Atoms.{if_var_of}
 use Rattle.ordered.proofs.Ends.{if-var-ends}
-use borrow.Author.Rules.{rules}
 use Rattle.ordered.proofs.walk_var_atom.Goals as goal
 
 pub walk_type_expr-after_type-requires : goal.walk_type_expr-after_type-requires

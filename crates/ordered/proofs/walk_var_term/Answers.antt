@@ -2,7 +2,6 @@ use mathlib.Core.Path.{sym}
 use Rattle.typed.proofs.Enums.{term_is, no-ident}
 use Rattle.ordered.proofs.Atoms.{var-other}
 use Rattle.ordered.proofs.Ends.{ends_as}
-use borrow.Author.Rules.{rules}
 use Rattle.ordered.proofs.walk_var_term.Goals as goal
 
 pub walk_var_ident-requires : goal.walk_var_ident-requires

@@ -1,7 +1,6 @@
 use mathlib.Core.Path.{ap, ◌∙◌}
 use Prim.Native.Nat.{ℕ}
 use Rattle.rows.specs.Rows.{cleared}
-use borrow.Author.Rules.{rules}
 use Rattle.rows.proofs.begin.Goals as goal
 
 pub returns : goal.returns

@@ -1,6 +1,5 @@
 use mathlib.Core.Path.{refl}
 use Rattle.rows.specs.Rows.{put_rows}
-use borrow.Author.Rules.{rules}
 use Rattle.rows.proofs.put_row.Goals as goal
 
 pub returns : goal.returns

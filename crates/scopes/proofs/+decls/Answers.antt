@@ -1,13 +1,9 @@
-use mathlib.Core.Path.{◌≡◌, refl, sym, ◌∙◌}
+use mathlib.Core.Path.{refl, sym, ◌∙◌}
 use native.Mathlib.Omega.{arith}
-use Prim.Native.Nat.{ℕ, ◌+◌, ◌*◌, ◌-◌, ◌<◌}
-use lib.ListN.{length}
-use borrow.Author.Rules.{rules}
 use Rattle.ast.specs.Kinds.{kind_of}
-use Rattle.table.specs.Values.{walked_of}
 use Rattle.scopes.proofs.Decls.{decl-case}
 use Rattle.scopes.proofs.Entries.{decl-visited}
-use Rattle.scopes.proofs.Visiting.{VisitLeft, visit-begin, visit_item, visit-ended, decl-fits, sig-inside, rule-inside, type-visit, sig-visit, rule-visit, done-visits, ended-visits, visits-as, list-enter, list_visit, list-stop, dropped-is}
+use Rattle.scopes.proofs.Visiting.{visit-begin, visit_item, visit-ended, decl-fits, sig-inside, rule-inside, type-visit, sig-visit, rule-visit, done-visits, ended-visits, visits-as, list-enter, list_visit, list-stop, dropped-is}
 use Rattle.scopes.proofs.Models.{model-room, model_visit, opened-is}
 use Rattle.scopes.proofs.+decls.Goals as goal
 

@@ -1,12 +1,8 @@
-use mathlib.Core.Path.{◌≡◌, refl, ◌∙◌}
+use mathlib.Core.Path.{refl, ◌∙◌}
 use native.Mathlib.Omega.{arith}
-use Prim.Native.Nat.{◌-◌}
-use lib.ListN.{length}
 use Rattle.ast.specs.Kinds.{kind_of}
-use Rattle.table.specs.Values.{walked_of}
 use Rattle.ast.proofs.Shapes.{run-item}
-use Rattle.scopes.proofs.Entries.{EnterLeft, enter-begin, enter_item, enter-ended, signed, sig-name, sig-entering}
-use borrow.Author.Rules.{rules}
+use Rattle.scopes.proofs.Entries.{enter-begin, enter_item, enter-ended, signed, sig-name, sig-entering}
 use Rattle.scopes.proofs.enter_ctors.Goals as goal
 
 pub loop-i-init : goal.loop-i-init

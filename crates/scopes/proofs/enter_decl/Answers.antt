@@ -3,7 +3,6 @@ use native.Mathlib.Omega.{arith}
 use Rattle.ast.specs.Kinds.{kind_of}
 use Rattle.scopes.proofs.Decls.{decl-case}
 use Rattle.scopes.proofs.Entries.{entering-less, decl_enter, signed, sig-name, sig-entering, model-name, model-ent, model-enter, enters-as}
-use borrow.Author.Rules.{rules}
 use Rattle.scopes.proofs.enter_decl.Goals as goal
 
 pub enter_signature-requires : goal.enter_signature-requires

@@ -1,11 +1,7 @@
-use mathlib.Core.Path.{◌≡◌, refl, ◌∙◌}
+use mathlib.Core.Path.{refl, ◌∙◌}
 use native.Mathlib.Omega.{arith}
-use Prim.Native.Nat.{◌-◌}
-use lib.ListN.{length}
-use Rattle.table.specs.Values.{walked_of}
 use Rattle.ast.proofs.Shapes.{run-item}
-use Rattle.scopes.proofs.Entries.{EnterLeft, enter-begin, enter_item, enter-ended}
-use borrow.Author.Rules.{rules}
+use Rattle.scopes.proofs.Entries.{enter-begin, enter_item, enter-ended}
 use Rattle.scopes.proofs.enter_decls.Goals as goal
 
 pub loop-i-init : goal.loop-i-init

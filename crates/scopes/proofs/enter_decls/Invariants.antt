@@ -1,11 +1,8 @@
-use mathlib.Core.Path.{◌≡◌, refl, ◌∙◌}
-use native.Mathlib.Omega.{arith}
+use mathlib.Core.Path.{◌≡◌}
 use Prim.Native.Nat.{◌-◌}
 use lib.ListN.{length}
 use Rattle.table.specs.Values.{walked_of}
-use Rattle.ast.proofs.Shapes.{run-item}
-use Rattle.scopes.proofs.Entries.{EnterLeft, enter-begin, enter_item, enter-ended}
-use borrow.Author.Rules.{rules}
+use Rattle.scopes.proofs.Entries.{EnterLeft}
 use Rattle.scopes.proofs.enter_decls.Given as goal
 
 abbrev pub invariant-loop-i : goal.invariant-loop-i

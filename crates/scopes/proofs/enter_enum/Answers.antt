@@ -1,5 +1,4 @@
 use Rattle.scopes.proofs.Entries.{enum_enter, enum-name}
-use borrow.Author.Rules.{rules}
 use Rattle.scopes.proofs.enter_enum.Goals as goal
 
 pub insert_decl_symbol-requires : goal.insert_decl_symbol-requires

@@ -1,7 +1,6 @@
 use mathlib.Core.Path.{sym, ap, ◌∙◌}
 use Rattle.typed.specs.Nodes.{name_word}
 use Rattle.scopes.proofs.Entries.{rule-quiet, entering-marked, rule-passes, rule-enters, rule-entering, rule-name}
-use borrow.Author.Rules.{rules}
 use Rattle.scopes.proofs.enter_rule.Goals as goal
 
 pub insert_decl_symbol-requires : goal.insert_decl_symbol-requires

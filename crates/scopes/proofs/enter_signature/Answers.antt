@@ -1,5 +1,4 @@
 use Rattle.scopes.proofs.Entries.{sig-quiet, entering-marked, sig-enters}
-use borrow.Author.Rules.{rules}
 use Rattle.scopes.proofs.enter_signature.Goals as goal
 
 pub insert_decl_symbol-requires : goal.insert_decl_symbol-requires

@@ -1,5 +1,4 @@
 use Rattle.scopes.specs.Resolve.{headed}
-use borrow.Author.Rules.{rules}
 use Rattle.scopes.proofs.insert_counts.Goals as goal
 
 pub returns : goal.returns

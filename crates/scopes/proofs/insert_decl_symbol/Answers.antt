@@ -2,7 +2,6 @@ use mathlib.Core.Path.{refl, sym, ap, ◌∙◌}
 use native.Mathlib.Omega.{arith}
 use Rattle.table.specs.Values.{option_of}
 use Rattle.scopes.proofs.Entries.{few_words, free_new, free-old, few, enters-new, enters-old, enters-twice}
-use borrow.Author.Rules.{rules}
 use Rattle.scopes.proofs.insert_decl_symbol.Goals as goal
 
 pub stamp-requires : goal.stamp-requires

@@ -2,7 +2,6 @@ use mathlib.Core.Path.{ap}
 use Rattle.table.specs.Table.{mark}
 use Rattle.table.specs.State.{marked}
 use Rattle.table.specs.Values.{walked_of}
-use borrow.Author.Rules.{rules}
 use Rattle.scopes.proofs.insert_unordered.Goals as goal
 
 pub returns : goal.returns

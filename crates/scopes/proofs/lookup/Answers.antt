@@ -1,7 +1,6 @@
 use mathlib.Core.Path.{sym, ap, ◌∙◌}
 use Rattle.scopes.proofs.Lookups.{lookup-accepted, call-refused, call-answer, call_none}
 use Rattle.names.specs.Number.{number_in}
-use borrow.Author.Rules.{rules}
 use Rattle.scopes.proofs.lookup.Goals as goal
 
 pub returns-then-code-ne0 : goal.returns-then-code-ne0

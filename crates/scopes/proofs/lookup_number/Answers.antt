@@ -1,7 +1,6 @@
 use mathlib.Core.Path.{sym, ap, ◌∙◌}
 use Rattle.scopes.proofs.Lookups.{found_at, found_none}
 use Rattle.table.specs.Values.{option_of}
-use borrow.Author.Rules.{rules}
 use Rattle.scopes.proofs.lookup_number.Goals as goal
 
 pub returns-in-At : goal.returns-in-At

@@ -3,7 +3,6 @@ use native.Mathlib.Omega.{arith}
 use Rattle.table.specs.Layout.{table_length}
 use Rattle.scopes.proofs.Resolving.{table-long}
 use Rattle.scopes.proofs.Rooting.{lent, resolved-done, noted-done, resolved-twice}
-use borrow.Author.Rules.{rules}
 use Rattle.scopes.proofs.resolve_into.Goals as goal
 
 pub clear-requires : goal.clear-requires

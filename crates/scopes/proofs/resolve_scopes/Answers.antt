@@ -1,6 +1,5 @@
 use mathlib.Core.Path.{refl, sym, ◌∙◌}
 use Rattle.scopes.proofs.Rooting.{resolve-refused, resolve-twice, resolve-done}
-use borrow.Author.Rules.{rules}
 use Rattle.scopes.proofs.resolve_scopes.Goals as goal
 
 pub returns-then-refusal-ne0 : goal.returns-then-refusal-ne0

@@ -1,6 +1,5 @@
 use native.Mathlib.Omega.{arith}
 use Rattle.scopes.proofs.Stamps.{stamped-past, stamped-old, stamped-new}
-use borrow.Author.Rules.{rules}
 use Rattle.scopes.proofs.stamp.Goals as goal
 
 pub returns-then-seen-i : goal.returns-then-seen-i

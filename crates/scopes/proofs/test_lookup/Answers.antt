@@ -1,7 +1,6 @@
 use mathlib.Core.Path.{sym}
 use Rattle.scopes.proofs.Lookups.{lookup-refused, lookup-unsound, lookup-within, lookup-beyond}
 use native.Mathlib.Omega.{arith}
-use borrow.Author.Rules.{rules}
 use Rattle.scopes.proofs.test_lookup.Goals as goal
 
 pub returns-then-code-ne0 : goal.returns-then-code-ne0

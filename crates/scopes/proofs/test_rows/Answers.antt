@@ -1,7 +1,6 @@
 use mathlib.Core.Path.{sym, ◌∙◌}
 use native.Mathlib.Omega.{arith}
 use Rattle.scopes.proofs.Calls.{rows-refused, rows_short, rows_fit}
-use borrow.Author.Rules.{rules}
 use Rattle.scopes.proofs.test_rows.Goals as goal
 
 pub returns-then-code-ne0 : goal.returns-then-code-ne0

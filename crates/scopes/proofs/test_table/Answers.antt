@@ -1,7 +1,6 @@
 use mathlib.Core.Path.{sym}
 use native.Mathlib.Omega.{arith}
 use Rattle.scopes.proofs.Lookups.{table-refused, table-short, table-long}
-use borrow.Author.Rules.{rules}
 use Rattle.scopes.proofs.test_table.Goals as goal
 
 pub returns-then-code-ne0 : goal.returns-then-code-ne0

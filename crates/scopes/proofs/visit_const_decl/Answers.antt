@@ -1,5 +1,4 @@
 use Rattle.scopes.proofs.Visiting.{sig_one, sig-one-walked, inside-path, put-ends}
-use borrow.Author.Rules.{rules}
 use Rattle.scopes.proofs.visit_const_decl.Goals as goal
 
 pub walk_type_expr-after_result-requires : goal.walk_type_expr-after_result-requires

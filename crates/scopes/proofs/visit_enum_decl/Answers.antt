@@ -1,10 +1,7 @@
-use mathlib.Core.Path.{◌≡◌, refl, sym, ◌∙◌}
+use mathlib.Core.Path.{refl, sym, ◌∙◌}
 use native.Mathlib.Omega.{arith}
-use Prim.Native.Nat.{◌-◌}
 use Rattle.ast.specs.Kinds.{kind_of}
-use Rattle.table.specs.Values.{walked_of}
-use Rattle.scopes.proofs.Visiting.{VisitLeft, visit-begin, visit_item, enum_visit, sig-inside, sig-visit, sig_one, sig-one-walked, inside-path, put-ends, ended-visits, visit-ended}
-use borrow.Author.Rules.{rules}
+use Rattle.scopes.proofs.Visiting.{visit-begin, visit_item, enum_visit, sig-inside, sig-visit, sig_one, sig-one-walked, inside-path, put-ends, ended-visits, visit-ended}
 use Rattle.scopes.proofs.visit_enum_decl.Goals as goal
 
 pub loop-i-init : goal.loop-i-init

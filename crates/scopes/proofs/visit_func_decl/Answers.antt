@@ -3,7 +3,6 @@ use Rattle.ordered.specs.Promises.{over, Ready}
 use Rattle.ast.specs.Kinds.{kind_of}
 use Rattle.ast.specs.Named.{type_expr_kind}
 use Rattle.scopes.proofs.Visiting.{sig_two, inside-path, put-ends}
-use borrow.Author.Rules.{rules}
 use Rattle.scopes.proofs.visit_func_decl.Goals as goal
 
 pub walk_arg_decl_list-after_args-requires : goal.walk_arg_decl_list-after_args-requires

@@ -1,5 +1,4 @@
 use Rattle.scopes.proofs.Visiting.{sig_one, sig-one-walked, inside-path, put-ends}
-use borrow.Author.Rules.{rules}
 use Rattle.scopes.proofs.visit_pred_decl.Goals as goal
 
 pub walk_arg_decl_list-after_args-requires : goal.walk_arg_decl_list-after_args-requires

@@ -1,6 +1,5 @@
 use mathlib.Core.Path.{sym, ◌∙◌}
 use Rattle.scopes.proofs.Visiting.{rule_run, inside-path, put-ends}
-use borrow.Author.Rules.{rules}
 use Rattle.scopes.proofs.visit_rule_decl.Goals as goal
 
 pub walk_stmt_block-after_body-requires : goal.walk_stmt_block-after_body-requires

@@ -4,7 +4,6 @@ use Prim.Native.Nat.{ℕ, ◌-◌}
 use Rattle.ast.specs.Image.{last}
 use Rattle.ast.proofs.Accepted.{sized}
 use Rattle.scopes.proofs.Rooting.{root_visit}
-use borrow.Author.Rules.{rules}
 use Rattle.scopes.proofs.walk_module.Goals as goal
 
 pub overflow_sub-last : goal.overflow_sub-last

@@ -1,6 +1,5 @@
 use mathlib.Core.Path.{sym, ◌∙◌}
 use Rattle.sound.proofs.Sounds.{named-no, named-yes}
-use borrow.Author.Rules.{rules}
 use Rattle.sound.proofs.has_name.Goals as goal
 
 pub returns-then-field-eq0 : goal.returns-then-field-eq0

@@ -2,7 +2,6 @@ use mathlib.Core.Path.{sym, ap, ◌∙◌}
 use native.Mathlib.Omega.{arith}
 use lib.Dec.{leb}
 use Rattle.sound.proofs.Sounds.{symbol-out, symbol-rule, symbol-arg, symbol-var, symbol_low, symbol-decl}
-use borrow.Author.Rules.{rules}
 use Rattle.sound.proofs.is_symbol.Goals as goal
 
 pub returns-then-node_count-node : goal.returns-then-node_count-node

@@ -1,8 +1,6 @@
 use mathlib.Core.Path.{sym}
 use native.Mathlib.Omega.{arith}
-use Prim.Native.Nat.{◌-◌, ◌≤◌}
-use Rattle.sound.specs.Sound.{parent_below}
-use Rattle.sound.proofs.Sounds.{RunFrom, from-begin, from_next, from-stop, from_end, parent-high, parent-low}
+use Rattle.sound.proofs.Sounds.{from-begin, from_next, from-stop, from_end, parent-high, parent-low}
 use borrow.Author.Rules.{rules}
 use Rattle.sound.proofs.test_parents.Goals as goal
 

@@ -1,6 +1,5 @@
 use mathlib.Core.Path.{sym, ◌∙◌}
 use Rattle.sound.proofs.Sounds.{row-high, row-yes, row-no}
-use borrow.Author.Rules.{rules}
 use Rattle.sound.proofs.test_row.Goals as goal
 
 pub returns-then-get-symbol_scope : goal.returns-then-get-symbol_scope

@@ -1,8 +1,5 @@
 use mathlib.Core.Path.{sym, ◌∙◌}
-use Prim.Native.Nat.{◌-◌}
-use Rattle.sound.specs.Sound.{row_sound}
-use Rattle.ast.proofs.Runs.{RunLeft, run-begin, run-next, run-stop, run_end}
-use borrow.Author.Rules.{rules}
+use Rattle.ast.proofs.Runs.{run-begin, run-next, run-stop, run_end}
 use Rattle.sound.proofs.test_rows.Goals as goal
 
 pub loop-j-init : goal.loop-j-init

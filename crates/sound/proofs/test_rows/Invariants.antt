@@ -1,8 +1,6 @@
-use mathlib.Core.Path.{sym, ◌∙◌}
 use Prim.Native.Nat.{◌-◌}
 use Rattle.sound.specs.Sound.{row_sound}
-use Rattle.ast.proofs.Runs.{RunLeft, run-begin, run-next, run-stop, run_end}
-use borrow.Author.Rules.{rules}
+use Rattle.ast.proofs.Runs.{RunLeft}
 use Rattle.sound.proofs.test_rows.Given as goal
 
 abbrev pub invariant-loop-j : goal.invariant-loop-j

@@ -1,7 +1,6 @@
 use mathlib.Core.Path.{sym, ◌∙◌}
 use Rattle.ast.proofs.Accepted.{skip}
 use Rattle.sound.proofs.Sounds.{sound-nodes, sound_none, sound-scopes, sound-symbols, sound-root, sound-rest, halt}
-use borrow.Author.Rules.{rules}
 use Rattle.sound.proofs.test_sound.Goals as goal
 
 pub returns-then-get-n : goal.returns-then-get-n

@@ -2,9 +2,7 @@ use borrow.Author.Rules.{rules}
 use native.Mathlib.Omega.{arith}
 use native.Mathlib.Nat.{sub-zero}
 use mathlib.Core.Option.{some}
-use mathlib.Core.Path.{◌≡◌, sym, ap, ◌∙◌}
-use Prim.Native.Nat.{◌-◌, ◌≤◌}
-use Rattle.table.specs.Table.{find_from}
+use mathlib.Core.Path.{sym, ap, ◌∙◌}
 use Rattle.table.proofs.Finds.{find-hit, find-miss, find-end}
 use Rattle.table.proofs.find.Goals as goal
 

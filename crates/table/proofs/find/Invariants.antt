@@ -1,11 +1,6 @@
-use borrow.Author.Rules.{rules}
-use native.Mathlib.Omega.{arith}
-use native.Mathlib.Nat.{sub-zero}
-use mathlib.Core.Option.{some}
-use mathlib.Core.Path.{◌≡◌, sym, ap, ◌∙◌}
+use mathlib.Core.Path.{◌≡◌}
 use Prim.Native.Nat.{◌-◌, ◌≤◌}
 use Rattle.table.specs.Table.{find_from}
-use Rattle.table.proofs.Finds.{find-hit, find-miss, find-end}
 use Rattle.table.proofs.find.Given as goal
 
 abbrev pub invariant-loop-j : goal.invariant-loop-j

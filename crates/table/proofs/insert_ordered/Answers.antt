@@ -1,4 +1,3 @@
-use borrow.Author.Rules.{rules}
 use Rattle.table.proofs.Steps.{mark-is}
 use Rattle.table.proofs.insert_ordered.Goals as goal
 

@@ -1,4 +1,3 @@
-use borrow.Author.Rules.{rules}
 use Rattle.table.proofs.Steps.{symbol-is}
 use Rattle.table.proofs.insert_symbol.Goals as goal
 

@@ -2,7 +2,6 @@ use mathlib.Core.Path.{sym, ap, ◌∙◌}
 use lib.Dec.{eqb}
 use Rattle.table.specs.Table.{is_kind}
 use Rattle.table.specs.Values.{option_of}
-use borrow.Author.Rules.{rules}
 use Rattle.table.proofs.is_kind.Goals as goal
 
 pub returns-in-At : goal.returns-in-At

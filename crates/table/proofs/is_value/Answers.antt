@@ -3,7 +3,6 @@ use lib.Dec.{eqb}
 use Rattle.table.specs.Table.{is_value}
 use Rattle.table.specs.Values.{option_of}
 use Rattle.table.proofs.Finds.{value-var, value-other, value_none}
-use borrow.Author.Rules.{rules}
 use Rattle.table.proofs.is_value.Goals as goal
 
 pub returns-then-kind-eq-IDENT_TERM : goal.returns-then-kind-eq-IDENT_TERM

@@ -1,4 +1,3 @@
-use borrow.Author.Rules.{rules}
 use Rattle.table.proofs.Steps.{marked-is}
 use Rattle.table.proofs.leave.Goals as goal
 

@@ -1,4 +1,3 @@
-use borrow.Author.Rules.{rules}
 use Rattle.table.proofs.Steps.{unmarked-is}
 use Rattle.table.proofs.leave_bare.Goals as goal
 

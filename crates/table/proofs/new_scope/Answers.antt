@@ -1,4 +1,3 @@
-use borrow.Author.Rules.{rules}
 use Rattle.table.proofs.Steps.{child-is}
 use Rattle.table.proofs.new_scope.Goals as goal
 

@@ -1,4 +1,3 @@
-use borrow.Author.Rules.{rules}
 use Rattle.table.proofs.Steps.{read_is}
 use Rattle.table.proofs.word_of.Goals as goal
 

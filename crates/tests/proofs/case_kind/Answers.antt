@@ -1,5 +1,4 @@
 use mathlib.Core.Path.{ap}
-use native.Mathlib.Omega.{arith}
 use lib.ListN.{get_or}
 use Rattle.tests.proofs.case_kind.Goals as goal
 

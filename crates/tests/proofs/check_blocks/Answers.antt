@@ -1,6 +1,6 @@
 use mathlib.Core.Path.{refl}
 use native.Mathlib.Omega.{arith}
-use Rattle.tests.proofs.Fields.{BlocksLeft, blocks-next, blocks-stop, blocks-end}
+use Rattle.tests.proofs.Fields.{blocks-next, blocks-stop, blocks-end}
 use Rattle.tests.proofs.check_blocks.Goals as goal
 
 pub loop-left-init : goal.loop-left-init

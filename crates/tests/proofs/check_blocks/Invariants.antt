@@ -1,6 +1,4 @@
-use mathlib.Core.Path.{refl}
-use native.Mathlib.Omega.{arith}
-use Rattle.tests.proofs.Fields.{BlocksLeft, blocks-next, blocks-stop, blocks-end}
+use Rattle.tests.proofs.Fields.{BlocksLeft}
 use Rattle.tests.proofs.check_blocks.Given as goal
 
 abbrev pub invariant-loop-left : goal.invariant-loop-left

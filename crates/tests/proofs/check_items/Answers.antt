@@ -1,6 +1,6 @@
 use mathlib.Core.Path.{refl}
 use native.Mathlib.Omega.{arith}
-use Rattle.tests.proofs.Fields.{ItemsLeft, items-next, items-stop, items-end}
+use Rattle.tests.proofs.Fields.{items-next, items-stop, items-end}
 use Rattle.tests.proofs.check_items.Goals as goal
 
 pub loop-left-init : goal.loop-left-init

@@ -1,6 +1,4 @@
-use mathlib.Core.Path.{refl}
-use native.Mathlib.Omega.{arith}
-use Rattle.tests.proofs.Fields.{ItemsLeft, items-next, items-stop, items-end}
+use Rattle.tests.proofs.Fields.{ItemsLeft}
 use Rattle.tests.proofs.check_items.Given as goal
 
 abbrev pub invariant-loop-left : goal.invariant-loop-left

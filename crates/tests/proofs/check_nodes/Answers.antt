@@ -1,7 +1,6 @@
 use mathlib.Core.Path.{refl}
 use native.Mathlib.Omega.{arith}
-use Prim.Native.Nat.{◌-◌}
-use Rattle.tests.proofs.Whole.{NodesLeft, nodes-begin, nodes-next, nodes-stop, nodes-end}
+use Rattle.tests.proofs.Whole.{nodes-begin, nodes-next, nodes-stop, nodes-end}
 use Rattle.tests.proofs.check_nodes.Goals as goal
 
 pub loop-n-init : goal.loop-n-init

@@ -1,7 +1,5 @@
-use mathlib.Core.Path.{refl}
-use native.Mathlib.Omega.{arith}
 use Prim.Native.Nat.{◌-◌}
-use Rattle.tests.proofs.Whole.{NodesLeft, nodes-begin, nodes-next, nodes-stop, nodes-end}
+use Rattle.tests.proofs.Whole.{NodesLeft}
 use Rattle.tests.proofs.check_nodes.Given as goal
 
 abbrev pub invariant-loop-n : goal.invariant-loop-n

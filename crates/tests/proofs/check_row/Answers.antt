@@ -1,5 +1,5 @@
 use native.Mathlib.Omega.{arith}
-use Rattle.tests.proofs.Whole.{RowLeft, row-begin, row-cased, row_next, row-stop, row-end}
+use Rattle.tests.proofs.Whole.{row-begin, row-cased, row_next, row-stop, row-end}
 use Rattle.tests.proofs.check_row.Goals as goal
 
 pub row_of-row-requires : goal.row_of-row-requires

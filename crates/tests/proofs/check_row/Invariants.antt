@@ -1,5 +1,4 @@
-use native.Mathlib.Omega.{arith}
-use Rattle.tests.proofs.Whole.{RowLeft, row-begin, row-cased, row_next, row-stop, row-end}
+use Rattle.tests.proofs.Whole.{RowLeft}
 use Rattle.tests.proofs.check_row.Given as goal
 
 abbrev pub invariant-loop-row : goal.invariant-loop-row

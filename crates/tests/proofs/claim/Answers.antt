@@ -1,5 +1,4 @@
 use Rattle.ast.proofs.Scans.{bump-first, bump-again}
-use borrow.Author.Rules.{rules}
 use Rattle.tests.proofs.claim.Goals as goal
 
 pub returns-then-claims-i-eq0 : goal.returns-then-claims-i-eq0

@@ -2,7 +2,6 @@ use mathlib.Core.Path.{ap}
 use lib.ListN.{get_or}
 use Prim.Native.Nat.{ℕ}
 use mathlib.Core.List.{List}
-use borrow.Author.Rules.{rules}
 use Rattle.tests.proofs.row_of.Goals as goal
 
 pub returns : goal.returns

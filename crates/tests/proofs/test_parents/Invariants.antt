@@ -1,11 +1,8 @@
-use borrow.Author.Rules.{rules}
-use mathlib.Core.Path.{◌≡◌, sym, ◌∙◌}
-use native.Mathlib.Omega.{arith}
+use mathlib.Core.Path.{◌≡◌}
 use Prim.Native.Nat.{◌-◌}
-use mathlib.Core.Logic.{⊎_elim}
 use Rattle.ast.specs.Image as images
-use Rattle.ast.proofs.Runs.{RunSeen, seen-begin, seen_next, seen_first, seen_end, once, not-once}
-use Rattle.tests.proofs.Whole.{parent, parents-are}
+use Rattle.ast.proofs.Runs.{RunSeen}
+use Rattle.tests.proofs.Whole.{parent}
 use Rattle.tests.proofs.test_parents.Given as goal
 
 abbrev pub invariant-loop-v : goal.invariant-loop-v

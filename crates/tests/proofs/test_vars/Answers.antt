@@ -1,9 +1,6 @@
 use mathlib.Core.Path.{sym, ◌∙◌}
 use native.Mathlib.Omega.{arith}
-use Prim.Native.Nat.{◌-◌}
-use Rattle.ast.specs.Image.{nodes}
-use Rattle.ast.proofs.Runs.{RunLeft, run-begin, run-next, run-stop, run_end}
-use Rattle.ast.specs.Tests as tests
+use Rattle.ast.proofs.Runs.{run-begin, run-next, run-stop, run_end}
 use Rattle.tests.proofs.test_vars.Goals as goal
 
 pub loop-n-init : goal.loop-n-init

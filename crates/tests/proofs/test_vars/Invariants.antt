@@ -1,8 +1,6 @@
-use mathlib.Core.Path.{sym, ◌∙◌}
-use native.Mathlib.Omega.{arith}
 use Prim.Native.Nat.{◌-◌}
 use Rattle.ast.specs.Image.{nodes}
-use Rattle.ast.proofs.Runs.{RunLeft, run-begin, run-next, run-stop, run_end}
+use Rattle.ast.proofs.Runs.{RunLeft}
 use Rattle.ast.specs.Tests as tests
 use Rattle.tests.proofs.test_vars.Given as goal
 

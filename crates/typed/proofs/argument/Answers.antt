@@ -1,6 +1,5 @@
 use mathlib.Core.Path.{ap, ◌∙◌}
 use Prim.Native.Nat.{ℕ}
-use borrow.Author.Rules.{rules}
 use Rattle.ast.specs.Image.{field}
 use Rattle.typed.proofs.argument.Goals as goal
 

@@ -1,7 +1,6 @@
 use mathlib.Core.Path.{refl, sym, ◌∙◌}
 use native.Mathlib.Omega.{arith}
 use lib.ListN.{get_or-eq_default}
-use borrow.Author.Rules.{rules}
 use Rattle.typed.specs.Nodes.{stmt_cases, stmt_of}
 use Rattle.typed.proofs.Cases.{case-read}
 use Rattle.typed.proofs.stmt.Goals as goal

@@ -1,6 +1,5 @@
 use mathlib.Core.Path.{refl, sym, ◌∙◌}
 use lib.ListN.{get_or-eq_default}
-use borrow.Author.Rules.{rules}
 use Rattle.typed.specs.Nodes.{term_cases, term_of}
 use Rattle.typed.proofs.Cases.{case-read, past, from_zero}
 use Rattle.typed.proofs.term.Goals as goal

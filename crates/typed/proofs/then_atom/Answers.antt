@@ -1,7 +1,6 @@
 use mathlib.Core.Path.{refl, sym, ◌∙◌}
 use native.Mathlib.Omega.{arith}
 use lib.ListN.{get_or-eq_default}
-use borrow.Author.Rules.{rules}
 use Rattle.typed.specs.Nodes.{then_atom_cases, then_atom_of}
 use Rattle.typed.proofs.Cases.{case-read}
 use Rattle.typed.proofs.then_atom.Goals as goal
