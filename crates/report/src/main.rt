@@ -3,24 +3,49 @@
 // `unread`.
 #![tactic(auto)]
 
-use libc::{STDIN_FILENO, STDOUT_FILENO};
+ghost use Rattle.std.specs.Prelude.{◌≤◌, length};
 
-// The input ends here: one more read gives nothing. (`read_full` stops at the end and at a read that fails.)
-fn at_end() -> bool {
-    let mut more = [0u8; 1];
-    libc::read(STDIN_FILENO, &mut more) == 0
+use std::io;
+use std::io::Read;
+
+// Reads until the buffer is full, the input ends or a read fails; how many bytes it put at the start of the buffer.
+fn read_full<R: Read>(input: &mut R, buffer: &mut [u8]) -> usize
+    ensures { result ≤ length buffer.new }
+{
+    let mut done = 0;
+    while done < buffer.len() {
+        match input.read(&mut buffer[done..]) {
+            Ok(0) => {
+                return done;
+            }
+            Ok(n) => done += n,
+            Err(_) => {
+                return done;
+            }
+        }
+    }
+    done
 }
 
-fn main() {
+// The input ends here: one more read gives nothing. (`read_full` stops at the end and at a read that fails.)
+fn at_end<R: Read>(input: &mut R) -> bool {
+    let mut more = [0u8; 1];
+    match input.read(&mut more) {
+        Ok(n) => n == 0,
+        Err(_) => false,
+    }
+}
+
+fn main(rt: HostRuntime) -> io::Result<()> {
+    let mut stdin = rt.stdin();
     let mut input = [0u8; 61457];
-    let got = io::read_full(STDIN_FILENO, &mut input);
+    let got = read_full(&mut stdin, &mut input);
     if got < 61457 {
-        if !at_end() {
-            io::write_all(STDOUT_FILENO, b"unread\n");
-            return;
+        if !at_end(&mut stdin) {
+            return rt.println("unread");
         }
     }
     let mut out = [0u8; lines::LONGEST];
     let size = lines::report(&input[..got], &mut out);
-    io::write_all(STDOUT_FILENO, &out[..size]);
+    rt.write_all(&out[..size])
 }
