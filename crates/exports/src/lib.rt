@@ -1,4 +1,4 @@
-// The C interface: the public calls, each with its answer packed in one number.
+// The public calls, each with its answer packed in one number. exports_c hands these to C.
 #![tactic(auto)]
 
 ghost use Rattle.std.specs.Prelude.{◌≡◌, ◌≤◌};
@@ -9,7 +9,7 @@ ghost use Rattle.scopes.specs.Lookup.{lookup_call};
 ghost use Rattle.bindings.specs.Errors.{errors};
 ghost use Rattle.sorted.specs.Sorted.{sorted};
 ghost use Rattle.occurrences.specs.Answers.{once_answer};
-ghost use Rattle.occurrences.specs.Occurrences as «calls_spec»;
+ghost use Rattle.occurrences.specs.Occurrences as CallsSpec;
 ghost use Rattle.ast.specs.Answer.{Short, Fits};
 ghost use Rattle.exports.specs.Packed.{fields, packed, Packs, Leaves, LeavesRows, Places};
 
@@ -71,56 +71,49 @@ fn pack_once(answer: Once) -> u64
 }
 
 // Resolve: fills the table.
-#[unsafe(no_mangle)]
-pub extern "C" fn eqlog_resolve(image: &[u8], table: &mut [u32]) -> u64
+pub fn eqlog_resolve(image: &[u8], table: &mut [u32]) -> u64
     ensures { Leaves (resolve image.now table.old) result table.new }
 {
     pack_resolved(scopes::resolve_scopes(image, table))
 }
 
 // Lookup: what a name, given by its bytes, is in a scope of a table.
-#[unsafe(no_mangle)]
-pub extern "C" fn eqlog_lookup(image: &[u8], table: &[u32], scope: u32, name: &[u8]) -> u64
+pub fn eqlog_lookup(image: &[u8], table: &[u32], scope: u32, name: &[u8]) -> u64
     ensures { Packs result (lookup_call image.now table.now scope name.now) }
 {
     pack_looked(scopes::lookup(image, table, ScopeId(scope), name))
 }
 
 // Errors: resolves, then writes the error rows.
-#[unsafe(no_mangle)]
-pub extern "C" fn eqlog_errors(image: &[u8], table: &mut [u32], rows: &mut [u32], mode: u32) -> u64
+pub fn eqlog_errors(image: &[u8], table: &mut [u32], rows: &mut [u32], mode: u32) -> u64
     ensures { LeavesRows (errors image.now table.old rows.old mode) result table.new rows.new }
 {
     pack_rowed(bindings::check_bindings(image, table, rows, mode))
 }
 
 // Sorted: as Errors, with the rows by place.
-#[unsafe(no_mangle)]
-pub extern "C" fn eqlog_sorted(image: &[u8], table: &mut [u32], rows: &mut [u32], mode: u32) -> u64
+pub fn eqlog_sorted(image: &[u8], table: &mut [u32], rows: &mut [u32], mode: u32) -> u64
     ensures { LeavesRows (sorted image.now table.old rows.old mode) result table.new rows.new }
 {
     pack_rowed(sorted::sorted(image, table, rows, mode))
 }
 
 // Once: resolves, then looks for the first lone occurrence.
-#[unsafe(no_mangle)]
-pub extern "C" fn eqlog_once(image: &[u8], table: &mut [u32]) -> u64
-    ensures { Leaves («calls_spec».once image.now table.old) result table.new }
+pub fn eqlog_once(image: &[u8], table: &mut [u32]) -> u64
+    ensures { Leaves (CallsSpec.once image.now table.old) result table.new }
 {
     pack_once(occurrences::check_occurrences(image, table))
 }
 
 // Occurrences: resolves, then lists every variable occurrence with its binding.
-#[unsafe(no_mangle)]
-pub extern "C" fn eqlog_occurrences(image: &[u8], table: &mut [u32], rows: &mut [u32]) -> u64
-    ensures { LeavesRows («calls_spec».occurrences image.now table.old rows.old) result table.new rows.new }
+pub fn eqlog_occurrences(image: &[u8], table: &mut [u32], rows: &mut [u32]) -> u64
+    ensures { LeavesRows (CallsSpec.occurrences image.now table.old rows.old) result table.new rows.new }
 {
     pack_rowed(occurrences::occurrences(image, table, rows))
 }
 
 // Name: where the name's bytes stand in the image, start and length; 0 where there is none.
-#[unsafe(no_mangle)]
-pub extern "C" fn eqlog_name(image: &[u8], name: u32) -> u64
+pub fn eqlog_name(image: &[u8], name: u32) -> u64
     ensures { Places result (name_place image.now name) }
 {
     let p = names::name_place(image, name);

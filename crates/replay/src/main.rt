@@ -2,7 +2,8 @@
 // recorded words. The records come on standard input; differential/src/record.rs says how they are laid out and made.
 #![tactic(auto)]
 
-use libc::{STDIN_FILENO, STDOUT_FILENO};
+use std::io;
+use std::io::Read;
 
 // The i-th number at a record's head: 0 image bytes, 1 table words, 2 rows words, 3 mode, 4 scope, 5 name bytes, 6 name number.
 fn head_word(head: &[u8; 88], i: usize) -> u32 {
@@ -161,15 +162,15 @@ fn calls(
 }
 
 // Reads so many bytes, for which there must be room.
-fn read_part(buffer: &mut [u8], n: usize) -> bool {
+fn read_part<R: Read>(input: &mut R, buffer: &mut [u8], n: usize) -> bool {
     if buffer.len() < n {
         return false;
     }
-    io::read_full(STDIN_FILENO, &mut buffer[..n]) == n
+    input.read_exact(&mut buffer[..n]).is_ok()
 }
 
 // Reads the rest of a record, and says whether all is as recorded.
-fn is_as_recorded(head: &[u8; 88]) -> bool {
+fn is_as_recorded<R: Read>(input: &mut R, head: &[u8; 88]) -> bool {
     let mut image = [0u8; 65536];
     let mut name = [0u8; 8192];
     let mut table = [0u8; 40984];
@@ -180,22 +181,22 @@ fn is_as_recorded(head: &[u8; 88]) -> bool {
     let b = ast::wide(head_word(head, 5));
     let n = ast::wide(head_word(head, 1));
     let m = ast::wide(head_word(head, 2));
-    if !read_part(&mut image, a) {
+    if !read_part(input, &mut image, a) {
         return false;
     }
-    if !read_part(&mut name, b) {
+    if !read_part(input, &mut name, b) {
         return false;
     }
-    if !read_part(&mut table, 4 * n) {
+    if !read_part(input, &mut table, 4 * n) {
         return false;
     }
-    if !read_part(&mut rows, 4 * m) {
+    if !read_part(input, &mut rows, 4 * m) {
         return false;
     }
-    if !read_part(&mut list, 4 * m) {
+    if !read_part(input, &mut list, 4 * m) {
         return false;
     }
-    if !read_part(&mut sorted, 4 * m) {
+    if !read_part(input, &mut sorted, 4 * m) {
         return false;
     }
     calls_on(head, &image, &name, &table, &rows, &list, &sorted)
@@ -222,27 +223,27 @@ fn calls_on(
     calls(head, &image[..a], &name[..b], after, rows, list, sorted)
 }
 
-fn say(number: u64, text: &[u8]) {
-    io::print_decimal(STDOUT_FILENO, number);
-    io::write_all(STDOUT_FILENO, text);
+fn say<R: Print>(rt: &R, number: u64, text: &str) -> io::Result<()> {
+    println!(rt; "{number}{text}")
 }
 
 // Replays the next record; false where there is none.
-fn next_record(number: u64) -> bool {
+fn next_record<R: Read, P: Print>(rt: &P, input: &mut R, number: u64) -> io::Result<bool> {
     let mut head = [0u8; 88];
-    if io::read_full(STDIN_FILENO, &mut head) != 88 {
-        return false;
+    if input.read_exact(&mut head).is_err() {
+        return Ok(false);
     }
-    if !is_as_recorded(&head) {
-        say(number, b" differs\n");
+    if !is_as_recorded(input, &head) {
+        say(rt, number, " differs")?;
     }
-    true
+    Ok(true)
 }
 
-fn main() {
+fn main(rt: HostRuntime) -> io::Result<()> {
+    let mut input = rt.stdin();
     let mut done = 0u64;
-    while done < 1000000 && next_record(done) {
+    while done < 1000000 && next_record(&rt, &mut input, done)? {
         done += 1;
     }
-    say(done, b" records replayed\n");
+    say(&rt, done, " records replayed")
 }

@@ -3,24 +3,123 @@
 // `unread`.
 #![tactic(auto)]
 
-use libc::{STDIN_FILENO, STDOUT_FILENO};
+ghost use Rattle.std.specs.Prelude.{◌≡◌, ◌≤◌, length, take, true, false, IfOk, OnOk, IfSome};
+ghost use Rattle.std.specs.Io.KnownBytes.{Appends, Consumes, IsAtEnd};
+ghost use Rattle.lines.specs.Bytes.{report_bytes};
+ghost use Rattle.report.specs.Unread.{unread_line};
 
-// The input ends here: one more read gives nothing. (`read_full` stops at the end and at a read that fails.)
-fn at_end() -> bool {
-    let mut more = [0u8; 1];
-    libc::read(STDIN_FILENO, &mut more) == 0
-}
+use std::io;
+use std::io::{Read, Write};
 
-fn main() {
-    let mut input = [0u8; 61457];
-    let got = io::read_full(STDIN_FILENO, &mut input);
-    if got < 61457 {
-        if !at_end() {
-            io::write_all(STDOUT_FILENO, b"unread\n");
-            return;
+// One byte more than any image has.
+const TOO_MANY: usize = 61457;
+
+// Reads until the buffer is full, the input ends or a read fails; how many bytes it put at the start of the buffer.
+fn read_full<R: Read>(input: &mut R, buffer: &mut [u8]) -> usize
+    ensures in_bounds { result ≤ length buffer.new }
+    ensures bytes { Consumes (R.remaining input.old) (R.remaining input.new) (take result buffer.new) }
+{
+    let mut done = 0;
+    while done < buffer.len() {
+        match input.read(&mut buffer[done..]) {
+            Ok(0) => {
+                return done;
+            }
+            Ok(n) => done += n,
+            Err(_) => {
+                return done;
+            }
         }
     }
+    done
+}
+
+// The input ends here: one more read gives nothing. (`read_full` stops at the end and at a read that fails.)
+fn at_end<R: Read>(input: &mut R) -> bool
+    ensures { result ≡ true → IsAtEnd (R.remaining input.old) }
+{
+    let mut more = [0u8; 1];
+    match input.read(&mut more) {
+        Ok(n) => n == 0,
+        Err(_) => false,
+    }
+}
+
+// Reads the input, or as much of it as the buffer holds: how many bytes that are. None where a read fails.
+fn read_front<R: Read>(input: &mut R, buffer: &mut [u8]) -> Option<usize>
+    ensures in_bounds { IfSome result (λ n. n ≤ length buffer.new) }
+    ensures bytes { IfSome result (λ n. IfSome (R.remaining input.old) (λ xs. take n buffer.new ≡ take (length buffer.new) xs)) }
+{
+    let got = read_full(input, buffer);
+    if got < buffer.len() {
+        if !at_end(input) {
+            return None;
+        }
+    }
+    Some(got)
+}
+
+// Prints the report of an image.
+fn print_report<W: Write>(image: &[u8], to: &mut W) -> io::Result<()>
+    ensures { OnOk result (Appends (W.contents to.old) (W.contents to.new) (report_bytes image.now)) }
+{
     let mut out = [0u8; lines::LONGEST];
-    let size = lines::report(&input[..got], &mut out);
-    io::write_all(STDOUT_FILENO, &out[..size]);
+    let size = lines::report(image, &mut out);
+    to.write_all(&out[..size])
+}
+
+// Prints the report of the whole input, or `unread` where a read fails; whether it was the report.
+fn run<R: Read, W: Write>(input: &mut R, to: &mut W) -> io::Result<bool>
+    ensures whole { IfOk result (λ whole. whole ≡ true → IfSome (R.remaining input.old) (λ xs. Appends (W.contents to.old) (W.contents to.new) (report_bytes xs))) }
+    ensures unread { IfOk result (λ whole. whole ≡ false → Appends (W.contents to.old) (W.contents to.new) unread_line) }
+{
+    let mut buffer = [0u8; TOO_MANY];
+    match read_front(input, &mut buffer) {
+        Some(got) => {
+            print_report(&buffer[..got], to)?;
+            Ok(true)
+        }
+        None => {
+            to.write_all(b"unread\n")?;
+            Ok(false)
+        }
+    }
+}
+
+fn main(rt: HostRuntime) -> io::Result<()> {
+    run(&mut rt.stdin(), &mut rt.stdout())?;
+    Ok(())
+}
+
+#[cfg(test)]
+mod tests {
+    use super::*;
+    use std::io::{Error, ErrorKind};
+    use std::test::Fail;
+
+    // Gives one byte, and then fails.
+    #[derive(Drop)]
+    struct Broken {
+        given: bool,
+    }
+
+    impl Read for Broken {
+        fn read(&mut self, buf: &mut [u8]) -> io::Result<usize> {
+            if self.given || buf.is_empty() {
+                return Err(Error::from(ErrorKind::Other));
+            }
+            self.given = true;
+            buf[0] = 1;
+            Ok(1)
+        }
+    }
+
+    #[test]
+    fn a_failed_read_is_unread(rt: HostRuntime) -> Result<(), Fail> {
+        let mut out = Vec::new(rt.alloc());
+        let whole = run(&mut Broken { given: false }, &mut out)?;
+        assert!(rt; !whole);
+        assert_eq!(rt; out.as_slice(), b"unread\n".as_slice());
+        Ok(())
+    }
 }

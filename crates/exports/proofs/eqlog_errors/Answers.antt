@@ -1,0 +1,13 @@
+-- The answer fits its fields, and the call leaves what its definition says.
+use mathlib.Core.Path.{ap, subst}
+use Rattle.scopes.specs.Calls.{RowsOutcome}
+use Rattle.ast.specs.Answer.{Fits}
+use Rattle.bindings.proofs.Fitting.{errors-fit}
+use Rattle.exports.proofs.Packing.{leaves-rows}
+use Rattle.exports.proofs.eqlog_errors.Goals as goal
+
+pub pack_rowed-requires : goal.pack_rowed-requires
+pack_rowed-requires c = subst Fits (ap (λ (o : RowsOutcome). o.answer) c.check_bindings.ensures) (errors-fit _ _ _ _)
+
+pub returns : goal.returns
+returns c = leaves-rows c.check_bindings.ensures (errors-fit _ _ _ _) c.pack_rowed.ensures

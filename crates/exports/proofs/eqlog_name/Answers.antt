@@ -1,0 +1,17 @@
+-- Start and length are below 2^16 each, so the sum fits, and both are read off again.
+use mathlib.Core.Path.{ap, subst}
+use native.Mathlib.Omega.{arith}
+use Rattle.exports.specs.Packed.{placed}
+use Rattle.exports.proofs.Places.{SmallPlace, place-small}
+use Rattle.exports.proofs.eqlog_name.Goals as goal
+
+pub overflow_mul-result : goal.overflow_mul-result
+overflow_mul-result c = let s = place-small _ _ _ c.name_place-p.ensures in omega arith
+
+pub overflow_add-result : goal.overflow_add-result
+overflow_add-result c = let s = place-small _ _ _ c.name_place-p.ensures in omega arith
+
+pub returns : goal.returns
+returns c =
+    let s = subst SmallPlace c.name_place-p.ensures (place-small _ _ _ c.name_place-p.ensures) in
+    record { number = ap placed c.name_place-p.ensures; start_fits = s.0; len_fits = s.1 }
