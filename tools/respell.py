@@ -26,7 +26,30 @@ OTHER = [
     ("adds", "AddsHere", ["sight/proofs/Keep.antt", "sight/proofs/Good.antt"]),
     ("hits", "HitsHere", ["sight/proofs/Keep.antt", "sight/proofs/Good.antt"]),
     ("owned", "Owned", ["sight/proofs/Steps.antt"]),
-    # fields
+    ("Met-or", "MetOr", ["meaning/proofs/ByEntry.antt"]),
+    ("Kept-by", "KeptBy", ["meaning/proofs/Told.antt"]),
+    # a word that is gone; sisters of lemmas that kept their dash
+    ("get_d_any", "get_or-any", ["tests/proofs/Parts.antt"]),
+    ("row_one", "row-one", ["sentences/", "calls/"]),
+    ("list_same", "list-same", ["calls/"]),
+    ("rows_stay", "rows-stay", ["calls/"]),
+    # module aliases
+    ("head_of", "in_head", ["occurrences/proofs/CollectCases.antt"]),
+    ("type-of", "in_type", ["occurrences/proofs/CollectCases.antt"]),
+    ("Pred-of", "in_pred", ["occurrences/proofs/CollectCases.antt"]),
+    ("if-of", "in_if", ["occurrences/proofs/CollectCases.antt"]),
+    ("then-of", "in_then", ["occurrences/proofs/CollectCases.antt"]),
+    ("stmt-of", "in_stmt", ["occurrences/proofs/CollectCases.antt"]),
+    ("decl-of", "in_decl", ["occurrences/proofs/CollectRules.antt"]),
+    ("app-head", "app_head", ["typed/proofs/Enums.antt", "typed/specs/Nodes.antt", "bindings/proofs/Cases.antt"]),
+    ("type-expr", "type_expr", ["typed/proofs/Enums.antt", "typed/specs/Nodes.antt"]),
+    ("pred-expr", "pred_expr", ["typed/proofs/Enums.antt", "typed/specs/Nodes.antt"]),
+    ("if-atom", "if_atom", ["typed/proofs/Enums.antt", "typed/specs/Nodes.antt"]),
+    ("then-atom", "then_atom", ["typed/proofs/Enums.antt", "typed/specs/Nodes.antt"]),
+    ("opt-name", "opt_name", ["typed/specs/Nodes.antt"]),
+    ("opt-term", "opt_term", ["typed/specs/Nodes.antt"]),
+    ("unfolding-law", "unfolding_law", ["ast/proofs/Acceptance.antt"]),
+    # fields and constructors
     ("nodes-are", "nodes_are", [""]),
     ("operands-are", "operands_are", [""]),
     ("names-are", "names_are", [""]),
@@ -35,9 +58,17 @@ OTHER = [
     ("none-earlier", "none_earlier", [""]),
     ("rising-all", "rising_all", [""]),
     ("way-is", "way_is", [""]),
+    ("first-is", "first_is", ["environment/proofs/Leaving.antt"]),
+    ("heads-long", "heads_long", ["names/"]),
+    ("next-long", "next_long", ["names/"]),
+    ("by-rule", "by_rule", ["occurrences/", "sight/"]),
+    ("no-list", "no_list", ["scopes/proofs/Clashing.antt"]),
+    ("a-list", "a_list", ["scopes/proofs/Clashing.antt"]),
+    ("scopes-are", "scopes_are", ["scopes/"]),
+    ("symbols-are", "symbols_are", ["scopes/"]),
 ]
 # modules under another name
-MODULES = re.compile(r"«(\w+)-spec»")
+MODULES = re.compile(r"«(promises|\w+[-_]spec)»")
 
 
 def snake(part):
@@ -53,7 +84,7 @@ def turned(text, path):
         w = m[0]
         return other[w] if w in other else "-".join(snake(p) for p in w.split("-"))
 
-    text = MODULES.sub(lambda m: m[1].capitalize() + "Spec", text)
+    text = MODULES.sub(lambda m: m[1][:-5].capitalize() + "Spec" if m[1].endswith("spec") else m[1].capitalize() + "Spec", text)
     return WORD.sub(word, text)
 
 

@@ -17,7 +17,7 @@ use Rattle.ast.proofs.Count as count
 use Rattle.ast.proofs.Formed.{FormedNode, FormedFields}
 use Rattle.ast.proofs.RowNames.{row_names, fields-names, fields-on, place-zero, name-word, opt-word}
 use Rattle.ast.proofs.Unfold.{All}
-use Rattle.ast.proofs.Unfold as unfolding-law
+use Rattle.ast.proofs.Unfold as unfolding_law
 use Rattle.ast.proofs.Vars.{Everywhere, PlainAt}
 use Rattle.ast.proofs.Vars as variables
 
@@ -81,7 +81,7 @@ module _ (img : List ℕ) (accepted : verdict img ≡ 0) where
       omega arith
 
   pub children-below : (n : ℕ) → n < nodes img → All (λ c. c < n) (numbers (kids img n))
-  children-below n h = unfolding-law.kids-below img n (row n h)
+  children-below n h = unfolding_law.kids-below img n (row n h)
 
   -- the last node is the module
   pub root : kind_at img (last img) ≡ 0
@@ -114,4 +114,4 @@ module _ (img : List ℕ) (accepted : verdict img ≡ 0) where
   -- the unfolding law: the tree of a node is made of the trees of its row's children
   pub unfolds : (n : ℕ) → n < nodes img
       → tree_at img n ≡ node n (kind_at img n) (class_at img n) (shape img n) (ordered (class_at img n) (grow (tree_at img) (kids img n)))
-  unfolds = unfolding-law.tree_at-is img (formed img accepted)
+  unfolds = unfolding_law.tree_at-is img (formed img accepted)

@@ -18,7 +18,7 @@ use Rattle.typed.specs.declared.nodes.Decl.{Decl}
 use Rattle.typed.specs.declared.nodes.Decl.TheVariants as decl
 use Rattle.typed.specs.declared.nodes.Term.{Term}
 use Rattle.typed.specs.declared.nodes.AppHead.{AppHead}
-use Rattle.typed.specs.declared.nodes.AppHead.TheVariants as app-head
+use Rattle.typed.specs.declared.nodes.AppHead.TheVariants as app_head
 use Rattle.typed.specs.contracts.nodes.Decl as DeclCode
 use Rattle.typed.specs.contracts.nodes.Term as TermCode
 use Rattle.typed.specs.contracts.nodes.AppHead as AppHeadCode
@@ -50,9 +50,9 @@ module _ (img : List ℕ) where
   head-number {n} {t} is q = go t q
     where
       go : (s : AppHead) → s ≡ app_head_at img n → tag_of AppHeadCode.the_type s ≡ field img n 0
-      go (app-head.Ident i) e = (app-head-is img is e refl).number
-      go (app-head.Member i) e = (app-head-is img is e refl).number
-      go (app-head.Term i) e = (app-head-is img is e refl).number
+      go (app_head.Ident i) e = (app-head-is img is e refl).number
+      go (app_head.Member i) e = (app-head-is img is e refl).number
+      go (app_head.Term i) e = (app-head-is img is e refl).number
 
   -- a declaration that is neither a rule nor a model
   pub no_body : {n : ℕ} {t : Decl} → Is img (kind_of decl_kind) n → t ≡ decl_at img n → OneOf (0 ∷ 1 ∷ 2 ∷ 3 ∷ 5 ∷ []) (tag_of DeclCode.the_type t)

@@ -109,10 +109,10 @@ module _ (img tab rows : List ℕ) (mode : ℕ) where
 
     -- row 1 stands at exactly the ident terms of a then-atom that introduce their name, except the defined variable and terms under Dom,
     -- Cod or a member predicate's receiver
-    pub row_one : (n : ℕ) → Memᴰ (row 1 n) list ↔ Introduced img table n
-    row_one n =
+    pub row-one : (n : ℕ) → Memᴰ (row 1 n) list ↔ Introduced img table n
+    row-one n =
         let p = plain (row 1 n) (omega arith) in
-        let s = sentences.row_one img table accepted n in
+        let s = sentences.row-one img table accepted n in
         ((λ m. s.0 (p.0 m)), (λ h. p.1 (s.1 h)))
 
     -- row 2 at exactly the defined-then variables whose name is a Var at the atom's entry

@@ -88,8 +88,8 @@ module _ (img tab rows : List ℕ) (mode : ℕ) where
   table_is = both.table
 
   -- where it gives no rows, so are the words of the rows
-  pub rows_stay : (Fills errs.answer → ⊥) → left.rows ≡ errs.rows
-  rows_stay = both.else
+  pub rows-stay : (Fills errs.answer → ⊥) → left.rows ≡ errs.rows
+  rows-stay = both.else
 
   -- where it gives rows
   module _ (gives : Fills errs.answer) where
@@ -111,9 +111,9 @@ module _ (img tab rows : List ℕ) (mode : ℕ) where
         (rise-at img (nodes img) left.rows (get_or left.rows 0 0) 0 list-rises i j h k))
 
     -- they are the same rows, each as often, however rows are told apart;
-    pub list_same : Permᴰ list old
+    pub list-same : Permᴰ list old
     unfolding placed
-    list_same = subst (λ (l : List Row). Permᴰ l old) (sym list-is) (sort-same (by_place img) old)
+    list-same = subst (λ (l : List Row). Permᴰ l old) (sym list-is) (sort-same (by_place img) old)
 
     pub list-often : (t : Row → Bool) → many t list ≡ many t old
     unfolding placed

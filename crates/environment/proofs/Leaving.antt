@@ -71,13 +71,13 @@ module _ (img : List ℕ) where
   pub record Leaving (t : Table) (s first : ℕ) (env : List ℕ) (row : ℕ) : Type 0 where
     pub says : Says img t env
     pub live : s < t.scopes
-    pub first-is : First img t s first
+    pub first_is : First img t s first
     pub from : first ≤ row
     pub words : (x : ℕ) → x < names_most → Word t s first row env x
 
   pub leaving-start : {e : Walked} {env : List ℕ} (first : ℕ) → Stands img e env → First img e.table e.scope first → Leaving e.table e.scope first env first
   leaving-start first h f =
-      record { says = h.says; live = h.live; first-is = f; from = (omega arith); words = λ x l. still (h.here x l) (λ j a b. absurd (omega arith)) }
+      record { says = h.says; live = h.live; first_is = f; from = (omega arith); words = λ x l. still (h.here x l) (λ j a b. absurd (omega arith)) }
 
   -- one row more
   module _ {t : Table} {s first : ℕ} {env : List ℕ} {row : ℕ} (h : Leaving t s first env row) (b : row < t.symbols) (q : scope_of (nodes img) t.words row ≡ s) where
@@ -85,7 +85,7 @@ module _ (img : List ℕ) where
     y = name_of img (node_at (nodes img) t.words row)
 
     hides : Hides img t env row
-    hides = let z = h.first-is.lower in h.says.hides row b (omega arith)
+    hides = let z = h.first_is.lower in h.says.hides row b (omega arith)
 
     abbrev env' : List ℕ
     env' = set env y (hidden env row)
@@ -127,7 +127,7 @@ module _ (img : List ℕ) where
         (record {
           says = says-set y (hidden env row) hides.name h.says;
           live = h.live;
-          first-is = h.first-is;
+          first_is = h.first_is;
           from = (let a = h.from in omega arith);
           words = λ x l. word_next x (h.words x l);
         })
@@ -144,7 +144,7 @@ module _ (img : List ℕ) where
     past : (j : ℕ) → j < t.symbols → row ≤ j → scope_of (nodes img) t.words j ≢ s
     past j b l q =
         let c : row < t.symbols = omega arith in
-        let a = h.first-is.after row h.from c in
+        let a = h.first_is.after row h.from c in
         let r = h.says.kept.rising.rises row j l b in
         done c (omega arith)
 
@@ -152,7 +152,7 @@ module _ (img : List ℕ) where
     empty x g = find-not t s x (λ j b q n. pick j b q n (dec_lt j first) (dec_lt j row))
       where
         pick : (j : ℕ) → j < t.symbols → scope_of (nodes img) t.words j ≡ s → name_of img (node_at (nodes img) t.words j) ≡ x → Dec (j < first) → Dec (j < row) → ⊥
-        pick j b q n (yes l) d = let z = h.first-is.before j l b in absurd (omega arith)
+        pick j b q n (yes l) d = let z = h.first_is.before j l b in absurd (omega arith)
         pick j b q n (no l) (yes k) = g j (omega arith) k n
         pick j b q n (no l) (no k) = past j b (omega arith) q
 
@@ -161,11 +161,11 @@ module _ (img : List ℕ) where
     word-done x (still w g) =
         let p = parent_at (nodes img) t.words s in
         subst (λ o. Tells img t (standing env x) o)
-        (lookup-child img t s p x refl h.first-is.lower ∙ ap (λ o. or_else o (lookup img t p x)) (empty x g)) w
+        (lookup-child img t s p x refl h.first_is.lower ∙ ap (λ o. or_else o (lookup img t p x)) (empty x g)) w
 
     pub leaving-done : Stands img (above img e) env
     leaving-done =
-        record { says = h.says; live = (let a = h.first-is.lower in let b = h.live in omega arith); here = λ x l. word-done x (h.words x l) }
+        record { says = h.says; live = (let a = h.first_is.lower in let b = h.live in omega arith); here = λ x l. word-done x (h.words x l) }
 
   -- the first step of a path, and where a path ends
   pub record Step (t : Table) (to s : ℕ) : Type 0 where

@@ -153,10 +153,10 @@ is_ordinary (defined k) = false
 
 module _ (p : Place) (own : p.sort ≡ ordinary) where
   -- p was met before, or is listed
-  abbrev Met-or : List Spot → Met → Type 0
-  Met-or l m = In p m.places ⊎ In (spot_of p) l
+  abbrev MetOr : List Spot → Met → Type 0
+  MetOr l m = In p m.places ⊎ In (spot_of p) l
 
-  here : (σ : Sort) (o : ℕ) (b : List ℕ) (i : ℕ) (m : Met) → In p (add σ o b i m).places → Met-or (term_if (is_ordinary σ) o i) m
+  here : (σ : Sort) (o : ℕ) (b : List ℕ) (i : ℕ) (m : Met) → In p (add σ o b i m).places → MetOr (term_if (is_ordinary σ) o i) m
   unfolding add term_if
   here σ o b i m (inr j) = inl j
   here ordinary o b i m (inl e) = inr (inl (ap spot_of e))
@@ -165,14 +165,14 @@ module _ (p : Place) (own : p.sort ≡ ordinary) where
   here (defined k) o b i m (inl e) = absurd (false≢true (ap (λ (q : Place). is_ordinary q.sort) (sym e) ∙ ap is_ordinary own))
 
   -- of two lists one after the other
-  joined : (k l : List Spot) (m m' : Met) → (In p m'.places → Met-or k m) → Met-or l m' → Met-or (k ++ l) m
+  joined : (k l : List Spot) (m m' : Met) → (In p m'.places → MetOr k m) → MetOr l m' → MetOr (k ++ l) m
   joined k l m m' f (inl i) = elim (f i) [ inl j ↦ inl j | inr j ↦ inr (in_left (spot_of p) k l j) ]
   joined k l m m' f (inr i) = inr (in_right (spot_of p) k l i)
 
   mutual
     unfolding place terms opened head_sort below_head
 
-    met : (u : Tree) (σ : Sort) (o : ℕ) (b : List ℕ) (m : Met) → In p (place σ o b u m).places → Met-or (terms (is_ordinary σ) o u) m
+    met : (u : Tree) (σ : Sort) (o : ℕ) (b : List ℕ) (m : Met) → In p (place σ o b u m).places → MetOr (terms (is_ordinary σ) o u) m
     met (block ts) σ o b m i = met_seq ts ordinary o (m.next ∷ b) (opened m) i
     met (node n k (outer c) sh ts) σ o b m i = inl i
     met (node n k (inner plain) sh ts) σ o b m i = met_seq ts ordinary n b m i
@@ -188,18 +188,18 @@ module _ (p : Place) (own : p.sort ≡ ordinary) where
     met (node n k (inner defined_then) sh ts) σ o b m i = met_then ts (defined m.next) refl n b m i
     met (node n k (inner arg) sh ts) σ o b m i = inl i
 
-    met_seq : (us : Trees) (σ : Sort) (o : ℕ) (b : List ℕ) (m : Met) → In p (place_seq σ o b us m).places → Met-or (terms_seq (is_ordinary σ) o us) m
+    met_seq : (us : Trees) (σ : Sort) (o : ℕ) (b : List ℕ) (m : Met) → In p (place_seq σ o b us m).places → MetOr (terms_seq (is_ordinary σ) o us) m
     met_seq none σ o b m i = inl i
     met_seq (u ◂ us) σ o b m i =
         joined (terms (is_ordinary σ) o u) (terms_seq (is_ordinary σ) o us) m (place σ o b u m) (λ j. met u σ o b m j) (met_seq us σ o b (place σ o b u m) i)
 
-    met_then : (us : Trees) (σ : Sort) → is_ordinary σ ≡ false → (o : ℕ) (b : List ℕ) (m : Met) → In p (place_then σ o b us m).places → Met-or (terms_first o us) m
+    met_then : (us : Trees) (σ : Sort) → is_ordinary σ ≡ false → (o : ℕ) (b : List ℕ) (m : Met) → In p (place_then σ o b us m).places → MetOr (terms_first o us) m
     met_then none σ q o b m i = inl i
     met_then (u ◂ us) σ q o b m i =
         joined (terms true o u) (terms_seq false o us) m (place ordinary o b u m) (λ j. met u ordinary o b m j)
-        (subst (λ (c : Bool). Met-or (terms_seq c o us) (place ordinary o b u m)) q (met_seq us σ o b (place ordinary o b u m) i))
+        (subst (λ (c : Bool). MetOr (terms_seq c o us) (place ordinary o b u m)) q (met_seq us σ o b (place ordinary o b u m) i))
 
-    met_first : (us : Trees) (o : ℕ) (b : List ℕ) (m : Met) → In p (place_first o b us m).places → Met-or (terms_first o us) m
+    met_first : (us : Trees) (o : ℕ) (b : List ℕ) (m : Met) → In p (place_first o b us m).places → MetOr (terms_first o us) m
     met_first none o b m i = inl i
     met_first (u ◂ us) o b m i = joined (terms true o u) (terms_seq false o us) m (place ordinary o b u m) (λ j. met u ordinary o b m j) (inl i)
 

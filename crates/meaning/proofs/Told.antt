@@ -147,12 +147,12 @@ module _ (img : List ℕ) (T : Table) where
 
   -- entries and exits are told if Q, under which each node stands once; where the walk stands is told in any case
   module _ (Q : Type 0) where
-    abbrev Kept-by : List ℕ → Table → Type 0
-    Kept-by ns t = Ends img T Q ns t
+    abbrev KeptBy : List ℕ → Table → Type 0
+    KeptBy ns t = Ends img T Q ns t
 
     -- the node n around what stands below it
-    wrapped : (n : ℕ) (ns : List ℕ) {env env' : Env} {X : Type 0} (e e' : Walked) → Walks img ns e e' → At env e → (Kept-by ns e'.table → (Q → X) × At env' e')
-        → Kept-by (ns ++ (n ∷ [])) (mark img n e.scope e'.scope e'.table) → (Q → Around img T n env env' × X) × At env' (marked img n e.scope e')
+    wrapped : (n : ℕ) (ns : List ℕ) {env env' : Env} {X : Type 0} (e e' : Walked) → Walks img ns e e' → At env e → (KeptBy ns e'.table → (Q → X) × At env' e')
+        → KeptBy (ns ++ (n ∷ [])) (mark img n e.scope e'.scope e'.table) → (Q → Around img T n env env' × X) × At env' (marked img n e.scope e')
     unfolding marked
     wrapped n ns {env} {env'} e e' w a below k =
         let i = in_right n ns (n ∷ []) (inl refl) in
@@ -172,7 +172,7 @@ module _ (img : List ℕ) (T : Table) where
       said b = elim (not b) [ true ↦ named i env | false ↦ env ]
 
       picked : (b : Bool) → ((s x : ℕ) → s < e.table.scopes → lookup img T s x ≡ lookup img e.table s x)
-          → Kept-by (i ∷ []) (mark img i e.scope (stepped b).scope (stepped b).table) → At (said b) (stepped b)
+          → KeptBy (i ∷ []) (mark img i e.scope (stepped b).scope (stepped b).table) → At (said b) (stepped b)
       unfolding mark introduce
       picked true old k = a
       picked false old k =
@@ -192,7 +192,7 @@ module _ (img : List ℕ) (T : Table) where
           }
 
       ident-at : {r : Role} {p : Part} → Alike e.table.scopes r p → ((s x : ℕ) → s < e.table.scopes → lookup img T s x ≡ lookup img e.table s x)
-          → Kept-by (i ∷ []) (mark img i e.scope (walk_ident img r i e).scope (walk_ident img r i e).table)
+          → KeptBy (i ∷ []) (mark img i e.scope (walk_ident img r i e).scope (walk_ident img r i e).table)
           → At (meets_ident p i env) (walk_ident img r i e)
       unfolding walk_ident meet_ident introduces
       ident-at as-names old k = a
@@ -214,7 +214,7 @@ module _ (img : List ℕ) (T : Table) where
 
     -- an IdentTerm, marked
     ident-told : {r : Role} {p : Part} (i k : ℕ) (sh : List ℕ) (us : Trees) {env : Env} (e : Walked) → Alike e.table.scopes r p → At env e
-        → Kept-by (i ∷ []) (walk img r (node i k (inner ident) sh us) e).table
+        → KeptBy (i ∷ []) (walk img r (node i k (inner ident) sh us) e).table
         → (Q → Around img T i env (meets_ident p i env)) × At (meets_ident p i env) (walk img r (node i k (inner ident) sh us) e)
     unfolding walk numbers marked
     ident-told {r} {p} i k sh us {env} e q a h =
@@ -231,21 +231,21 @@ module _ (img : List ℕ) (T : Table) where
     -- trees -------------------------------------------------------------------------------------------------------------
     -- the one child is an IdentTerm
     lone-told : {r : Role} {p : Part} (ts : Trees) → IdentOnly img ts → {env : Env} (e : Walked) → Alike e.table.scopes r p → At env e
-        → Kept-by (numbers_seq ts) (walk_seq img r ts e).table → (Q → ToldSeq p ts env) × At (meets_seq p ts env) (walk_seq img r ts e)
+        → KeptBy (numbers_seq ts) (walk_seq img r ts e).table → (Q → ToldSeq p ts env) × At (meets_seq p ts env) (walk_seq img r ts e)
     unfolding numbers walk meet Told
     lone-told {r} {p} ts h {env} e q a =
-        subst (λ (us : Trees). Kept-by (numbers_seq us) (walk_seq img r us e).table → (Q → ToldSeq p us env) × At (meets_seq p us env) (walk_seq img r us e)) (sym h.only)
+        subst (λ (us : Trees). KeptBy (numbers_seq us) (walk_seq img r us e).table → (Q → ToldSeq p us env) × At (meets_seq p us env) (walk_seq img r us e)) (sym h.only)
         (λ k. let f = ident-told h.i h.k h.sh h.us e q a k in ((λ c. (f.0 c, tt)), f.1))
 
     -- member names
-    names-told : (us : Trees) → Idents img us → {env : Env} (e : Walked) → At env e → Kept-by (numbers_seq us) (walk_seq img walking.names us e).table
+    names-told : (us : Trees) → Idents img us → {env : Env} (e : Walked) → At env e → KeptBy (numbers_seq us) (walk_seq img walking.names us e).table
         → (Q → ToldSeq names us env) × At (meets_seq names us env) (walk_seq img walking.names us e)
     unfolding numbers walk meet meet_ident introduces Told Idents
     names-told none h e a k = ((λ c. tt), a)
     names-told (block ts ◂ us) h e a k = absurd h
     names-told (node n k c sh ts ◂ us) h {env} e a kept =
         subst
-        (λ (d : Class). Kept-by (numbers_seq (node n k d sh ts ◂ us)) (walk_seq img walking.names (node n k d sh ts ◂ us) e).table
+        (λ (d : Class). KeptBy (numbers_seq (node n k d sh ts ◂ us)) (walk_seq img walking.names (node n k d sh ts ◂ us) e).table
         → (Q → ToldSeq names (node n k d sh ts ◂ us) env) × At (meets_seq names (node n k d sh ts ◂ us) env) (walk_seq img walking.names (node n k d sh ts ◂ us) e))
         (sym h.0)
         (λ kp.
@@ -258,7 +258,7 @@ module _ (img : List ℕ) (T : Table) where
     mutual
       unfolding numbers walk meet Told Body
 
-      told : (u : Tree) → Body img u → {r : Role} {p : Part} {env : Env} (e : Walked) → Alike e.table.scopes r p → At env e → Kept-by (numbers u) (walk img r u e).table
+      told : (u : Tree) → Body img u → {r : Role} {p : Part} {env : Env} (e : Walked) → Alike e.table.scopes r p → At env e → KeptBy (numbers u) (walk img r u e).table
           → (Q → Told p u env) × At (meets p u env) (walk img r u e)
       told (block ts) h e q a k =
           let f = told_seq ts h e as-occurs a k in
@@ -295,7 +295,7 @@ module _ (img : List ℕ) (T : Table) where
       told (node n k (inner arg) sh ts) h e q a kp = absurd h
 
       told_seq : (us : Trees) → Bodies img us → {r : Role} {p : Part} {env : Env} (e : Walked) → Alike e.table.scopes r p → At env e
-          → Kept-by (numbers_seq us) (walk_seq img r us e).table → (Q → ToldSeq p us env) × At (meets_seq p us env) (walk_seq img r us e)
+          → KeptBy (numbers_seq us) (walk_seq img r us e).table → (Q → ToldSeq p us env) × At (meets_seq p us env) (walk_seq img r us e)
       told_seq none h e q a k = ((λ c. tt), a)
       told_seq (u ◂ us) h {r} {p} {env} e q a k =
           let e' = walk img r u e in
@@ -305,7 +305,7 @@ module _ (img : List ℕ) (T : Table) where
           ((λ c. (f.0 c, g.0 c)), g.1)
 
       told_then : (us : Trees) → Bodies img us → {r : Role} {p : Part} {env : Env} (e : Walked) → Alike e.table.scopes r p → At env e
-          → Kept-by (numbers_seq us) (walk_first img r us e).table → (Q → ToldThen p us env) × At (meet_then (name_of img) (kind_at img) p us env) (walk_first img r us e)
+          → KeptBy (numbers_seq us) (walk_first img r us e).table → (Q → ToldThen p us env) × At (meet_then (name_of img) (kind_at img) p us env) (walk_first img r us e)
       told_then none h e q a k = ((λ c. tt), a)
       told_then (u ◂ us) h {r} {p} {env} e q a k =
           let e' = walk img walking.occurs u e in
@@ -314,7 +314,7 @@ module _ (img : List ℕ) (T : Table) where
           let g = told_seq us h.1 e' (alike-more (walks-rise img v) q) f.1 (ends-after img T Q (numbers u) (numbers_seq us) (walk_seq img r us e').table k) in
           ((λ c. (f.0 c, g.0 c)), g.1)
 
-      told_first : (us : Trees) → Members img us → {env : Env} (e : Walked) → At env e → Kept-by (numbers_seq us) (walk_first img walking.names us e).table
+      told_first : (us : Trees) → Members img us → {env : Env} (e : Walked) → At env e → KeptBy (numbers_seq us) (walk_first img walking.names us e).table
           → (Q → ToldThen names us env) × At (meets_then names us env) (walk_first img walking.names us e)
       told_first none h e a k = ((λ c. tt), a)
       told_first (u ◂ us) h {env} e a k =
@@ -324,9 +324,9 @@ module _ (img : List ℕ) (T : Table) where
           ((λ c. (f.0 c, g.0 c)), g.1)
 
     -- trees of a rule, from where the environment says what lookup gives
-    pub rule_told : (ts : Trees) → Bodies img ts → {env : Env} (e : Walked) → At env e → Kept-by (numbers_seq ts) (walk_seq img walking.occurs ts e).table → Q → ToldSeq occurs ts env
+    pub rule_told : (ts : Trees) → Bodies img ts → {env : Env} (e : Walked) → At env e → KeptBy (numbers_seq ts) (walk_seq img walking.occurs ts e).table → Q → ToldSeq occurs ts env
     rule_told ts h e a k = (told_seq ts h e as-occurs a k).0
 
     pub rule-met : (ts : Trees) → Bodies img ts → {r : Role} {p : Part} {env : Env} (e : Walked) → Alike e.table.scopes r p → At env e
-        → Kept-by (numbers_seq ts) (walk_seq img r ts e).table → At (meets_seq p ts env) (walk_seq img r ts e)
+        → KeptBy (numbers_seq ts) (walk_seq img r ts e).table → At (meets_seq p ts env) (walk_seq img r ts e)
     rule-met ts h e q a k = (told_seq ts h e q a k).1

@@ -269,8 +269,8 @@ module _ (img : List ℕ) where
     pub left : RunLeft (λ i. run (unequal img i) i 0) (names img) i
     pub start_is : start ≡ name_start img i
     pub few : i ≤ names img
-    pub heads-long : length heads ≡ 1024
-    pub next-long : length next ≡ 1024
+    pub heads_long : length heads ≡ 1024
+    pub next_long : length next ≡ 1024
     pub low : (h : ℕ) → get_or heads h 0 ≤ i
     pub falls : (j : ℕ) → j < i → get_or next j 0 ≤ j
     pub reach : (m : ℕ) → m < i → Reach next (get_or heads (bucket_of m) 0) m
@@ -282,8 +282,8 @@ module _ (img : List ℕ) where
         left = run-begin _ _;
         start_is = refl;
         few = omega arith;
-        heads-long = length-replicate {A = ℕ} 1024 0;
-        next-long = length-replicate {A = ℕ} 1024 0;
+        heads_long = length-replicate {A = ℕ} 1024 0;
+        next_long = length-replicate {A = ℕ} 1024 0;
         low = λ h. zeros 1024 h;
         falls = λ j h. absurd (omega arith);
         reach = λ m h. absurd (omega arith);
@@ -318,13 +318,13 @@ module _ (img : List ℕ) where
         go : Dec (g < h) → Dec (h < g) → get_or (set heads h x) g 0 ≤ x ⊎ (get_or (set heads h x) g 0 ≡ get_or heads g 0)
         go (yes a) y = inr (get_or-set_other heads h g x 0 (λ z. omega arith))
         go (no a) (yes c) = inr (get_or-set_other heads h g x 0 (λ z. omega arith))
-        go (no a) (no c) = let z : g ≡ h = omega arith in let t = b.heads-long in inl (let w = get_or-set_same heads h x 0 (omega arith) in rw z (omega arith))
+        go (no a) (no c) = let z : g ≡ h = omega arith in let t = b.heads_long in inl (let w = get_or-set_same heads h x 0 (omega arith) in rw z (omega arith))
 
     next-at : get_or (set next i first) i 0 ≡ first
-    next-at = let t = b.next-long in get_or-set_same next i first 0 (omega arith)
+    next-at = let t = b.next_long in get_or-set_same next i first 0 (omega arith)
 
     heads-at : get_or (set heads h (i + 1)) h 0 ≡ suc i
-    heads-at = let t = b.heads-long in get_or-set_same heads h (i + 1) 0 (omega arith) ∙ add-one i
+    heads-at = let t = b.heads_long in get_or-set_same heads h (i + 1) 0 (omega arith) ∙ add-one i
 
     chain : Reach (set next i first) (suc i) i
     chain = here
@@ -353,8 +353,8 @@ module _ (img : List ℕ) where
           left = run-next _ _ i b.left l (none-meets m);
           start_is = rw add-one e;
           few = omega arith;
-          heads-long = length-set heads h (i + 1) ∙ b.heads-long;
-          next-long = length-set next i first ∙ b.next-long;
+          heads_long = length-set heads h (i + 1) ∙ b.heads_long;
+          next_long = length-set next i first ∙ b.next_long;
           low = λ g. lower g (either (i + 1) g);
           falls = λ j q. fall j q (dec_lt j i);
           reach = reaches;

@@ -14,17 +14,17 @@ use Rattle.typed.specs.Nodes.{term_at, app_head_at, type_expr_at, pred_expr_at, 
 use Rattle.typed.specs.declared.nodes.Term.{Term}
 use Rattle.typed.specs.declared.nodes.Term.TheVariants as in_term
 use Rattle.typed.specs.declared.nodes.AppHead.{AppHead}
-use Rattle.typed.specs.declared.nodes.AppHead.TheVariants as head_of
+use Rattle.typed.specs.declared.nodes.AppHead.TheVariants as in_head
 use Rattle.typed.specs.declared.nodes.TypeExpr.{TypeExpr}
-use Rattle.typed.specs.declared.nodes.TypeExpr.TheVariants as type-of
+use Rattle.typed.specs.declared.nodes.TypeExpr.TheVariants as in_type
 use Rattle.typed.specs.declared.nodes.PredExpr.{PredExpr}
-use Rattle.typed.specs.declared.nodes.PredExpr.TheVariants as Pred-of
+use Rattle.typed.specs.declared.nodes.PredExpr.TheVariants as in_pred
 use Rattle.typed.specs.declared.nodes.IfAtom.{IfAtom}
-use Rattle.typed.specs.declared.nodes.IfAtom.TheVariants as if-of
+use Rattle.typed.specs.declared.nodes.IfAtom.TheVariants as in_if
 use Rattle.typed.specs.declared.nodes.ThenAtom.{ThenAtom}
-use Rattle.typed.specs.declared.nodes.ThenAtom.TheVariants as then-of
+use Rattle.typed.specs.declared.nodes.ThenAtom.TheVariants as in_then
 use Rattle.typed.specs.declared.nodes.Stmt.{Stmt}
-use Rattle.typed.specs.declared.nodes.Stmt.TheVariants as stmt-of
+use Rattle.typed.specs.declared.nodes.Stmt.TheVariants as in_stmt
 use Rattle.typed.specs.contracts.nodes.Term as Terms
 use Rattle.typed.specs.contracts.nodes.TypeExpr as TypeExprs
 use Rattle.typed.proofs.Enums.{TermIs, AppHeadIs, TypeExprIs, PredExprIs, IfAtomIs, ThenAtomIs, StmtIs, term_is, app-head-is, type-expr-is, pred-expr-is, if-atom-is, then-atom-is, stmt-is}
@@ -50,35 +50,35 @@ module _ (img : List ℕ) (t : Table) (env : List ℕ) (n c : ℕ) where
   TermCase (in_term.Comp i) = Sub img t env two_terms n i.0.0 c
 
   abbrev pub HeadCase : AppHead → Type 0
-  HeadCase (head_of.Ident i) = Ident img t env n i.0.0 c
-  HeadCase (head_of.Member i) = Sub img t env (kind_of app_head_member_kind) n i.0.0 c
-  HeadCase (head_of.Term i) = Sub img t env (kind_of term_kind) n i.0.0 c
+  HeadCase (in_head.Ident i) = Ident img t env n i.0.0 c
+  HeadCase (in_head.Member i) = Sub img t env (kind_of app_head_member_kind) n i.0.0 c
+  HeadCase (in_head.Term i) = Sub img t env (kind_of term_kind) n i.0.0 c
 
   abbrev pub TypeCase : TypeExpr → Type 0
-  TypeCase (type-of.Ambient i) = Bare
-  TypeCase (type-of.Member i) = Sub img t env (kind_of term_member_kind) n i.0.0 c
-  TypeCase (type-of.Mor i) = Bare
+  TypeCase (in_type.Ambient i) = Bare
+  TypeCase (in_type.Member i) = Sub img t env (kind_of term_member_kind) n i.0.0 c
+  TypeCase (in_type.Mor i) = Bare
 
   abbrev pub PredCase : PredExpr → Type 0
-  PredCase (Pred-of.Ambient i) = Bare
-  PredCase (Pred-of.Member i) = Sub img t env (kind_of term_member_kind) n i.0.0 c
+  PredCase (in_pred.Ambient i) = Bare
+  PredCase (in_pred.Member i) = Sub img t env (kind_of term_member_kind) n i.0.0 c
 
   abbrev pub IfCase : IfAtom → Type 0
-  IfCase (if-of.Equal i) = Sub img t env two_terms n i.0.0 c
-  IfCase (if-of.Defined i) = Sub img t env one_term n i.0.0 c
-  IfCase (if-of.Pred i) = Sub img t env (kind_of pred_atom_kind) n i.0.0 c
-  IfCase (if-of.Var i) = Sub img t env (kind_of var_if_atom_kind) n i.0.0 c
+  IfCase (in_if.Equal i) = Sub img t env two_terms n i.0.0 c
+  IfCase (in_if.Defined i) = Sub img t env one_term n i.0.0 c
+  IfCase (in_if.Pred i) = Sub img t env (kind_of pred_atom_kind) n i.0.0 c
+  IfCase (in_if.Var i) = Sub img t env (kind_of var_if_atom_kind) n i.0.0 c
 
   abbrev pub ThenCase : ThenAtom → Type 0
-  ThenCase (then-of.Equal i) = Sub img t env two_terms n i.0.0 c
-  ThenCase (then-of.Defined i) = Sub img t env (kind_of defined_then_atom_kind) n i.0.0 c
-  ThenCase (then-of.Pred i) = Sub img t env (kind_of pred_atom_kind) n i.0.0 c
+  ThenCase (in_then.Equal i) = Sub img t env two_terms n i.0.0 c
+  ThenCase (in_then.Defined i) = Sub img t env (kind_of defined_then_atom_kind) n i.0.0 c
+  ThenCase (in_then.Pred i) = Sub img t env (kind_of pred_atom_kind) n i.0.0 c
 
   abbrev pub StmtCase : Stmt → Type 0
-  StmtCase (stmt-of.If i) = Sub img t env (kind_of if_stmt_kind) n i.0.0 c
-  StmtCase (stmt-of.Then i) = Sub img t env (kind_of then_stmt_kind) n i.0.0 c
-  StmtCase (stmt-of.Branch i) = Sub img t env (kind_of branch_stmt_kind) n i.0.0 c
-  StmtCase (stmt-of.Match i) = Sub img t env (kind_of match_stmt_kind) n i.0.0 c
+  StmtCase (in_stmt.If i) = Sub img t env (kind_of if_stmt_kind) n i.0.0 c
+  StmtCase (in_stmt.Then i) = Sub img t env (kind_of then_stmt_kind) n i.0.0 c
+  StmtCase (in_stmt.Branch i) = Sub img t env (kind_of branch_stmt_kind) n i.0.0 c
+  StmtCase (in_stmt.Match i) = Sub img t env (kind_of match_stmt_kind) n i.0.0 c
 
 -- the kinds of the children of a type expression's cases, of a predicate expression's, of atoms' and of a statement's
 abbrev type_kinds : List ℕ
@@ -135,9 +135,9 @@ module _ (img : List ℕ) (t : Table) (env : List ℕ) where
   head-case {n} {c} {s = s} p q r = go s (app-head-is img p.is q r)
     where
       go : (s : AppHead) → AppHeadIs img n s → HeadCase img t env n c s
-      go (head_of.Ident i) h = ident_of img t env (inner head) _ refl (λ ts. refl) p h.number h.child (asked-head img i.0.0 p.is h.number h.child)
-      go (head_of.Member i) h = wrapped img t env (inner head) head_kinds refl (λ ts. refl) p 1 h.number h.child refl refl
-      go (head_of.Term i) h = wrapped img t env (inner head) head_kinds refl (λ ts. refl) p 2 h.number h.child refl refl
+      go (in_head.Ident i) h = ident_of img t env (inner head) _ refl (λ ts. refl) p h.number h.child (asked-head img i.0.0 p.is h.number h.child)
+      go (in_head.Member i) h = wrapped img t env (inner head) head_kinds refl (λ ts. refl) p 1 h.number h.child refl refl
+      go (in_head.Term i) h = wrapped img t env (inner head) head_kinds refl (λ ts. refl) p 2 h.number h.child refl refl
 
   leaf : {n d c : ℕ} → Sub img t env (kind_by (inner plain) (name ∷ [])) n d c → Bare img t env n c
   leaf s = s.whole ∙ leaf-rows img t s.ready.is
@@ -147,52 +147,52 @@ module _ (img : List ℕ) (t : Table) (env : List ℕ) where
   type-case {n} {c} {s = s} p q r = go s (type-expr-is img p.is q r)
     where
       go : (s : TypeExpr) → TypeExprIs img n s → TypeCase img t env n c s
-      go (type-of.Ambient i) h = leaf (wrapped img t env (inner plain) type_kinds refl (λ ts. refl) p 0 h.number h.child refl refl)
-      go (type-of.Member i) h = wrapped img t env (inner plain) type_kinds refl (λ ts. refl) p 1 h.number h.child refl refl
-      go (type-of.Mor i) h = leaf (wrapped img t env (inner plain) type_kinds refl (λ ts. refl) p 2 h.number h.child refl refl)
+      go (in_type.Ambient i) h = leaf (wrapped img t env (inner plain) type_kinds refl (λ ts. refl) p 0 h.number h.child refl refl)
+      go (in_type.Member i) h = wrapped img t env (inner plain) type_kinds refl (λ ts. refl) p 1 h.number h.child refl refl
+      go (in_type.Mor i) h = leaf (wrapped img t env (inner plain) type_kinds refl (λ ts. refl) p 2 h.number h.child refl refl)
 
   -- Ambient or Mor
   pub type-none : {n c : ℕ} {o : TypeExpr} → Ready img t env (kind_of type_expr_kind) n c → o ≡ type_expr_at img n → OneOf (0 ∷ 2 ∷ []) (tag_of TypeExprs.the_type o) → Bare img t env n c
   type-none {n} {c} {o} p q k = go o refl k
     where
       go : (s : TypeExpr) → o ≡ s → OneOf (0 ∷ 2 ∷ []) (tag_of TypeExprs.the_type s) → Bare img t env n c
-      go (type-of.Ambient i) r k = type-case p q r
-      go (type-of.Member i) r k = absurd (miss (0 ∷ 2 ∷ []) 1 tt k)
-      go (type-of.Mor i) r k = type-case p q r
+      go (in_type.Ambient i) r k = type-case p q r
+      go (in_type.Member i) r k = absurd (miss (0 ∷ 2 ∷ []) 1 tt k)
+      go (in_type.Mor i) r k = type-case p q r
 
   pub pred-case : {n c : ℕ} {o s : PredExpr} → Ready img t env (kind_of pred_expr_kind) n c → o ≡ pred_expr_at img n → o ≡ s → PredCase img t env n c s
   unfolding kind_of bare threads ordered
   pred-case {n} {c} {s = s} p q r = go s (pred-expr-is img p.is q r)
     where
       go : (s : PredExpr) → PredExprIs img n s → PredCase img t env n c s
-      go (Pred-of.Ambient i) h = leaf (wrapped img t env (inner plain) pred_kinds refl (λ ts. refl) p 0 h.number h.child refl refl)
-      go (Pred-of.Member i) h = wrapped img t env (inner plain) pred_kinds refl (λ ts. refl) p 1 h.number h.child refl refl
+      go (in_pred.Ambient i) h = leaf (wrapped img t env (inner plain) pred_kinds refl (λ ts. refl) p 0 h.number h.child refl refl)
+      go (in_pred.Member i) h = wrapped img t env (inner plain) pred_kinds refl (λ ts. refl) p 1 h.number h.child refl refl
 
   pub if-case : {n c : ℕ} {o s : IfAtom} → Ready img t env (kind_of if_atom_kind) n c → o ≡ if_atom_at img n → o ≡ s → IfCase img t env n c s
   unfolding kind_of bare threads ordered
   if-case {n} {c} {s = s} p q r = go s (if-atom-is img p.is q r)
     where
       go : (s : IfAtom) → IfAtomIs img n s → IfCase img t env n c s
-      go (if-of.Equal i) h = wrapped img t env (inner plain) if_kinds refl (λ ts. refl) p 0 h.number h.child refl refl
-      go (if-of.Defined i) h = wrapped img t env (inner plain) if_kinds refl (λ ts. refl) p 1 h.number h.child refl refl
-      go (if-of.Pred i) h = wrapped img t env (inner plain) if_kinds refl (λ ts. refl) p 2 h.number h.child refl refl
-      go (if-of.Var i) h = wrapped img t env (inner plain) if_kinds refl (λ ts. refl) p 3 h.number h.child refl refl
+      go (in_if.Equal i) h = wrapped img t env (inner plain) if_kinds refl (λ ts. refl) p 0 h.number h.child refl refl
+      go (in_if.Defined i) h = wrapped img t env (inner plain) if_kinds refl (λ ts. refl) p 1 h.number h.child refl refl
+      go (in_if.Pred i) h = wrapped img t env (inner plain) if_kinds refl (λ ts. refl) p 2 h.number h.child refl refl
+      go (in_if.Var i) h = wrapped img t env (inner plain) if_kinds refl (λ ts. refl) p 3 h.number h.child refl refl
 
   pub then-case : {n c : ℕ} {o s : ThenAtom} → Ready img t env (kind_of then_atom_kind) n c → o ≡ then_atom_at img n → o ≡ s → ThenCase img t env n c s
   unfolding kind_of bare threads ordered
   then-case {n} {c} {s = s} p q r = go s (then-atom-is img p.is q r)
     where
       go : (s : ThenAtom) → ThenAtomIs img n s → ThenCase img t env n c s
-      go (then-of.Equal i) h = wrapped img t env (inner plain) then_kinds refl (λ ts. refl) p 0 h.number h.child refl refl
-      go (then-of.Defined i) h = wrapped img t env (inner plain) then_kinds refl (λ ts. refl) p 1 h.number h.child refl refl
-      go (then-of.Pred i) h = wrapped img t env (inner plain) then_kinds refl (λ ts. refl) p 2 h.number h.child refl refl
+      go (in_then.Equal i) h = wrapped img t env (inner plain) then_kinds refl (λ ts. refl) p 0 h.number h.child refl refl
+      go (in_then.Defined i) h = wrapped img t env (inner plain) then_kinds refl (λ ts. refl) p 1 h.number h.child refl refl
+      go (in_then.Pred i) h = wrapped img t env (inner plain) then_kinds refl (λ ts. refl) p 2 h.number h.child refl refl
 
   pub stmt-case : {n c : ℕ} {o s : Stmt} → Ready img t env (kind_of stmt_kind) n c → o ≡ stmt_at img n → o ≡ s → StmtCase img t env n c s
   unfolding kind_of bare threads ordered
   stmt-case {n} {c} {s = s} p q r = go s (stmt-is img p.is q r)
     where
       go : (s : Stmt) → StmtIs img n s → StmtCase img t env n c s
-      go (stmt-of.If i) h = wrapped img t env (inner plain) stmt_kinds refl (λ ts. refl) p 0 h.number h.child refl refl
-      go (stmt-of.Then i) h = wrapped img t env (inner plain) stmt_kinds refl (λ ts. refl) p 1 h.number h.child refl refl
-      go (stmt-of.Branch i) h = wrapped img t env (inner plain) stmt_kinds refl (λ ts. refl) p 2 h.number h.child refl refl
-      go (stmt-of.Match i) h = wrapped img t env (inner plain) stmt_kinds refl (λ ts. refl) p 3 h.number h.child refl refl
+      go (in_stmt.If i) h = wrapped img t env (inner plain) stmt_kinds refl (λ ts. refl) p 0 h.number h.child refl refl
+      go (in_stmt.Then i) h = wrapped img t env (inner plain) stmt_kinds refl (λ ts. refl) p 1 h.number h.child refl refl
+      go (in_stmt.Branch i) h = wrapped img t env (inner plain) stmt_kinds refl (λ ts. refl) p 2 h.number h.child refl refl
+      go (in_stmt.Match i) h = wrapped img t env (inner plain) stmt_kinds refl (λ ts. refl) p 3 h.number h.child refl refl

@@ -24,7 +24,7 @@ use Rattle.typed.specs.Nodes.{decl_at}
 use Rattle.typed.specs.RowShapes.{Listed, WordList}
 use Rattle.typed.specs.declared.nodes.NodeList.{NodeList}
 use Rattle.typed.specs.declared.nodes.Decl.{Decl}
-use Rattle.typed.specs.declared.nodes.Decl.TheVariants as decl-of
+use Rattle.typed.specs.declared.nodes.Decl.TheVariants as in_decl
 use Rattle.typed.specs.contracts.nodes.Decl as Decls
 use Rattle.typed.proofs.Enums.{DeclIs, decl-is}
 use Rattle.typed.proofs.Lists.{at-list}
@@ -203,26 +203,26 @@ module _ (img : List ℕ) (t : Table) (env : List ℕ) where
 
   -- the case of a declaration: a rule, a model, or one without rules
   abbrev pub DeclCase : ℕ → ℕ → Decl → Type 0
-  DeclCase n c (decl-of.Type i) = lists_in img t n ≡ []
-  DeclCase n c (decl-of.Pred i) = lists_in img t n ≡ []
-  DeclCase n c (decl-of.Func i) = lists_in img t n ≡ []
-  DeclCase n c (decl-of.Const i) = lists_in img t n ≡ []
-  DeclCase n c (decl-of.Rule i) = Declared rule_decl_kind n i.0.0 c
-  DeclCase n c (decl-of.Enum i) = lists_in img t n ≡ []
-  DeclCase n c (decl-of.Model i) = Declared model_decl_kind n i.0.0 c
+  DeclCase n c (in_decl.Type i) = lists_in img t n ≡ []
+  DeclCase n c (in_decl.Pred i) = lists_in img t n ≡ []
+  DeclCase n c (in_decl.Func i) = lists_in img t n ≡ []
+  DeclCase n c (in_decl.Const i) = lists_in img t n ≡ []
+  DeclCase n c (in_decl.Rule i) = Declared rule_decl_kind n i.0.0 c
+  DeclCase n c (in_decl.Enum i) = lists_in img t n ≡ []
+  DeclCase n c (in_decl.Model i) = Declared model_decl_kind n i.0.0 c
 
   pub decl-case : {n c : ℕ} {o s : Decl} → Listing img t env (kind_of decl_kind) n c → o ≡ decl_at img n → o ≡ s → DeclCase n c s
   unfolding kind_of
   decl-case {n} {c} {s = s} p q r = go s (decl-is img p.is q r)
     where
       go : (s : Decl) → DeclIs img n s → DeclCase n c s
-      go (decl-of.Type i) h = let d = declared p 0 h.number h.child refl in d.whole ∙ signature-none img t d.listing.is
-      go (decl-of.Pred i) h = let d = declared p 1 h.number h.child refl in d.whole ∙ signature-none img t d.listing.is
-      go (decl-of.Func i) h = let d = declared p 2 h.number h.child refl in d.whole ∙ signature-none img t d.listing.is
-      go (decl-of.Const i) h = let d = declared p 3 h.number h.child refl in d.whole ∙ signature-none img t d.listing.is
-      go (decl-of.Rule i) h = declared p 4 h.number h.child refl
-      go (decl-of.Enum i) h = let d = declared p 5 h.number h.child refl in d.whole ∙ enum-none img t d.listing.is
-      go (decl-of.Model i) h = declared p 6 h.number h.child refl
+      go (in_decl.Type i) h = let d = declared p 0 h.number h.child refl in d.whole ∙ signature-none img t d.listing.is
+      go (in_decl.Pred i) h = let d = declared p 1 h.number h.child refl in d.whole ∙ signature-none img t d.listing.is
+      go (in_decl.Func i) h = let d = declared p 2 h.number h.child refl in d.whole ∙ signature-none img t d.listing.is
+      go (in_decl.Const i) h = let d = declared p 3 h.number h.child refl in d.whole ∙ signature-none img t d.listing.is
+      go (in_decl.Rule i) h = declared p 4 h.number h.child refl
+      go (in_decl.Enum i) h = let d = declared p 5 h.number h.child refl in d.whole ∙ enum-none img t d.listing.is
+      go (in_decl.Model i) h = declared p 6 h.number h.child refl
 
   -- Type, Pred, Func, Const or Enum
   abbrev others : List ℕ
@@ -232,13 +232,13 @@ module _ (img : List ℕ) (t : Table) (env : List ℕ) where
   decl-none {n} {c} {o} p q k = go o refl k
     where
       go : (s : Decl) → o ≡ s → OneOf others (tag_of Decls.the_type s) → lists_in img t n ≡ []
-      go (decl-of.Type i) r k = decl-case p q r
-      go (decl-of.Pred i) r k = decl-case p q r
-      go (decl-of.Func i) r k = decl-case p q r
-      go (decl-of.Const i) r k = decl-case p q r
-      go (decl-of.Rule i) r k = absurd (miss others 4 tt k)
-      go (decl-of.Enum i) r k = decl-case p q r
-      go (decl-of.Model i) r k = absurd (miss others 6 tt k)
+      go (in_decl.Type i) r k = decl-case p q r
+      go (in_decl.Pred i) r k = decl-case p q r
+      go (in_decl.Func i) r k = decl-case p q r
+      go (in_decl.Const i) r k = decl-case p q r
+      go (in_decl.Rule i) r k = absurd (miss others 4 tt k)
+      go (in_decl.Enum i) r k = decl-case p q r
+      go (in_decl.Model i) r k = absurd (miss others 6 tt k)
 
   pub record RuleRun (n : ℕ) (l : NodeList) (c : ℕ) : Type 0 where
     pub run : ReadyAll img t env stmt_kind l c
@@ -324,7 +324,7 @@ module _ (img : List ℕ) (t : Table) (env : List ℕ) where
 
   pub record ModuleRun (l : NodeList) : Type 0 where
     pub run : ListingAll img t env l 0
-    pub by-rule : rows_by_rule img t (module_rules img) ≡ lists_of img t l
+    pub by_rule : rows_by_rule img t (module_rules img) ≡ lists_of img t l
     pub whole : occurrence_rows img t ≡ joined (lists_of img t l)
 
   pub module_run : {n : ℕ} {l : NodeList} → Whole img t env → n ≡ last img → Listed img n 0 l → ModuleRun l
@@ -333,7 +333,7 @@ module _ (img : List ℕ) (t : Table) (env : List ℕ) where
       record {
         run = at-list img (λ m j k. ListingRun img t env m j k 0) q
             (record { run = run-list img (root_is img p.accepted) refl; noted = p.noted; few = subst (λ (k : List Row). 0 + length k ≤ nodes img) w (let f = p.few in omega arith) });
-        by-rule = at-list img (λ m j k. rows_by_rule img t (module_rules img) ≡ lists_at img t m k j) q b;
+        by_rule = at-list img (λ m j k. rows_by_rule img t (module_rules img) ≡ lists_at img t m k j) q b;
         whole = at-list img (λ m j k. occurrence_rows img t ≡ joined (lists_at img t m k j)) q w;
       }
     where

@@ -128,39 +128,39 @@ module _ (img : List ℕ) where
 
   -- what each list declares is symbols
   pub data SymbolLists : List (List ℕ) → Type 0 where
-    no-list : SymbolLists []
-    a-list : {ns : List ℕ} {nss : List (List ℕ)} → Symbols img ns → SymbolLists nss → SymbolLists (ns ∷ nss)
+    no_list : SymbolLists []
+    a_list : {ns : List ℕ} {nss : List (List ℕ)} → Symbols img ns → SymbolLists nss → SymbolLists (ns ∷ nss)
 
   lists-append : {nss mss : List (List ℕ)} → SymbolLists nss → SymbolLists mss → SymbolLists (nss ++ mss)
-  lists-append no-list b = b
-  lists-append (a-list h a) b = a-list h (lists-append a b)
+  lists-append no_list b = b
+  lists-append (a_list h a) b = a_list h (lists-append a b)
 
   mutual
     unfolding model_lists Everywhere
 
     model-symbols : (u : Tree) → Everywhere (Fit img) u → SymbolLists (model_lists u)
-    model-symbols (block ts) q = no-list
-    model-symbols (node n k (inner i) sh ts) q = no-list
-    model-symbols (node n k (outer root) sh ts) q = no-list
+    model-symbols (block ts) q = no_list
+    model-symbols (node n k (inner i) sh ts) q = no_list
+    model-symbols (node n k (outer root) sh ts) q = no_list
     model-symbols (node n k (outer decl) sh ts) q = models-symbols ts q.1
-    model-symbols (node n k (outer signature) sh ts) q = no-list
-    model-symbols (node n k (outer rule) sh ts) q = no-list
+    model-symbols (node n k (outer signature) sh ts) q = no_list
+    model-symbols (node n k (outer rule) sh ts) q = no_list
     model-symbols (node n k (outer enum) sh ts) q = models-symbols ts q.1
-    model-symbols (node n k (outer model) sh ts) q = a-list (declared_all-symbols img ts q.1) (models-symbols ts q.1)
+    model-symbols (node n k (outer model) sh ts) q = a_list (declared_all-symbols img ts q.1) (models-symbols ts q.1)
 
     models-symbols : (us : Trees) → EverywhereAll (Fit img) us → SymbolLists (model_lists_all us)
-    models-symbols none q = no-list
+    models-symbols none q = no_list
     models-symbols (u ◂ us) q = lists-append (model-symbols u q.0) (models-symbols us q.1)
 
   module-symbols : (u : Tree) → Everywhere (Fit img) u → SymbolLists (module_lists u)
   unfolding module_lists Everywhere
-  module-symbols (block ts) q = no-list
-  module-symbols (node n k c sh ts) q = a-list (declared_all-symbols img ts q.1) (models-symbols ts q.1)
+  module-symbols (block ts) q = no_list
+  module-symbols (node n k c sh ts) q = a_list (declared_all-symbols img ts q.1) (models-symbols ts q.1)
 
   lists-known : (nss : List (List ℕ)) → SymbolLists nss → (c : Clash) → clash_in (name_of img) nss ≡ some c → Known c
   unfolding clash_in
   lists-known [] a c e = absurd (no-clash e)
-  lists-known (ns ∷ nss) (a-list h a) c e = or-known (clash_from (name_of img) [] ns) (clash_in (name_of img) nss) (from-known [] ns nil h) (lists-known nss a) c e
+  lists-known (ns ∷ nss) (a_list h a) c e = or-known (clash_from (name_of img) [] ns) (clash_in (name_of img) nss) (from-known [] ns nil h) (lists-known nss a) c e
 
   first-known : verdict img ≡ 0 → (c : Clash) → first_clash img ≡ some c → Known c
   unfolding first_clash

@@ -277,8 +277,8 @@ module _ (img tab : List ℕ) where
     pub end : Walked
     pub passes : test_table img tab ≡ 0
     pub is : walked img tab ≡ done end
-    pub scopes-are : end.table.scopes ≡ k
-    pub symbols-are : end.table.symbols ≡ y
+    pub scopes_are : end.table.scopes ≡ k
+    pub symbols_are : end.table.symbols ≡ y
     pub table_is : ws ≡ headed img end.table
 
   pub filled : (k y : ℕ) → (resolve img tab).answer ≡ result k y → Fills k y (resolve img tab).table
@@ -295,8 +295,8 @@ module _ (img tab : List ℕ) where
             end = e;
             passes = p;
             is = h;
-            scopes-are = sym (ap (λ (u : Table). u.scopes) q) ∙ i;
-            symbols-are = sym (ap (λ (u : Table). u.symbols) q) ∙ j;
+            scopes_are = sym (ap (λ (u : Table). u.scopes) q) ∙ i;
+            symbols_are = sym (ap (λ (u : Table). u.symbols) q) ∙ j;
             table_is = ap (λ (u : Table). u.words) q;
           }
 
@@ -305,8 +305,8 @@ module _ (img tab : List ℕ) where
   bounds k y e =
       let f = filled k y e in
       let d = walked-ended img tab f.passes f.end f.is in
-      let a = f.scopes-are in
-      let b = f.symbols-are in
+      let a = f.scopes_are in
+      let b = f.symbols_are in
       let s = d.some in
       let u = d.scopes in
       let v = d.symbols in
@@ -325,7 +325,7 @@ module _ (img tab : List ℕ) where
       let f = filled k y e in
       let d = walked-ended img tab f.passes f.end f.is in
       let l : table_length (nodes img) ≤ length f.end.table.words = (let z = d.long in let w = zeroed-long img tab in omega arith) in
-      (ap (scopes_in img) f.table_is ∙ headed-scopes img f.end.table l ∙ f.scopes-are, ap (symbols_in img) f.table_is ∙ headed-symbols img f.end.table l ∙ f.symbols-are)
+      (ap (scopes_in img) f.table_is ∙ headed-scopes img f.end.table l ∙ f.scopes_are, ap (symbols_in img) f.table_is ∙ headed-symbols img f.end.table l ∙ f.symbols_are)
 
   -- the words past 3 + 5N are untouched, and the length stays
   pub rest-untouched : drop (table_length (nodes img)) (resolve img tab).table ≡ drop (table_length (nodes img)) tab

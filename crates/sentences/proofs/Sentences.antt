@@ -83,8 +83,8 @@ module _ (img : List ℕ) (t : Table) (accepted : verdict img ≡ 0) where
 
   -- row 1 stands at exactly the ident terms of a then-atom that introduce their name, except the defined variable and terms
   -- under Dom, Cod or a member predicate's receiver
-  pub row_one : (n : ℕ) → Memᴰ (row 1 n) (plain_rows img t) ↔ Introduced img t n
-  row_one n = (λ m. pick ((plain-all img t accepted).just (row 1 n) m), one-there)
+  pub row-one : (n : ℕ) → Memᴰ (row 1 n) (plain_rows img t) ↔ Introduced img t n
+  row-one n = (λ m. pick ((plain-all img t accepted).just (row 1 n) m), one-there)
     where
       pick : Justified img t (row 1 n) → Introduced img t n
       pick (inl h) = h.1

@@ -135,15 +135,15 @@ lone-list (l ∷ ls) w e = go (lone_in l l) refl (lone-list ls w) e
     go nothing p r q = let h = r q in (h.0, inr h.1, h.2)
     go (some v) p r q = (l, inl refl, p ∙ q)
 
-pub by-rule : (img : List ℕ) (t : Table) (rs : List Rule) (l : List Row) → In l (rows_by_rule img t rs) → (r : Rule) × In r rs × (l ≡ rule_rows img t r)
+pub by_rule : (img : List ℕ) (t : Table) (rs : List Rule) (l : List Row) → In l (rows_by_rule img t rs) → (r : Rule) × In r rs × (l ≡ rule_rows img t r)
 unfolding rows_by_rule
-by-rule img t [] l i = absurd i
-by-rule img t (r ∷ rs) l (inl e) = (r, inl refl, e)
-by-rule img t (r ∷ rs) l (inr i) = let h = by-rule img t rs l i in (h.0, inr h.1, h.2)
+by_rule img t [] l i = absurd i
+by_rule img t (r ∷ rs) l (inl e) = (r, inl refl, e)
+by_rule img t (r ∷ rs) l (inr i) = let h = by_rule img t rs l i in (h.0, inr h.1, h.2)
 
 pub once-lone : (img : List ℕ) (t : Table) (rs : List Rule) (walks : (r : Rule) → In r rs → WalkOf img r t) (w : Row)
     → lone (rows_by_rule img t rs) ≡ some w → (r : Rule) × (i : In r rs) × Lone img t r (walks r i) w
 once-lone img t rs walks w e =
     let a = lone-list (rows_by_rule img t rs) w e in
-    let b = by-rule img t rs a.0 a.1 in
+    let b = by_rule img t rs a.0 a.1 in
     (b.0, b.1, lone_is img t b.0 (walks b.0 b.1) w (subst (λ (l : List Row). lone_in l l ≡ some w) b.2 a.2))

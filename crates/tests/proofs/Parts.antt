@@ -134,10 +134,10 @@ module _ (x : ℕ) where
     unfolding part_of
     part-lists b = rw (le-ltb x 512 a, ne_eqb _ _ o, le-ltb x 576 (omega arith), le-ltb x 640 (omega arith), le-ltb x 704 (omega arith), le-ltb x 768 b, part_of)
 
-get_d_any : (l : List ℕ) (i d e : ℕ) → i < length l → get_or l i d ≡ get_or l i e
-get_d_any [] i d e h = absurd (omega arith)
-get_d_any (x ∷ l) zero d e h = refl
-get_d_any (x ∷ l) (suc i) d e h = get_d_any l i d e (omega arith)
+get_or-any : (l : List ℕ) (i d e : ℕ) → i < length l → get_or l i d ≡ get_or l i e
+get_or-any [] i d e h = absurd (omega arith)
+get_or-any (x ∷ l) zero d e h = refl
+get_or-any (x ∷ l) (suc i) d e h = get_or-any l i d e (omega arith)
 
 in_all : (i : ℕ) → i < 34 → i < length case_kinds
 unfolding case_kinds
@@ -150,4 +150,4 @@ module _ (from count : ℕ) (h : from + count ≤ 34) where
 
   pub case_at : (w d : ℕ) → w < count → get_or case_kinds (from + w) 0 ≡ get_or (case_list from count) w d
   unfolding case_list
-  case_at w d l = get_d_any case_kinds (from + w) 0 d (in_all (from + w) (omega arith)) ∙ sym (get_or-take count (drop from case_kinds) w d l ∙ get_or-drop from case_kinds w d)
+  case_at w d l = get_or-any case_kinds (from + w) 0 d (in_all (from + w) (omega arith)) ∙ sym (get_or-take count (drop from case_kinds) w d l ∙ get_or-drop from case_kinds w d)

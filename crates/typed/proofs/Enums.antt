@@ -17,15 +17,15 @@ use Rattle.typed.specs.declared.nodes.IdentTermId.{IdentTermId}
 use Rattle.typed.specs.declared.nodes.Term.{Term}
 use Rattle.typed.specs.declared.nodes.Term.TheVariants as term
 use Rattle.typed.specs.declared.nodes.AppHead.{AppHead}
-use Rattle.typed.specs.declared.nodes.AppHead.TheVariants as app-head
+use Rattle.typed.specs.declared.nodes.AppHead.TheVariants as app_head
 use Rattle.typed.specs.declared.nodes.TypeExpr.{TypeExpr}
-use Rattle.typed.specs.declared.nodes.TypeExpr.TheVariants as type-expr
+use Rattle.typed.specs.declared.nodes.TypeExpr.TheVariants as type_expr
 use Rattle.typed.specs.declared.nodes.PredExpr.{PredExpr}
-use Rattle.typed.specs.declared.nodes.PredExpr.TheVariants as pred-expr
+use Rattle.typed.specs.declared.nodes.PredExpr.TheVariants as pred_expr
 use Rattle.typed.specs.declared.nodes.IfAtom.{IfAtom}
-use Rattle.typed.specs.declared.nodes.IfAtom.TheVariants as if-atom
+use Rattle.typed.specs.declared.nodes.IfAtom.TheVariants as if_atom
 use Rattle.typed.specs.declared.nodes.ThenAtom.{ThenAtom}
-use Rattle.typed.specs.declared.nodes.ThenAtom.TheVariants as then-atom
+use Rattle.typed.specs.declared.nodes.ThenAtom.TheVariants as then_atom
 use Rattle.typed.specs.declared.nodes.Stmt.{Stmt}
 use Rattle.typed.specs.declared.nodes.Stmt.TheVariants as stmt
 use Rattle.typed.specs.contracts.nodes.Term as TermCode
@@ -56,29 +56,29 @@ module _ (img : List ℕ) (n : ℕ) where
   TermIs (term.Comp i) = Cased 7 i.0
 
   abbrev pub AppHeadIs : AppHead → Type 0
-  AppHeadIs (app-head.Ident i) = Cased 0 i.0
-  AppHeadIs (app-head.Member i) = Cased 1 i.0
-  AppHeadIs (app-head.Term i) = Cased 2 i.0
+  AppHeadIs (app_head.Ident i) = Cased 0 i.0
+  AppHeadIs (app_head.Member i) = Cased 1 i.0
+  AppHeadIs (app_head.Term i) = Cased 2 i.0
 
   abbrev pub TypeExprIs : TypeExpr → Type 0
-  TypeExprIs (type-expr.Ambient i) = Cased 0 i.0
-  TypeExprIs (type-expr.Member i) = Cased 1 i.0
-  TypeExprIs (type-expr.Mor i) = Cased 2 i.0
+  TypeExprIs (type_expr.Ambient i) = Cased 0 i.0
+  TypeExprIs (type_expr.Member i) = Cased 1 i.0
+  TypeExprIs (type_expr.Mor i) = Cased 2 i.0
 
   abbrev pub PredExprIs : PredExpr → Type 0
-  PredExprIs (pred-expr.Ambient i) = Cased 0 i.0
-  PredExprIs (pred-expr.Member i) = Cased 1 i.0
+  PredExprIs (pred_expr.Ambient i) = Cased 0 i.0
+  PredExprIs (pred_expr.Member i) = Cased 1 i.0
 
   abbrev pub IfAtomIs : IfAtom → Type 0
-  IfAtomIs (if-atom.Equal i) = Cased 0 i.0
-  IfAtomIs (if-atom.Defined i) = Cased 1 i.0
-  IfAtomIs (if-atom.Pred i) = Cased 2 i.0
-  IfAtomIs (if-atom.Var i) = Cased 3 i.0
+  IfAtomIs (if_atom.Equal i) = Cased 0 i.0
+  IfAtomIs (if_atom.Defined i) = Cased 1 i.0
+  IfAtomIs (if_atom.Pred i) = Cased 2 i.0
+  IfAtomIs (if_atom.Var i) = Cased 3 i.0
 
   abbrev pub ThenAtomIs : ThenAtom → Type 0
-  ThenAtomIs (then-atom.Equal i) = Cased 0 i.0
-  ThenAtomIs (then-atom.Defined i) = Cased 1 i.0
-  ThenAtomIs (then-atom.Pred i) = Cased 2 i.0
+  ThenAtomIs (then_atom.Equal i) = Cased 0 i.0
+  ThenAtomIs (then_atom.Defined i) = Cased 1 i.0
+  ThenAtomIs (then_atom.Pred i) = Cased 2 i.0
 
   abbrev pub StmtIs : Stmt → Type 0
   StmtIs (stmt.If i) = Cased 0 i.0

@@ -14,10 +14,10 @@ pub bucket-h-requires : goal.bucket-h-requires
 bucket-h-requires c = name-fits _ _ _ _ _ c.span_of-p.ensures.0
 
 pub offset_bounds-heads-h : goal.offset_bounds-heads-h
-offset_bounds-heads-h c = let b = c.bucket-h.ensures.1 in let l = c.loop-i.invariant.heads-long in let n = c.loop-i.invariant.next-long in omega arith
+offset_bounds-heads-h c = let b = c.bucket-h.ensures.1 in let l = c.loop-i.invariant.heads_long in let n = c.loop-i.invariant.next_long in omega arith
 
 pub bounds-heads-h : goal.bounds-heads-h
-bounds-heads-h c = let b = c.bucket-h.ensures.1 in let l = c.loop-i.invariant.heads-long in let n = c.loop-i.invariant.next-long in omega arith
+bounds-heads-h c = let b = c.bucket-h.ensures.1 in let l = c.loop-i.invariant.heads_long in let n = c.loop-i.invariant.next_long in omega arith
 
 pub overflow_cast-first : goal.overflow_cast-first
 overflow_cast-first c = omega (arith, c.loop-i.invariant.low c.bucket-h.result)
@@ -29,19 +29,19 @@ pub returns-then-meets : goal.returns-then-meets
 returns-then-meets c = sym (buckets-stop _ _ _ _ _ _ _ _ c.loop-i.invariant (omega arith) (omega arith) c.span_of-p.ensures.1 (bucket-is _ _ _ _ _ _ c.span_of-p.ensures.0 c.bucket-h.ensures.0) c.bucket-h.ensures.1 refl (rw c.if-meets.true at c.meets.ensures))
 
 pub overflow_cast-next : goal.overflow_cast-next
-overflow_cast-next c = let b = c.bucket-h.ensures.1 in let l = c.loop-i.invariant.heads-long in let n = c.loop-i.invariant.next-long in omega arith
+overflow_cast-next c = let b = c.bucket-h.ensures.1 in let l = c.loop-i.invariant.heads_long in let n = c.loop-i.invariant.next_long in omega arith
 
 pub offset_bounds-next-i : goal.offset_bounds-next-i
-offset_bounds-next-i c = let b = c.bucket-h.ensures.1 in let l = c.loop-i.invariant.heads-long in let n = c.loop-i.invariant.next-long in omega arith
+offset_bounds-next-i c = let b = c.bucket-h.ensures.1 in let l = c.loop-i.invariant.heads_long in let n = c.loop-i.invariant.next_long in omega arith
 
 pub bounds-next-i : goal.bounds-next-i
-bounds-next-i c = let b = c.bucket-h.ensures.1 in let l = c.loop-i.invariant.heads-long in let n = c.loop-i.invariant.next-long in omega arith
+bounds-next-i c = let b = c.bucket-h.ensures.1 in let l = c.loop-i.invariant.heads_long in let n = c.loop-i.invariant.next_long in omega arith
 
 pub offset_bounds-heads-h-in-loop-i : goal.offset_bounds-heads-h-in-loop-i
-offset_bounds-heads-h-in-loop-i c = let b = c.bucket-h.ensures.1 in let l = c.loop-i.invariant.heads-long in let n = c.loop-i.invariant.next-long in omega arith
+offset_bounds-heads-h-in-loop-i c = let b = c.bucket-h.ensures.1 in let l = c.loop-i.invariant.heads_long in let n = c.loop-i.invariant.next_long in omega arith
 
 pub bounds-heads-h-in-loop-i : goal.bounds-heads-h-in-loop-i
-bounds-heads-h-in-loop-i c = let b = c.bucket-h.ensures.1 in let l = c.loop-i.invariant.heads-long in let n = c.loop-i.invariant.next-long in omega arith
+bounds-heads-h-in-loop-i c = let b = c.bucket-h.ensures.1 in let l = c.loop-i.invariant.heads_long in let n = c.loop-i.invariant.next_long in omega arith
 
 pub loop-i-preserved : goal.loop-i-preserved
 loop-i-preserved c = buckets-next _ _ _ _ _ _ _ _ c.loop-i.invariant (omega arith) (omega arith) c.span_of-p.ensures.1 (bucket-is _ _ _ _ _ _ c.span_of-p.ensures.0 c.bucket-h.ensures.0) c.bucket-h.ensures.1 refl (rw c.if-meets.false at c.meets.ensures)

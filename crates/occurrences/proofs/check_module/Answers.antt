@@ -17,4 +17,4 @@ check_decls-requires c = ((module_run _ _ _ c.requires.0 (ap (λ (x : ℕ). x - 
 
 pub returns : goal.returns
 unfolding last
-returns c = c.check_decls.ensures.lone_is ∙ sym (ap lone (module_run _ _ _ c.requires.0 (ap (λ (x : ℕ). x - 1) c.node_count.ensures) c.module.ensures).by-rule)
+returns c = c.check_decls.ensures.lone_is ∙ sym (ap lone (module_run _ _ _ c.requires.0 (ap (λ (x : ℕ). x - 1) c.node_count.ensures) c.module.ensures).by_rule)
