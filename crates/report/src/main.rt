@@ -92,7 +92,7 @@ fn main(rt: HostRuntime) -> io::Result<()> {
 }
 
 #[cfg(test)]
-mod tests {
+mod failing_input {
     use super::*;
     use std::io::{Error, ErrorKind};
     use std::test::Fail;
