@@ -4,35 +4,16 @@
 #![tactic(auto)]
 
 ghost use Rattle.std.specs.Prelude.{◌≡◌, ◌≤◌, length, take, true, false, IfOk, OnOk, IfSome};
-ghost use Rattle.std.specs.Io.KnownBytes.{Appends, Consumes, IsAtEnd};
+ghost use Rattle.std.specs.Io.KnownBytes.{Appends, IsAtEnd};
 ghost use Rattle.lines.specs.Bytes.{report_bytes};
 ghost use Rattle.report.specs.Unread.{unread_line};
 
+use input::read_full;
 use std::io;
 use std::io::{Read, Write};
 
 // One byte more than any image has.
 const TOO_MANY: usize = 61457;
-
-// Reads until the buffer is full, the input ends or a read fails; how many bytes it put at the start of the buffer.
-fn read_full<R: Read>(input: &mut R, buffer: &mut [u8]) -> usize
-    ensures in_bounds { result ≤ length buffer.new }
-    ensures bytes { Consumes (R.remaining input.old) (R.remaining input.new) (take result buffer.new) }
-{
-    let mut done = 0;
-    while done < buffer.len() {
-        match input.read(&mut buffer[done..]) {
-            Ok(0) => {
-                return done;
-            }
-            Ok(n) => done += n,
-            Err(_) => {
-                return done;
-            }
-        }
-    }
-    done
-}
 
 // The input ends here: one more read gives nothing. (`read_full` stops at the end and at a read that fails.)
 fn at_end<R: Read>(input: &mut R) -> bool
