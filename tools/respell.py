@@ -1,7 +1,7 @@
 #!/usr/bin/env python3
 """Spells the repository's own definitions and lemmas as today's Rattle does: words in snake case, facts in camel case.
 
-usage: tools/respell.py [FOLDER]      in a tree that the kit's port.py has turned; the default is this repository
+usage: tools/respell.py FOLDER      a repository of the older spelling that the kit's port.py has turned
 
 It goes over the .rt and .antt files below crates/. Functions of src/ and exported C names have no capitals inside, and keep their names.
 A part of a name (dashes join the parts) that begins small and has a capital inside turns: kindAt -> kind_at, EverywhereAll-growAll -> EverywhereAll-grow_all.
@@ -16,12 +16,11 @@ CAPITAL = re.compile(r"(?<=[a-z0-9])[A-Z]")
 
 # old, new, the beginnings of the paths where it turns
 OTHER = [
-    # lemmas that would fall together with a definition: kit's port.py had drawn their parts together
+    # lemmas that would fall together with a definition: the kit's port.py had drawn their parts together
     ("blocks_end", "blocks-end", ["bindings/", "occurrences/", "ordered/", "tests/"]),
     ("marks_then", "marks-then", ["meaning/"]),
     ("one_place", "one-place", ["sight/", "exports/"]),
     ("plain_rows", "plain-rows", ["bindings/", "sentences/"]),
-    ("term_of", "in_term", ["occurrences/"]),
     # facts
     ("adds", "AddsHere", ["sight/proofs/Keep.antt", "sight/proofs/Good.antt"]),
     ("hits", "HitsHere", ["sight/proofs/Keep.antt", "sight/proofs/Good.antt"]),
@@ -34,6 +33,7 @@ OTHER = [
     ("list_same", "list-same", ["calls/"]),
     ("rows_stay", "rows-stay", ["calls/"]),
     # module aliases
+    ("term_of", "in_term", ["occurrences/"]),
     ("head_of", "in_head", ["occurrences/proofs/CollectCases.antt"]),
     ("type-of", "in_type", ["occurrences/proofs/CollectCases.antt"]),
     ("Pred-of", "in_pred", ["occurrences/proofs/CollectCases.antt"]),
@@ -89,8 +89,10 @@ def turned(text, path):
 
 
 def main(argv):
-    top = argv[0] if argv else os.path.dirname(os.path.dirname(os.path.realpath(__file__)))
-    inside = os.path.join(top, "crates")
+    if len(argv) != 1:
+        print(__doc__)
+        return 2
+    inside = os.path.join(argv[0], "crates")
     for folder, dirs, files in os.walk(inside):
         dirs[:] = sorted(d for d in dirs if d != "out")
         for name in sorted(files):
