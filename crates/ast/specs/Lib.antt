@@ -1,5 +1,6 @@
 pub mod Image
 pub mod Named
+pub mod KindNumbers
 pub mod Kinds
 pub mod Rows
 pub mod Tree

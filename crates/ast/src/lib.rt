@@ -1,53 +1,43 @@
 // The image: its words, and the rows by node.
 #![tactic(auto)]
 
-ghost use Rattle.std.specs.Prelude.{◌≡◌, ◌+◌, ◌*◌, ◌-◌, ◌/◌, ◌<◌, ◌≤◌, length, get_or, set};
+ghost use Rattle.std.specs.Prelude.{◌≡◌, ◌+◌, ◌*◌, ◌-◌, ◌/◌, ◌<◌, ◌≤◌, length, get_or, set, eqb};
 ghost use Rattle.ast.specs.Image as ImageSpec;
+ghost use Rattle.ast.specs.KindNumbers.{kind_number};
 ghost use Rattle.ast.specs.Promises.{Head, Within};
 ghost use Rattle.ast.specs.Location.{location_of};
 
-pub mod kinds;
+use crate::kind::Kind;
 
-pub fn wide(x: u32) -> usize
-    ensures { result ≡ x }
-{
-    x as usize
-}
-
-pub fn byte(image: &[u8], i: usize) -> u32
-    requires { i < length image.now }
-    ensures { (result ≡ get_or image.now i 0) × (result < 256) }
-{
-    image[i] as u32
-}
+pub mod kind;
 
 // The little-endian word at a byte offset where it fits.
 pub fn word_in(image: &[u8], offset: usize) -> u32
     requires { offset + 4 ≤ length image.now }
     ensures { result ≡ ImageSpec.word image.now offset }
 {
-    byte(image, offset)
-        + 256 * byte(image, offset + 1)
-        + 65536 * byte(image, offset + 2)
-        + 16777216 * byte(image, offset + 3)
+    u32::from_le_bytes([
+        image[offset],
+        image[offset + 1],
+        image[offset + 2],
+        image[offset + 3],
+    ])
 }
 
-// The little-endian word at a byte offset; 0 where it does not fit.
+// The little-endian word at a byte offset; 0 where it does not fit: with an Option each read of a row would have to take it apart,
+// and none ends there.
 pub fn word(image: &[u8], offset: usize) -> u32
     ensures { result ≡ ImageSpec.word image.now offset }
 {
     let n = image.len();
-    if n < 4 {
-        return 0;
-    }
-    if n - 4 < offset {
+    if n < 4 || n - 4 < offset {
         return 0;
     }
     word_in(image, offset)
 }
 
 // The four words at the front: N, C, S, B.
-#[derive(Clone, Copy, Drop)]
+#[derive(Clone, Copy, Debug, PartialEq, Eq)]
 pub struct Sizes {
     pub nodes: u32,
     pub operands: u32,
@@ -67,36 +57,59 @@ pub fn sizes_of(image: &[u8]) -> Sizes
 }
 
 // A node by its number.
-#[derive(Clone, Copy, Drop)]
+#[derive(Clone, Copy, Debug, PartialEq, Eq)]
 pub struct NodeId(pub u32);
 
-// The kind of a node.
+// The kind of a node, as the image's number: in lent bytes any may stand, and `Kind::try_from` says what it is.
 pub fn kind_at(image: &[u8], node: NodeId) -> u32
     ensures { result ≡ ImageSpec.kind_at image.now node.0 }
 {
-    word(image, 16 + 4 * wide(node.0))
+    word(image, 16 + 4 * node.0 as usize)
 }
 
-// The kind of a node that is there, its start, and an operand word that is there.
-pub fn kind_in(image: &[u8], node: NodeId) -> u32
-    requires { 20 + 4 * node.0 ≤ length image.now }
-    ensures { result ≡ ImageSpec.kind_at image.now node.0 }
+// Whether the node is of the kind.
+pub fn is_kind(image: &[u8], node: NodeId, kind: Kind) -> bool
+    ensures { result ≡ eqb (ImageSpec.kind_at image.now node.0) (kind_number kind) }
 {
-    word_in(image, 16 + 4 * wide(node.0))
+    kind_at(image, node) == kind.number()
 }
 
-pub fn start_at(image: &[u8], s: Sizes, node: NodeId) -> u32
-    requires { Within image.now s × (node.0 < s.nodes) }
-    ensures { result ≡ ImageSpec.start_at image.now node.0 }
-{
-    word_in(image, 16 + 4 * wide(s.nodes) + 4 * wide(node.0))
+// An image with its four sizes, which have passed 1 to 3: all its words are there.
+#[derive(Clone, Copy, Debug)]
+pub struct SizedImage<'a> {
+    pub image: &'a [u8],
+    pub sizes: Sizes,
+    ghost within: { Within image.now sizes },
 }
 
-pub fn op_at(image: &[u8], s: Sizes, place: u32) -> u32
-    requires { Within image.now s × (place < s.operands) }
-    ensures { result ≡ ImageSpec.op_at image.now place }
-{
-    word_in(image, 16 + 8 * wide(s.nodes) + 4 * wide(place))
+impl SizedImage<'_> {
+    // The kind of a node that is there (as `kind_at`, any number), its start, and an operand word that is there.
+    pub fn kind_at(&self, node: NodeId) -> u32
+        requires { node.0 < self.now.sizes.nodes }
+        ensures { result ≡ ImageSpec.kind_at self.now.image.now node.0 }
+    {
+        word_in(self.image, 16 + 4 * node.0 as usize)
+    }
+
+    pub fn start_at(&self, node: NodeId) -> u32
+        requires { node.0 < self.now.sizes.nodes }
+        ensures { result ≡ ImageSpec.start_at self.now.image.now node.0 }
+    {
+        word_in(
+            self.image,
+            16 + 4 * self.sizes.nodes as usize + 4 * node.0 as usize,
+        )
+    }
+
+    pub fn op_at(&self, place: u32) -> u32
+        requires { place < self.now.sizes.operands }
+        ensures { result ≡ ImageSpec.op_at self.now.image.now place }
+    {
+        word_in(
+            self.image,
+            16 + 8 * self.sizes.nodes as usize + 4 * place as usize,
+        )
+    }
 }
 
 // N.
@@ -110,7 +123,10 @@ pub fn node_count(image: &[u8]) -> u32
 pub fn row_start(image: &[u8], node: NodeId) -> u32
     ensures { result ≡ ImageSpec.start_at image.now node.0 }
 {
-    word(image, 16 + 4 * wide(node_count(image)) + 4 * wide(node.0))
+    word(
+        image,
+        16 + 4 * node_count(image) as usize + 4 * node.0 as usize,
+    )
 }
 
 // A place from which on no image has an operand word. A constant, so that the machine code of a read by number has no test of it.
@@ -123,11 +139,11 @@ pub fn operand_at(image: &[u8], at: usize) -> u32
     if NOWHERE < at {
         return 0;
     }
-    word(image, 16 + 8 * wide(node_count(image)) + 4 * at)
+    word(image, 16 + 8 * node_count(image) as usize + 4 * at)
 }
 
-// A row reader: the image that it reads from, and the place of its next operand.
-#[derive(Clone, Copy, Drop)]
+// A row reader: the image that it reads from, and the place of its next operand: the form that the rules of the port name for it.
+#[derive(Clone, Copy, Debug)]
 pub struct RowReader<'a> {
     pub image: &'a [u8],
     pub at: usize,
@@ -154,14 +170,14 @@ pub fn operand(image: &[u8], at: usize) -> u32
 }
 
 // Where a node's text begins and ends.
-#[derive(Clone, Copy, Drop)]
+#[derive(Clone, Copy, Debug, PartialEq, Eq)]
 pub struct Location(pub u32, pub u32);
 
 // The two words that a node's row begins with.
 pub fn loc(image: &[u8], node: NodeId) -> Location
     ensures { result ≡ location_of image.now node.0 }
 {
-    let start = wide(row_start(image, node));
+    let start = row_start(image, node) as usize;
     Location(operand(image, start), operand(image, start + 1))
 }
 
@@ -172,26 +188,16 @@ pub fn field(image: &[u8], node: NodeId, j: usize) -> u32
     if NOWHERE < j {
         return 0;
     }
-    operand(image, wide(row_start(image, node)) + 2 + j)
-}
-
-pub fn less_one(x: u32) -> u32
-    ensures { result ≡ x - 1 }
-{
-    if x == 0 { 0 } else { x - 1 }
+    operand(image, row_start(image, node) as usize + 2 + j)
 }
 
 // The name number of a node that has a name; of an optional one, the word less 1.
 pub fn name_of(image: &[u8], node: NodeId) -> u32
     ensures { result ≡ ImageSpec.name_of image.now node.0 }
 {
-    let kind = kind_at(image, node);
     let word = field(image, node, 0);
-    if kind == kinds::RULE_DECL {
-        return less_one(word);
-    }
-    if kind == kinds::ARG_DECL {
-        return less_one(word);
+    if is_kind(image, node, Kind::RuleDecl) || is_kind(image, node, Kind::ArgDecl) {
+        return word.saturating_sub(1);
     }
     word
 }

@@ -15,8 +15,13 @@ use Rattle.ast.specs.Items.{items, blocks}
 use Rattle.ast.proofs.Row.{Child, FormedFields, append, next, ends, node_of}
 use Rattle.ast.proofs.Shapes.{row as fields-of, tree_of, child-is, case-child, one_more, items_more, term_kinds, run-item, run-list, run-tail}
 use Rattle.ast.proofs.Vars.{PlainVar, named, wildcard, PlainAt, AfterFirst, Each, vars-at}
-use Rattle.typed.specs.RowShapes.{Listed}
+use Rattle.typed.specs.Nodes.{term_at}
+use Rattle.typed.specs.RowShapes.{Two, Listed}
+use Rattle.typed.specs.declared.nodes.AppTermId.{AppTermId}
+use Rattle.typed.specs.declared.nodes.Term.{Term}
+use Rattle.typed.specs.declared.nodes.Term.TheVariants.{App}
 use Rattle.typed.specs.declared.nodes.NodeList.{NodeList}
+use Rattle.typed.proofs.Enums.{term_is}
 use Rattle.typed.proofs.Lists.{at-list}
 use Rattle.table.specs.Table.{Table}
 use Rattle.rows.specs.Rows.{Row}
@@ -155,6 +160,10 @@ module _ (img : List ℕ) (t : Table) where
         args = child-is img app (subst (Child img d 22) (sym y) (fields-of img app).1.0);
         same = pattern-first img t is q ∙ pattern-app img t (items img n (field img n 1) 2) z e r x y;
       }
+
+  -- as the code finds it
+  pub pattern-applied : {n p h l : ℕ} {s : Term} {app : AppTermId} → Is img (kind_of 35) n → p ≡ field img n 0 → s ≡ term_at img p → s ≡ App app → Two img app.0.0 h l → Applied n h l
+  pattern-applied is q e k two = let s = term_is img (case-pattern img is q) e k in applied is q s.number s.child two.first two.second
 
   pub applied-yes : {n h l : ℕ} {b : Bool} → Applied n h l → b ≡ is_ctor img t (tree_at img h) → b ≡ true → of_pattern img t n ≡ of_args img t l
   applied-yes {n} {h} {l} a e z = a.same ∙ ap (λ (b : Bool). elim b as (λ _. List Row) [ true ↦ of_args img t l | false ↦ [] ]) (sym e ∙ z)

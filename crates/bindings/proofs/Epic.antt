@@ -7,7 +7,7 @@ use Prim.Native.Nat.{ℕ, zero, suc, ◌+◌, ◌-◌, ◌<◌, ◌≤◌}
 use native.Mathlib.Nat.{add-zero, sub-zero}
 use native.Mathlib.Omega.{arith}
 use lib.Dec.{eqb}
-use lib.ListN.{length-append, get_or}
+use lib.ListN.{get_or}
 use Rattle.ast.specs.Image.{field}
 use Rattle.ast.specs.Kinds.{inner, term, head, no_child, kind_of}
 use Rattle.ast.specs.Is.{Is, Run}
@@ -19,33 +19,12 @@ use Rattle.typed.specs.RowShapes.{Two, Listed}
 use Rattle.typed.specs.declared.nodes.NodeList.{NodeList}
 use Rattle.typed.proofs.Lists.{at-list}
 use Rattle.table.specs.Table.{Table}
-use Rattle.environment.specs.Stands.{Noted}
-use Rattle.rows.specs.Rows.{Row, Appended}
-use Rattle.rows.proofs.Parts.{Left, left-room}
+use Rattle.rows.specs.Rows.{Row}
 use Rattle.bindings.specs.Errors.{introduced_row, rows_of, rows_seq}
 use Rattle.error.specs.Kinds.{asked}
-use Rattle.bindings.specs.Promises.{Room, inside, listed}
+use Rattle.bindings.specs.Promises.{inside, listed}
 use Rattle.bindings.proofs.RowLaws.{rows_at, plain-rows, term_rows, ident-rows, member-rows, receiver-rows, head-ident, head-other, one_inside, two-inside, case-inside, list_inside}
 use Rattle.bindings.proofs.Quiet.{quiet}
-
-module _ {img : List ℕ} {t : Table} {env : List ℕ} where
-  -- room for the same rows, for the first of them, and for the rest
-  pub room_as : {l k : List Row} {c : ℕ} → l ≡ k → Room img t env l c → Room img t env k c
-  room_as {c = c} e h = subst (λ (m : List Row). Room img t env m c) e h
-
-  pub room-first : {l m : List Row} {c : ℕ} (k : List Row) → m ≡ l ++ k → Room img t env m c → Room img t env l c
-  room-first {l} {c = c} k e h =
-      let g = (room_as e h).fits in
-      record { noted = h.noted; fits = let a = length-append l k in omega arith }
-
-  pub room-rest : {l k m : List Row} {N c r : ℕ} {ws vs : List ℕ} → m ≡ l ++ k → Room img t env m c → Appended N l c ws r vs → Room img t env k r
-  room-rest {l} {k} e h f =
-      let g = (room_as e h).fits in
-      record { noted = h.noted; fits = let a = length-append l k in let b = f.count in omega arith }
-
-  -- room for a part of what a loop has left
-  pub room-left : {l whole rest : List Row} {N c r : ℕ} {ws vs : List ℕ} (more : List Row) → Noted img t env → Left N whole rest c ws r vs → rest ≡ l ++ more → Room img t env l r
-  room-left {l} more s h e = record { noted = s; fits = left-room l more h e }
 
 module _ (img : List ℕ) (t : Table) where
   -- the rows l are those below the node d, which is below n and of kind k

@@ -1,12 +1,20 @@
--- Laws of single rows: what is asked of a name, and a row that stands where a test says so.
-use mathlib.Core.Path.{◌≡◌, sym, ap, ap₂, subst, ◌∙◌}
+-- Laws of single rows: what is asked of a name, a row that stands where a test says so, and room for rows.
+use mathlib.Core.Path.{◌≡◌, refl, sym, ap, ap₂, subst, ◌∙◌}
 use mathlib.Core.Bool.{Bool, true, false, ◌&&◌, not}
 use mathlib.Core.Option.{Option, some}
-use mathlib.Core.List.{List, [], ◌∷◌}
+use mathlib.Core.List.{List, [], ◌∷◌, ◌++◌}
 use Prim.Native.Nat.{ℕ, ◌+◌, ◌<◌, ◌^◌}
-use lib.ListN.{length}
+use native.Mathlib.Omega.{arith}
+use lib.Dec.{eqb}
+use lib.ListN.{length, length-append}
+use borrow.Author.Tests.{eq-eqb, ne_eqb, eqb-true, eqb-false}
+use Rattle.std.specs.Prelude.{Option as Given, Some, None}
+use Rattle.std.specs.Option.{option_eq}
+use Rattle.ast.specs.declared.NodeId.{NodeId}
+use Rattle.table.specs.Values.{option_of}
 use Rattle.table.specs.Table.{Table, at_entry, at_exit, is_var}
-use Rattle.rows.specs.Rows.{Row, row, when}
+use Rattle.rows.specs.declared.Rows.{Rows}
+use Rattle.rows.specs.Rows.{Row, row, when, Appends}
 use Rattle.bindings.specs.Errors.{same_node, introduces, introduced_row}
 
 module _ (img : List ℕ) (t : Table) (n i : ℕ) where
@@ -23,6 +31,21 @@ module _ (img : List ℕ) (t : Table) (n i : ℕ) where
       ap (λ (u : Option ℕ). is_var img u && not (same_node u (at_entry img t n i))) (sym e)
       ∙ ap₂ (λ (c d : Bool). c && not d) h (ap (λ (u : Option ℕ). same_node u (at_entry img t n i)) z ∙ sym q)
 
+-- the order of what is compared does not matter
+eqb-swap : (a b : ℕ) → eqb a b ≡ eqb b a
+eqb-swap a b = go (eqb a b) refl
+  where
+    go : (c : Bool) → eqb a b ≡ c → eqb a b ≡ eqb b a
+    go true e = e ∙ sym (eq-eqb b a (sym (eqb-true a b e)))
+    go false e = e ∙ sym (ne_eqb b a (λ q. eqb-false a b e (sym q)))
+
+-- what is found is a node, by the code's test E of two nodes
+pub same-found : (E : NodeId → NodeId → Bool) → ((x y : NodeId) → E x y ≡ eqb x.0 y.0) → (found : Given NodeId) (b : NodeId)
+    → option_eq E found (Some b) ≡ same_node (some b.0) (option_of found)
+unfolding same_node
+same-found E h None b = refl
+same-found E h (Some n) b = h n b ∙ eqb-swap n.0 b.0
+
 -- a row where the test says so
 pub when_true : {b : Bool} (w : Row) → b ≡ true → when b w ≡ w ∷ []
 unfolding when
@@ -32,18 +55,23 @@ pub when_false : {b : Bool} (w : Row) → b ≡ false → when b w ≡ []
 unfolding when
 when_false w e = ap (λ (c : Bool). when c w) e
 
--- room for rows that are equal
-pub fits-as : (c : ℕ) {l k : List Row} → l ≡ k → c + length l < 2 ^ 32 → c + length k < 2 ^ 32
-fits-as c e h = subst (λ (l : List Row). c + length l < 2 ^ 32) e h
+-- rows that stand where a test says so, by what the code tests
+pub when-so : {l : List Row} {b c : Bool} (w : Row) → l ≡ when c w → b ≡ c → b ≡ true → l ≡ w ∷ []
+when-so w e q h = e ∙ when_true w (sym q ∙ h)
+
+pub when-not : {l : List Row} {b c : Bool} (w : Row) → l ≡ when c w → b ≡ c → b ≡ false → l ≡ []
+when-not w e q h = e ∙ when_false w (sym q ∙ h)
 
 pub introduced-is : (img : List ℕ) (t : Table) (n i : ℕ) {b : Bool} → b ≡ introduces img t n i → introduced_row img t true n i ≡ when b (row 1 n)
 unfolding introduced_row
 introduced-is img t n i e = ap (λ (c : Bool). when c (row 1 n)) (sym e)
 
--- the same row, by its number
-pub when-number : {k m : ℕ} (b : Bool) (n : ℕ) → k ≡ m → when b (row k n) ≡ when b (row m n)
-when-number b n e = ap (λ (k : ℕ). when b (row k n)) e
+-- room for rows that are equal, for the first of them, and for the rest
+pub fits-as : (c : ℕ) {l k : List Row} → l ≡ k → c + length l < 2 ^ 32 → c + length k < 2 ^ 32
+fits-as c e h = subst (λ (l : List Row). c + length l < 2 ^ 32) e h
 
--- rows that stand where a test says so, by what the code tests and the number that it has
-pub row-when : {l : List Row} {b c : Bool} {k m : ℕ} (n : ℕ) → l ≡ when c (row m n) → b ≡ c → k ≡ m → l ≡ when b (row k n)
-row-when {b = b} {m = m} n e p q = e ∙ ap (λ (x : Bool). when x (row m n)) (sym p) ∙ sym (when-number b n q)
+pub fits-first : (c : ℕ) {m : List Row} (l k : List Row) → m ≡ l ++ k → c + length m < 2 ^ 32 → c + length l < 2 ^ 32
+fits-first c l k e h = let g = fits-as c e h in let a = length-append l k in omega arith
+
+pub fits-rest : {l m : List Row} {a b : Rows} (k : List Row) → m ≡ l ++ k → a.count + length m < 2 ^ 32 → Appends l a b → b.count + length k < 2 ^ 32
+fits-rest {l} {a = a} k e h f = let g = fits-as a.count e h in let n = length-append l k in let d = f.appended.count in omega arith

@@ -17,7 +17,7 @@ use Rattle.bindings.specs.Errors.{errors}
 use Rattle.sight.specs.Sight.{In}
 use Rattle.sorted.specs.Sorted.{place, by_place, placed, sorted}
 use Rattle.sorted.proofs.Calls.{placed-length, beside}
-use Rattle.sorted.proofs.Merges.{place-compares}
+use Rattle.sorted.proofs.Placing.{place-compares}
 use Rattle.calls.specs.Left.{Fills}
 use Rattle.calls.specs.Order.{Rises, passing, many, one_place}
 use Rattle.calls.proofs.Orders.{sort-same, as-often, sort-rises, sort-stable, one-order}

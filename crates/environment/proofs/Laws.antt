@@ -229,27 +229,28 @@ module _ (img : List ℕ) where
       mark-stands n a b l (beside_same n env) (λ x e. absurd (not-quiet q e refl)) (λ x e. absurd (not-quiet q e refl)) h
 
   -- a node left, at which no name is asked for
-  pub left : {n : ℕ} (cur : ℕ) {e g : Walked} {env : List ℕ} → n < nodes img → asked img n ≡ none → g ≡ marked img n cur e → Stands img e env → Stands img g env
+  pub left : {n : ℕ} (cur : ℕ) {e g : Walked} {env new : List ℕ} → n < nodes img → asked img n ≡ none → g ≡ marked img n cur e → new ≡ env → Stands img e env → Stands img g new
   unfolding marked
-  left cur {e} l q w s = moved w refl (quiet-stands cur e.scope l q s)
+  left cur {e} l q w v s = moved w v (quiet-stands cur e.scope l q s)
 
-  pub left-bare : {n : ℕ} {e g : Walked} {env : List ℕ} → n < nodes img → asked img n ≡ none → g ≡ unmarked img n e → Stands img e env → Stands img g env
+  pub left-bare : {n : ℕ} {e g : Walked} {env new : List ℕ} → n < nodes img → asked img n ≡ none → g ≡ unmarked img n e → new ≡ env → Stands img e env → Stands img g new
   unfolding unmarked
-  left-bare l q w s = moved w refl (quiet-stands all_ones all_ones l q s)
+  left-bare l q w v s = moved w v (quiet-stands all_ones all_ones l q s)
 
-  pub opens-left : {n : ℕ} (cur : ℕ) {e g : Walked} {env : List ℕ} → n < nodes img → asked img n ≡ none → g ≡ marked img n cur e → Opens img e env → Opens img g env
+  pub opens-left : {n : ℕ} (cur : ℕ) {e g : Walked} {env new : List ℕ} → n < nodes img → asked img n ≡ none → g ≡ marked img n cur e → new ≡ env → Opens img e env → Opens img g new
   unfolding marked mark
-  opens-left {n} cur {e} {env = env} l q w o =
+  opens-left {n} cur {e} {g} {env} l q w v o =
       let t = e.table in
       let b = e.scope in
-      subst (λ i. Opens img i env) (sym w)
+      subst (λ i. Opens img g i) (sym v)
+      (subst (λ i. Opens img i env) (sym w)
       (record {
         stands = quiet-stands cur b l q o.stands;
         newest = o.newest;
         lower = λ z. let p = mark-parent img n cur b t l b in let y = o.lower z in omega arith;
         entries = λ m x h f z. let p = mark-entry img n cur b t l m h (not-quiet q f) in let y = o.entries m x h f (omega arith) in omega arith;
         exits = λ m x h f z. let p = mark-exit img n cur b t l m h (not-quiet q f) in let y = o.exits m x h f (omega arith) in omega arith;
-      })
+      }))
 
   -- a node left, at which the name x is asked for
   pub left-asked : {n x v entry : ℕ} {e g : Walked} {env new : List ℕ} → g ≡ marked img n entry e → new ≡ noted env n v (standing env x) → Asking img n x v entry e env → Stands img g new

@@ -3,46 +3,25 @@ use mathlib.Core.Path.{◌≡◌, refl, sym, ap, ap₂, ◌∙◌, subst}
 use mathlib.Core.Logic.{◌≢◌}
 use mathlib.Core.Bool.{Bool, true, false}
 use mathlib.Core.List.{List}
-use mathlib.Core.Option.{Option, none}
+use mathlib.Core.Option.{none}
 use Prim.Native.Nat.{ℕ, zero, suc, ◌+◌, ◌-◌, ◌<◌, ◌≤◌}
 use native.Mathlib.Decide.{dec_lt}
 use native.Mathlib.Omega.{arith}
 use lib.Dec.{T, eqb, eqb→eq}
-use lib.ListN.{get_or, set, length-set}
-use lib.Seq.{get_or-set_same, get_or-set_other}
 use Rattle.ast.specs.Declarations.{or_else}
 use Rattle.ast.specs.Image.{nodes, name_of}
 use Rattle.table.specs.Rising.{scope_of, node_at, parent_at}
 use Rattle.table.specs.State.{Walked}
 use Rattle.table.specs.Table.{Table, row_is, find_from, find, lookup}
 use Rattle.table.proofs.Frame.{lookup-child}
-use Rattle.environment.specs.Layout.{names_most, nodes_most, hidden_place, entry_note, exit_note, standing, hidden}
-use Rattle.environment.specs.Stands.{Tells, Notes, Hides, Says, Stands, above, First, Path, here, up}
+use Rattle.environment.specs.Layout.{names_most, standing}
+use Rattle.environment.specs.Stands.{Tells, Says, Stands, above, First, Path, here, up}
+use Rattle.environment.specs.Builder.{Keeps, table_of, walked_of}
+use Rattle.environment.specs.declared.ScopeBuilder.{ScopeBuilder}
+use Rattle.table.specs.declared.ScopeId.{ScopeId}
+use Rattle.environment.proofs.Steps.{keeps_same}
 
 module _ (img : List ℕ) where
-  -- a name's word changed: what is said of rows and nodes stays
-  stays : (env : List ℕ) (y v i : ℕ) → y < names_most → names_most ≤ i → get_or env i 0 ≡ get_or (set env y v) i 0
-  stays env y v i l h = sym (get_or-set_other env y i v 0 (omega arith))
-
-  notes-stay : {t : Table} {s x : ℕ} (env : List ℕ) (y v i : ℕ) → y < names_most → names_most ≤ i → Notes img t s (get_or env i 0) x → Notes img t s (get_or (set env y v) i 0) x
-  notes-stay {t} {s} {x} env y v i l h n = subst (λ w. Notes img t s w x) (stays env y v i l h) n
-
-  tells-by : {t : Table} {o : Option ℕ} {v w : ℕ} → v ≡ w → Tells img t v o → Tells img t w o
-  tells-by {t} {o} e h = subst (λ w. Tells img t w o) e h
-
-  says-set : {t : Table} {env : List ℕ} (y v : ℕ) → y < names_most → Says img t env → Says img t (set env y v)
-  says-set {t} {env} y v l h =
-      record {
-        long = length-set env y v ∙ h.long;
-        sized = h.sized;
-        kept = h.kept;
-        scopes = h.scopes;
-        symbols = h.symbols;
-        hides = λ j b z. let d = h.hides j b z in record { lower = d.lower; name = d.name; tells = tells-by (stays env y v (hidden_place j) l (omega arith)) d.tells };
-        entries = λ n x b q. notes-stay env y v (entry_note n) l (omega arith) (h.entries n x b q);
-        exits = λ n x b q. notes-stay env y v (exit_note n) l (omega arith) (h.exits n x b q);
-      }
-
   -- no row of the scope with the name
   row-not : (ws : List ℕ) (j s x : ℕ) → (scope_of (nodes img) ws j ≡ s → name_of img (node_at (nodes img) ws j) ≡ x → ⊥) → row_is img ws j s x ≡ false
   unfolding row_is
@@ -79,59 +58,6 @@ module _ (img : List ℕ) where
   leaving-start first h f =
       record { says = h.says; live = h.live; first_is = f; from = (omega arith); words = λ x l. still (h.here x l) (λ j a b. absurd (omega arith)) }
 
-  -- one row more
-  module _ {t : Table} {s first : ℕ} {env : List ℕ} {row : ℕ} (h : Leaving t s first env row) (b : row < t.symbols) (q : scope_of (nodes img) t.words row ≡ s) where
-    abbrev y : ℕ
-    y = name_of img (node_at (nodes img) t.words row)
-
-    hides : Hides img t env row
-    hides = let z = h.first_is.lower in h.says.hides row b (omega arith)
-
-    abbrev env' : List ℕ
-    env' = set env y (hidden env row)
-
-    same : standing env' y ≡ hidden env row
-    same = let a = hides.name in let l = h.says.long in get_or-set_same env y (hidden env row) 0 (omega arith)
-
-    other : (x : ℕ) → x ≢ y → standing env' x ≡ standing env x
-    other x f = get_or-set_other env y x (hidden env row) 0 f
-
-    word_row : (x : ℕ) → x ≡ y → Word t s first (row + 1) env' x
-    word_row x e =
-        subst (λ z. Word t s first (row + 1) env' z) (sym e)
-        (outer (tells-by (sym same)
-        (subst (λ r. Tells img t (hidden env row) (lookup img t (parent_at (nodes img) t.words r) y)) q hides.tells)))
-
-    word-other : (x : ℕ) → x ≢ y → Word t s first row env x → Word t s first (row + 1) env' x
-    word-other x f (outer w) = outer (tells-by (sym (other x f)) w)
-    word-other x f (still w g) = still (tells-by (sym (other x f)) w) (λ j a c n. pick j a c n (dec_lt j row))
-      where
-        pick : (j : ℕ) → first ≤ j → j < row + 1 → name_of img (node_at (nodes img) t.words j) ≡ x → Dec (j < row) → ⊥
-        pick j a c n (yes l) = g j a l n
-        pick j a c n (no l) = let e : j ≡ row = omega arith in f (sym n ∙ ap (λ (i : ℕ). name_of img (node_at (nodes img) t.words i)) e)
-
-    word_next : (x : ℕ) → Word t s first row env x → Word t s first (row + 1) env' x
-    word_next x w = pick (dec_lt x y) (dec_lt y x)
-      where
-        pick : Dec (x < y) → Dec (y < x) → Word t s first (row + 1) env' x
-        pick (yes l) d = word-other x (λ e. absurd (omega arith)) w
-        pick (no l) (yes k) = word-other x (λ e. absurd (omega arith)) w
-        pick (no l) (no k) = word_row x (omega arith)
-
-    pub leaving-few : (y < names_most) × (row < nodes_most)
-    leaving-few = let a = h.says.symbols in let c = h.says.sized in (hides.name, omega arith)
-
-    pub leaving-row : {out : List ℕ} → out ≡ env' → Leaving t s first out (row + 1)
-    leaving-row e =
-        subst (λ o. Leaving t s first o (row + 1)) (sym e)
-        (record {
-          says = says-set y (hidden env row) hides.name h.says;
-          live = h.live;
-          first_is = h.first_is;
-          from = (let a = h.from in omega arith);
-          words = λ x l. word_next x (h.words x l);
-        })
-
   -- no row more of the scope
   module _ {e : Walked} {first : ℕ} {env : List ℕ} {row : ℕ} (h : Leaving e.table e.scope first env row)
       (done : row < e.table.symbols → scope_of (nodes img) e.table.words row ≡ e.scope → ⊥) where
@@ -167,6 +93,22 @@ module _ (img : List ℕ) where
     leaving-done =
         record { says = h.says; live = (let a = h.first_is.lower in let b = h.live in omega arith); here = λ x l. word-done x (h.words x l) }
 
+  -- the loop over the rows of the scope s: its table stays, and the words stay lent
+  pub record Leaves (old new : ScopeBuilder) (s first row : ℕ) : Type 0 where
+    pub rows : Leaving (table_of new) s first new.env.now row
+    pub same : table_of new ≡ table_of old
+    pub keeps : Keeps old new
+
+  pub leaves-start : (b : ScopeBuilder) (s : ScopeId) (first : ℕ) → Stands img (walked_of b s) b.env.now → First img (table_of b) s.0 first → Leaves b b s.0 first first
+  leaves-start b s first h f = record { rows = leaving-start first h f; same = refl; keeps = keeps_same b }
+
+  pub leaves-done : {old new : ScopeBuilder} {s first row : ℕ} → Leaves old new s first row
+      → (row < old.symbols → scope_of (nodes img) new.table.now row ≡ s → ⊥) → Stands img (above img (record { scope = s; table = table_of old })) new.env.now
+  leaves-done {old} {new} {s} h done =
+      let q = ap (λ (t : Table). t.symbols) h.same in
+      subst (λ (t : Table). Stands img (above img (record { scope = s; table = t })) new.env.now) h.same
+      (leaving-done {e = record { scope = s; table = table_of new }} h.rows (λ l r. done (omega arith) r))
+
   -- the first step of a path, and where a path ends
   pub record Step (t : Table) (to s : ℕ) : Type 0 where
     pub within : s ≤ t.scopes
@@ -200,3 +142,7 @@ module _ (img : List ℕ) where
 
   pub going_end : {t : Table} {to : ℕ} {e : Walked} {env : List ℕ} → Going t to e env → e.scope ≤ to → e ≡ record { scope = to; table = t }
   going_end h l = ap₂ (λ (s : ℕ) (u : Table). record { scope = s; table = u }) (ends h.path l) h.table
+
+  -- the walk in the parent of its scope, in the same table
+  pub outside-is : (e : Walked) {p : ℕ} {u : Table} → p ≡ parent_at (nodes img) e.table.words e.scope → u ≡ e.table → record { scope = p; table = u } ≡ above img e
+  outside-is e p q = ap₂ (λ (s : ℕ) (t : Table). record { scope = s; table = t }) p q

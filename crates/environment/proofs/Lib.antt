@@ -1,5 +1,6 @@
+pub mod Parts
+pub mod Steps
 pub mod Words
 pub mod Asking
 pub mod Laws
-pub mod Noting
 pub mod Leaving

@@ -1,3 +1,5 @@
 pub mod Layout
 pub mod Asked
 pub mod Stands
+pub mod Builder
+pub mod Reading

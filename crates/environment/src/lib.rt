@@ -1,241 +1,344 @@
 // What names stand for along a walk, so that no lookup climbs: by name the row of its symbol here, by row the word that it
-// hides, by node what was noted there.
+// hides, by node what was noted there. And the steps that a walk makes, on the table and on what names stand for.
 #![tactic(auto)]
 
-ghost use Rattle.std.specs.Prelude.{◌≡◌, suc, ◌+◌, ◌-◌, ◌<◌, ◌≤◌, length, get_or, set};
+ghost use Rattle.std.specs.Prelude.{◌≡◌, suc, ◌+◌, ◌-◌, ◌<◌, ◌≤◌, ◌^◌, replicate, get_or, set};
 ghost use Rattle.std.proofs.Math.Option.{none, some};
 ghost use Rattle.ast.specs.Image as ImageSpec;
-ghost use Rattle.table.specs.Rising.{node_at};
+ghost use Rattle.table.specs.Rising.{scope_of, node_at, parent_at};
 ghost use Rattle.table.specs.State as StateSpec;
 ghost use Rattle.table.specs.Table as TableSpec;
-ghost use Rattle.table.specs.Values.{sought, walked_of, option_of};
-ghost use Rattle.environment.specs.Layout.{hidden_place, names_most, nodes_most, environment_length, standing};
+ghost use Rattle.table.specs.Values.{option_of};
+ghost use Rattle.environment.specs.Layout.{environment_length, hidden, names_most, nodes_most, noted_entry, noted_exit, standing};
 ghost use Rattle.environment.specs.Layout as LayoutSpec;
 ghost use Rattle.environment.specs.Asked.{asked};
+ghost use Rattle.environment.specs.Builder.{Keeps, table_of, walked_of};
 ghost use Rattle.environment.specs.Stands.{told, Stands, Opens, above, First, Path, Noted, Named, Asking};
 
 use ast::NodeId;
-use table::{Found, ScopeId, Walked};
+use std::marker::Model;
+use table::{Array, NO_SCOPE, ScopeId};
 
-// How many words an environment has: those of the names, then three arrays of as many words as there may be nodes.
-pub const WORDS: usize = 7168;
+mod reading;
 
-pub type Words = [u16; WORDS];
+// How many names and how many nodes there may be.
+const NAMES: usize = 1024;
 
-const HIDDEN: usize = 1024;
+const NODES: usize = 2048;
 
-const ENTRIES: usize = 3072;
-
-const EXITS: usize = 5120;
-
-fn get(env: &Words, i: usize) -> u16
-    requires { i < environment_length }
-    ensures { result ≡ get_or env.now i 0 }
-{
-    env[i]
+// By name the word of what it stands for here, by symbol row the word that the row hides, by node the words noted for its entry
+// and its exit. A word is 0, or a symbol row plus 1: 16 bits, since the memory is fixed and zeroed for each call.
+#[derive(Drop)]
+pub struct Environment {
+    names: [u16; NAMES],
+    hidden: [u16; NODES],
+    entries: [u16; NODES],
+    exits: [u16; NODES],
 }
 
-fn put(env: &mut Words, i: usize, word: u16)
-    requires { i < environment_length }
-    ensures { env.new ≡ set env.old i word }
-{
-    env[i] = word;
+impl Model for Environment {
+    ghost use Rattle.std.specs.Prelude.{List, ℕ, ◌++◌};
+
+    ghost Value = { List ℕ };
+
+    ghost view = { λ e. e.names ++ (e.hidden ++ (e.entries ++ e.exits)) };
 }
 
-// The word of a name: the row of the symbol that it stands for here, plus 1, or 0.
-pub fn stands(env: &Words, name: u32) -> u16
-    requires { name < names_most }
-    ensures { result ≡ standing env.now name }
-{
-    get(env, ast::wide(name))
-}
+impl Environment {
+    // Nothing stands for anything yet.
+    pub fn new() -> Environment
+        ensures { result ≡ replicate environment_length 0 }
+    {
+        Environment {
+            names: [0; NAMES],
+            hidden: [0; NODES],
+            entries: [0; NODES],
+            exits: [0; NODES],
+        }
+    }
 
-fn row_of(word: u16) -> u32
-    ensures { result ≡ word - 1 }
-{
-    ast::less_one(word as u32)
+    // The word of a name: the row of the symbol that it stands for here, plus 1, or 0.
+    pub fn stands(&self, name: u32) -> u16
+        requires { name < names_most }
+        ensures { result ≡ standing self.now name }
+    {
+        self.names[name as usize]
+    }
+
+    // The words noted for a node's entry, and for its exit.
+    fn entry(&self, node: NodeId) -> u16
+        requires { node.0 < nodes_most }
+        ensures { result ≡ noted_entry self.now node.0 }
+    {
+        self.entries[node.0 as usize]
+    }
+
+    fn exit(&self, node: NodeId) -> u16
+        requires { node.0 < nodes_most }
+        ensures { result ≡ noted_exit self.now node.0 }
+    {
+        self.exits[node.0 as usize]
+    }
+
+    // The name stands for the row from here on.
+    fn bind(&mut self, name: u32, row: u32)
+        requires { (name < names_most) × (row < nodes_most) }
+        ensures { self.new ≡ LayoutSpec.bound self.old name row }
+    {
+        self.hidden[row as usize] = self.names[name as usize];
+        self.names[name as usize] = (row + 1) as u16;
+    }
+
+    // What a node is entered and left with.
+    fn note(&mut self, node: NodeId, before: u16, after: u16)
+        requires { node.0 < nodes_most }
+        ensures { self.new ≡ LayoutSpec.noted self.old node.0 before after }
+    {
+        self.entries[node.0 as usize] = before;
+        self.exits[node.0 as usize] = after;
+    }
+
+    // The name, which is the row's, stands for what it did before the row.
+    fn restore(&mut self, name: u32, row: u32)
+        requires { (name < names_most) × (row < nodes_most) }
+        ensures { self.new ≡ set self.old name (hidden self.old row) }
+    {
+        self.names[name as usize] = self.hidden[row as usize];
+    }
 }
 
 // The symbol that a word tells of.
-pub fn found(image: &[u8], table: &[u32], word: u16) -> Found
+pub fn found(image: &[u8], table: &[u32], word: u16) -> Option<NodeId>
     ensures { option_of result ≡ told image.now table.now word }
 {
     if word == 0 {
-        return Found::Nothing;
+        return None;
     }
-    Found::At(NodeId(table::symbol_node(image, table, row_of(word))))
+    Some(NodeId(table::symbol_node(image, table, word as u32 - 1)))
 }
 
-// The name stands for the row from here on.
-fn bind(env: &mut Words, name: u32, row: u32)
-    requires { (name < names_most) × (row < nodes_most) }
-    ensures { env.new ≡ LayoutSpec.bound env.old name row }
-{
-    let old = stands(env, name);
-    put(env, HIDDEN + ast::wide(row), old);
-    put(env, ast::wide(name), (row + 1) as u16);
+// What a walk fills: the lent table, what names stand for, and how many scopes and symbols the table has. The image stays a
+// parameter: in here each step would owe that it is the same, and each contract would have to say of which builder, the old or the
+// new, it reads it.
+#[derive(Drop)]
+pub struct ScopeBuilder<'a> {
+    pub table: &'a mut [u32],
+    pub env: &'a mut Environment,
+    pub scopes: u32,
+    pub symbols: u32,
 }
 
-// The node as the symbol of a new scope below the one that the walk stands in.
-pub fn introduce(
-    image: &[u8],
-    table: &mut [u32],
-    env: &mut Words,
-    at: Walked,
-    node: NodeId,
-    name: u32,
-) -> Walked
-    requires { Stands image.now (walked_of at table.old) env.old × Named image.now node.0 name × (at.scopes < ImageSpec.nodes image.now) × (at.symbols < ImageSpec.nodes image.now) }
-    ensures { (walked_of result table.new ≡ StateSpec.introduce image.now node.0 (walked_of at table.old)) × Stands image.now (walked_of result table.new) env.new }
-{
-    bind(env, name, at.symbols);
-    table::insert_var_symbol(image, table, at, node)
-}
+impl<'a> ScopeBuilder<'a> {
+    // What is read along the walk is read by methods: a call that is lent the table out of a builder that may be changed is not
+    // known to leave the words as they are.
+    // The symbol that a word tells of.
+    pub fn found(&self, image: &[u8], word: u16) -> Option<NodeId>
+        ensures { option_of result ≡ told image.now self.now.table.now word }
+    {
+        found(image, self.table, word)
+    }
 
-// The node as one more symbol of the newest scope, which has none of that name.
-pub fn enter(
-    image: &[u8],
-    table: &mut [u32],
-    env: &mut Words,
-    at: Walked,
-    node: NodeId,
-    name: u32,
-) -> Walked
-    requires { Opens image.now (walked_of at table.old) env.old × Named image.now node.0 name × (TableSpec.find image.now (walked_of at table.old).table at.scope.0 name ≡ none) × (at.symbols < ImageSpec.nodes image.now) }
-    ensures { (walked_of result table.new ≡ StateSpec.own_symbol image.now node.0 (walked_of at table.old)) × Opens image.now (walked_of result table.new) env.new }
-{
-    bind(env, name, at.symbols);
-    table::insert_symbol(image, table, at, node)
-}
+    // The first symbol of the name in the scope.
+    pub fn find(&self, image: &[u8], scope: ScopeId, name: u32) -> Option<NodeId>
+        ensures { option_of result ≡ TableSpec.find_from image.now self.now.symbols self.now.table.now 0 scope.0 name }
+    {
+        table::find(image, self.table, self.symbols, scope, name)
+    }
 
-// The node left as table::leave does; the name is asked for there, and `before` is its word at the node's entry.
-pub fn leave_asked(
-    image: &[u8],
-    table: &mut [u32],
-    env: &mut Words,
-    node: NodeId,
-    name: u32,
-    before: u16,
-    at: Walked,
-    w: Walked,
-) -> Walked
-    requires { Asking image.now node.0 name before at.scope.0 (walked_of w table.old) env.old }
-    ensures { (walked_of result table.new ≡ StateSpec.marked image.now node.0 at.scope.0 (walked_of w table.old)) × Stands image.now (walked_of result table.new) env.new }
-{
-    let after = stands(env, name);
-    note(env, node, before, after);
-    table::leave(image, table, node, at, w)
-}
+    // The scope of a row, and its name.
+    fn symbol_scope(&self, image: &[u8], row: u32) -> ScopeId
+        ensures { result.0 ≡ scope_of (ImageSpec.nodes image.now) self.now.table.now row }
+    {
+        ScopeId(table::symbol_scope(image, self.table, row))
+    }
 
-fn note(env: &mut Words, node: NodeId, before: u16, after: u16)
-    requires { node.0 < nodes_most }
-    ensures { env.new ≡ LayoutSpec.noted env.old node.0 before after }
-{
-    put(env, ENTRIES + ast::wide(node.0), before);
-    put(env, EXITS + ast::wide(node.0), after);
-}
+    fn symbol_name(&self, image: &[u8], row: u32) -> u32
+        ensures { result ≡ ImageSpec.name_of image.now (node_at (ImageSpec.nodes image.now) self.now.table.now row) }
+    {
+        ast::name_of(image, NodeId(table::symbol_node(image, self.table, row)))
+    }
 
-// The row's name stands for what it did before the row.
-fn restore(image: &[u8], table: &[u32], env: &mut Words, row: u32)
-    requires { (ImageSpec.name_of image.now (node_at (ImageSpec.nodes image.now) table.now row) < names_most) × (row < nodes_most) }
-    ensures { env.new ≡ set env.old (ImageSpec.name_of image.now (node_at (ImageSpec.nodes image.now) table.now row)) (get_or env.old (hidden_place row) 0) }
-{
-    let node = NodeId(table::symbol_node(image, table, row));
-    let old = get(env, HIDDEN + ast::wide(row));
-    put(env, ast::wide(ast::name_of(image, node)), old);
-}
+    // The parent of a scope.
+    fn outside(&self, image: &[u8], scope: ScopeId) -> ScopeId
+        ensures { result.0 ≡ parent_at (ImageSpec.nodes image.now) self.now.table.now scope.0 }
+    {
+        ScopeId(table::parent_of(image, self.table, scope))
+    }
 
-// The names of the scope that the walk stands in, whose rows start with `first`, stand for what they do above it.
-pub fn leave_scope(image: &[u8], table: &[u32], env: &mut Words, at: Walked, first: u32)
-    requires { Stands image.now (walked_of at table.now) env.old × First image.now (walked_of at table.now).table at.scope.0 first }
-    ensures { Stands image.now (above image.now (walked_of at table.now)) env.new }
-{
-    let mut row = first;
-    while row < at.symbols {
-        if table::symbol_scope(image, table, row) != at.scope.0 {
-            return;
+    // A new scope, whose parent is the one that the walk stands in.
+    pub fn new_scope(&mut self, image: &[u8], at: ScopeId) -> ScopeId
+        requires { self.old.scopes + 1 < 2 ^ 32 }
+        ensures keeps { Keeps self.old self.new }
+        ensures env { self.new.env.now ≡ self.old.env.now }
+        ensures walk { walked_of self.new result ≡ StateSpec.child_scope image.now (walked_of self.old at) }
+    {
+        let n = ast::node_count(image);
+        let scope = self.scopes;
+        table::put(self.table, table::place(Array::Parents, n, scope), at.0);
+        self.scopes += 1;
+        ScopeId(scope)
+    }
+
+    // The scope in both places of the node.
+    pub fn insert_unordered(&mut self, image: &[u8], id: NodeId, scope: ScopeId)
+        ensures keeps { Keeps self.old self.new }
+        ensures env { self.new.env.now ≡ self.old.env.now }
+        ensures walk { walked_of self.new scope ≡ StateSpec.marked image.now id.0 scope.0 (walked_of self.old scope) }
+    {
+        self.insert_ordered(image, id, scope, scope);
+    }
+
+    fn insert_ordered(&mut self, image: &[u8], id: NodeId, entry: ScopeId, exit: ScopeId)
+        ensures keeps { Keeps self.old self.new }
+        ensures env { self.new.env.now ≡ self.old.env.now }
+        ensures table { table_of self.new ≡ TableSpec.mark image.now id.0 entry.0 exit.0 (table_of self.old) }
+    {
+        let n = ast::node_count(image);
+        let table = &mut *self.table;
+        table::put(table, table::place(Array::Entries, n, id.0), entry.0);
+        table::put(table, table::place(Array::Exits, n, id.0), exit.0);
+    }
+
+    // The node as a symbol of the scope that the walk stands in.
+    pub fn insert_symbol(&mut self, image: &[u8], at: ScopeId, node: NodeId)
+        requires { self.old.symbols + 1 < 2 ^ 32 }
+        ensures keeps { Keeps self.old self.new }
+        ensures env { self.new.env.now ≡ self.old.env.now }
+        ensures walk { walked_of self.new at ≡ StateSpec.own_symbol image.now node.0 (walked_of self.old at) }
+    {
+        let n = ast::node_count(image);
+        let row = self.symbols;
+        let table = &mut *self.table;
+        table::put(table, table::place(Array::SymbolScopes, n, row), at.0);
+        table::put(table, table::place(Array::SymbolNodes, n, row), node.0);
+        self.symbols = row + 1;
+    }
+
+    // A new scope and its one symbol, in one step: as two calls they are slower.
+    fn insert_var_symbol(&mut self, image: &[u8], at: ScopeId, ident: NodeId) -> ScopeId
+        requires { (self.old.scopes + 1 < 2 ^ 32) × (self.old.symbols + 1 < 2 ^ 32) }
+        ensures keeps { Keeps self.old self.new }
+        ensures env { self.new.env.now ≡ self.old.env.now }
+        ensures walk { walked_of self.new result ≡ StateSpec.introduce image.now ident.0 (walked_of self.old at) }
+    {
+        let n = ast::node_count(image);
+        let scope = self.scopes;
+        let row = self.symbols;
+        let table = &mut *self.table;
+        table::put(table, table::place(Array::Parents, n, scope), at.0);
+        table::put(table, table::place(Array::SymbolScopes, n, row), scope);
+        table::put(table, table::place(Array::SymbolNodes, n, row), ident.0);
+        self.scopes = scope + 1;
+        self.symbols = row + 1;
+        ScopeId(scope)
+    }
+
+    // The node left: entered at one scope, left at the other.
+    pub fn leave(&mut self, image: &[u8], node: NodeId, entry: ScopeId, exit: ScopeId) -> ScopeId
+        ensures keeps { Keeps self.old self.new }
+        ensures env { self.new.env.now ≡ self.old.env.now }
+        ensures walk { walked_of self.new result ≡ StateSpec.marked image.now node.0 entry.0 (walked_of self.old exit) }
+    {
+        self.insert_ordered(image, node, entry, exit);
+        exit
+    }
+
+    // The node left as an AppHeadMember is: no scope in both places.
+    pub fn leave_bare(&mut self, image: &[u8], node: NodeId, exit: ScopeId) -> ScopeId
+        ensures keeps { Keeps self.old self.new }
+        ensures env { self.new.env.now ≡ self.old.env.now }
+        ensures walk { walked_of self.new result ≡ StateSpec.unmarked image.now node.0 (walked_of self.old exit) }
+    {
+        self.insert_ordered(image, node, NO_SCOPE, NO_SCOPE);
+        exit
+    }
+
+    // The node as the symbol of a new scope below the one that the walk stands in.
+    pub fn introduce(&mut self, image: &[u8], at: ScopeId, node: NodeId, name: u32) -> ScopeId
+        requires { Stands image.now (walked_of self.old at) self.old.env.now × Named image.now node.0 name × (self.old.scopes < ImageSpec.nodes image.now) × (self.old.symbols < ImageSpec.nodes image.now) }
+        ensures keeps { Keeps self.old self.new }
+        ensures walk { walked_of self.new result ≡ StateSpec.introduce image.now node.0 (walked_of self.old at) }
+        ensures stands { Stands image.now (walked_of self.new result) self.new.env.now }
+    {
+        self.env.bind(name, self.symbols);
+        self.insert_var_symbol(image, at, node)
+    }
+
+    // The node as one more symbol of the newest scope, which has none of that name.
+    pub fn enter(&mut self, image: &[u8], at: ScopeId, node: NodeId, name: u32)
+        requires { Opens image.now (walked_of self.old at) self.old.env.now × Named image.now node.0 name × (TableSpec.find image.now (table_of self.old) at.0 name ≡ none) × (self.old.symbols < ImageSpec.nodes image.now) }
+        ensures keeps { Keeps self.old self.new }
+        ensures walk { walked_of self.new at ≡ StateSpec.own_symbol image.now node.0 (walked_of self.old at) }
+        ensures stands { Opens image.now (walked_of self.new at) self.new.env.now }
+    {
+        self.env.bind(name, self.symbols);
+        self.insert_symbol(image, at, node);
+    }
+
+    // The node left; the name is asked for there, and `before` is its word at the node's entry.
+    pub fn leave_asked(
+        &mut self,
+        image: &[u8],
+        node: NodeId,
+        name: u32,
+        before: u16,
+        entry: ScopeId,
+        exit: ScopeId,
+    ) -> ScopeId
+        requires { Asking image.now node.0 name before entry.0 (walked_of self.old exit) self.old.env.now }
+        ensures keeps { Keeps self.old self.new }
+        ensures walk { walked_of self.new result ≡ StateSpec.marked image.now node.0 entry.0 (walked_of self.old exit) }
+        ensures stands { Stands image.now (walked_of self.new result) self.new.env.now }
+    {
+        let after = self.env.stands(name);
+        self.env.note(node, before, after);
+        self.leave(image, node, entry, exit)
+    }
+
+    // The names of the scope, whose rows start with `first`, stand for what they do above it.
+    // Inlined: as a call it makes the way back over many variables slower.
+    #[inline(always)]
+    pub fn leave_scope(&mut self, image: &[u8], at: ScopeId, first: u32)
+        requires { Stands image.now (walked_of self.old at) self.old.env.now × First image.now (table_of self.old) at.0 first }
+        ensures keeps { Keeps self.old self.new }
+        ensures table { table_of self.new ≡ table_of self.old }
+        ensures stands { Stands image.now (above image.now (walked_of self.old at)) self.new.env.now }
+    {
+        for row in first..self.symbols {
+            if self.symbol_scope(image, row) != at {
+                return;
+            }
+            let name = self.symbol_name(image, row);
+            self.env.restore(name, row);
         }
-        restore(image, table, env, row);
-        row += 1;
+    }
+
+    // The walk back in the scope `to`: what was introduced below it is put back, the last first. Scopes and rows go in step there.
+    pub fn put_back(&mut self, image: &[u8], from: ScopeId, to: ScopeId) -> ScopeId
+        requires { Stands image.now (walked_of self.old from) self.old.env.now × Path image.now (table_of self.old) to.0 from.0 }
+        ensures keeps { Keeps self.old self.new }
+        ensures walk { walked_of self.new result ≡ StateSpec.back image.now to.0 (walked_of self.old from) }
+        ensures stands { Stands image.now (walked_of self.new result) self.new.env.now }
+    {
+        // no range of numbers: it climbs from parent to parent
+        let mut inner = from;
+        while to.0 < inner.0 {
+            let row = self.symbols - (self.scopes - inner.0);
+            let outer = self.outside(image, inner);
+            self.leave_scope(image, inner, row);
+            inner = outer;
+        }
+        inner
     }
 }
 
-// The walk in the parent of its scope.
-fn outside(image: &[u8], table: &[u32], at: Walked) -> Walked
-    ensures { walked_of result table.now ≡ above image.now (walked_of at table.now) }
-{
-    let parent = table::parent_of(image, table, at.scope);
-    Walked {
-        scope: ScopeId(parent),
-        scopes: at.scopes,
-        symbols: at.symbols,
-    }
-}
-
-// The walk back in the scope `to`: what was introduced below it is put back, the last first. Scopes and rows go in step there.
-pub fn put_back(image: &[u8], table: &[u32], env: &mut Words, at: Walked, to: ScopeId) -> Walked
-    requires { Stands image.now (walked_of at table.now) env.old × Path image.now (walked_of at table.now).table to.0 at.scope.0 }
-    ensures { (walked_of result table.now ≡ StateSpec.back image.now to.0 (walked_of at table.now)) × Stands image.now (walked_of result table.now) env.new }
-{
-    let mut inner = at;
-    while to.0 < inner.scope.0 {
-        let row = inner.symbols - (inner.scopes - inner.scope.0);
-        let outer = outside(image, table, inner);
-        leave_scope(image, table, env, inner, row);
-        inner = outer;
-    }
-    inner
-}
-
-// What the name of an IdentTerm is at a node's entry, and at its exit, where it is asked for there.
-pub fn at_entry(
-    image: &[u8],
-    table: &[u32],
-    symbols: u32,
-    env: &Words,
-    node: NodeId,
-    ident: NodeId,
-) -> Found
-    requires { Noted image.now (sought table.now symbols) env.now × (node.0 < ImageSpec.nodes image.now) × (asked image.now node.0 ≡ some (ImageSpec.name_of image.now ident.0)) × (ImageSpec.name_of image.now ident.0 < names_most) }
-    ensures { option_of result ≡ TableSpec.at_entry image.now (sought table.now symbols) node.0 ident.0 }
-{
-    let scope = table::entry_of(image, table, node);
-    found(
-        image,
-        table,
-        word_at(image, env, scope, ENTRIES, node, ident),
-    )
-}
-
-pub fn at_exit(
-    image: &[u8],
-    table: &[u32],
-    symbols: u32,
-    env: &Words,
-    node: NodeId,
-    ident: NodeId,
-) -> Found
-    requires { Noted image.now (sought table.now symbols) env.now × (node.0 < ImageSpec.nodes image.now) × (asked image.now node.0 ≡ some (ImageSpec.name_of image.now ident.0)) × (ImageSpec.name_of image.now ident.0 < names_most) }
-    ensures { option_of result ≡ TableSpec.at_exit image.now (sought table.now symbols) node.0 ident.0 }
-{
-    let scope = table::exit_of(image, table, node);
-    found(image, table, word_at(image, env, scope, EXITS, node, ident))
-}
-
-// The word noted for a node; at the module's own scope, where nothing is noted, the word of the name.
-fn word_at(
-    image: &[u8],
-    env: &Words,
-    scope: ScopeId,
-    notes: usize,
-    node: NodeId,
-    ident: NodeId,
-) -> u16
-    requires { (notes ≤ 5120) × (node.0 < nodes_most) × (ImageSpec.name_of image.now ident.0 < names_most) }
-    ensures { ((scope.0 ≡ 0) → (result ≡ standing env.now (ImageSpec.name_of image.now ident.0))) × ((0 < scope.0) → (result ≡ get_or env.now (notes + node.0) 0)) }
-{
-    if scope.0 == 0 {
-        return stands(env, ast::name_of(image, ident));
-    }
-    get(env, notes + ast::wide(node.0))
+// A resolved image as the checks read it.
+#[derive(Clone, Copy)]
+pub struct Scopes<'a> {
+    pub image: &'a [u8],
+    pub table: &'a [u32],
+    pub env: &'a Environment,
+    pub scopes: u32,
+    pub symbols: u32,
+    ghost noted: { Noted image.now (record { words = table.now; scopes = scopes; symbols = symbols }) env.now },
 }

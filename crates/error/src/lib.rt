@@ -1,10 +1,83 @@
-// The five kinds of error.rs that the scope resolver and its checks give, with their row numbers.
+// Why a call gives no result, and the five kinds of error.rs that the scope resolver and its checks give, with their row numbers.
 #![tactic(auto)]
 
 ghost use Rattle.std.specs.Prelude.{◌≡◌};
-ghost use Rattle.error.specs.Kinds.{row_number, repeated_argument};
+ghost use Rattle.error.specs.Kinds.{row_number};
+ghost use Rattle.error.specs.Refusals.{refusal_number, ByRefusal, ByTwice};
 
-#[derive(Clone, Copy, Drop)]
+use ast::NodeId;
+
+// A row of the table of refusals: what of the inputs a call cannot take.
+#[derive(Clone, Copy, Debug, PartialEq, Eq)]
+pub enum Refusal {
+    // sizes
+    ShortImage = 1,
+    SizesTooLarge,
+    ImageLength,
+    // names
+    NameEnds,
+    EqualNames,
+    // each node
+    UnknownKind,
+    RowOutside,
+    UnknownNumber,
+    WrongChild,
+    // whole tree
+    LastRow,
+    Parents,
+    WrongVariable,
+    // buffers
+    ShortTable,
+    ShortRows,
+    // Errors
+    UnknownMode,
+    // Lookup
+    UnsoundTable,
+    UnknownScope,
+}
+
+impl Refusal {
+    // Its number in the table.
+    pub fn number(self) -> u32
+        ensures { result ≡ refusal_number self }
+    {
+        self as u32
+    }
+}
+
+// The finding "twice": a name that a scope declares twice, by its number, and its two nodes.
+#[derive(Clone, Copy, Debug, PartialEq, Eq)]
+pub struct SymbolDeclaredTwice {
+    pub name: u32,
+    pub first: NodeId,
+    pub second: NodeId,
+}
+
+// Why a call that resolves gives no result: a refusal, or the finding "twice".
+#[derive(Clone, Copy, Debug, PartialEq, Eq)]
+pub enum Unresolved {
+    Refused(Refusal),
+    Twice(SymbolDeclaredTwice),
+}
+
+impl From<Refusal> for Unresolved {
+    ghost from_gives = { ByRefusal };
+
+    fn from(refusal: Refusal) -> Unresolved {
+        Unresolved::Refused(refusal)
+    }
+}
+
+impl From<SymbolDeclaredTwice> for Unresolved {
+    ghost from_gives = { ByTwice };
+
+    fn from(twice: SymbolDeclaredTwice) -> Unresolved {
+        Unresolved::Twice(twice)
+    }
+}
+
+// The kinds of error.rs, and strict mode's own.
+#[derive(Clone, Copy, Debug, PartialEq, Eq)]
 pub enum ErrorKind {
     // Resolve's "twice".
     SymbolDeclaredTwice,
@@ -13,24 +86,22 @@ pub enum ErrorKind {
     MatchPatternArgVarIsNotFresh,
     // Once's lone occurrence.
     VariableOccursOnlyOnce,
+    // Strict mode's, which the Rust does not have.
+    RepeatedArgument,
 }
 
-// The number of an error row of this kind; 0 for a kind that stands in no row.
-pub fn row_number(kind: ErrorKind) -> u32
-    ensures { result ≡ row_number kind }
-{
-    match kind {
-        ErrorKind::SymbolDeclaredTwice => 0,
-        ErrorKind::VariableIntroducedInThenStmt => 1,
-        ErrorKind::ThenDefinedVarNotNew => 2,
-        ErrorKind::MatchPatternArgVarIsNotFresh => 3,
-        ErrorKind::VariableOccursOnlyOnce => 0,
+impl ErrorKind {
+    // The number of an error row of this kind; 0 for a kind that stands in no row. An Option would be no plainer: each caller names a
+    // kind that has rows.
+    pub fn row_number(self) -> u32
+        ensures { result ≡ row_number self }
+    {
+        match self {
+            ErrorKind::SymbolDeclaredTwice | ErrorKind::VariableOccursOnlyOnce => 0,
+            ErrorKind::VariableIntroducedInThenStmt => 1,
+            ErrorKind::ThenDefinedVarNotNew => 2,
+            ErrorKind::MatchPatternArgVarIsNotFresh => 3,
+            ErrorKind::RepeatedArgument => 4,
+        }
     }
-}
-
-// The number of strict mode's row, which the Rust does not have.
-pub fn repeated_argument() -> u32
-    ensures { result ≡ repeated_argument }
-{
-    4
 }

@@ -9,7 +9,7 @@ use Rattle.names.specs.Name.{name_place}
 use Rattle.ast.specs.Tests.{verdict}
 use Rattle.names.specs.declared.NamePlace.{NamePlace}
 use Rattle.ast.proofs.Accepted.{named, name_in, sized}
-use Rattle.names.proofs.NameParts.{place-refused, place-beyond, place_is}
+use Rattle.names.proofs.NameParts.{there, place-refused, place-beyond, place_is}
 
 abbrev pub SmallPlace : NamePlace → Type 0
 SmallPlace p = (p.start < 65536) × (p.len < 65536)
@@ -24,7 +24,7 @@ module _ (img : List ℕ) (x : ℕ) where
       let s = sized img a in
       let i = name_in img r x l in
       let o = r.rises x l in
-      subst SmallPlace (sym (e ∙ place_is img x a l _ _ refl refl)) (omega arith)
+      subst SmallPlace (sym (e ∙ place_is img x (there img x a l) _ refl refl)) (omega arith)
 
   pub place-small : (p : NamePlace) → p ≡ name_place img x → SmallPlace p
   place-small p e = go (dec_lt 0 (verdict img)) (dec_lt x (names img))

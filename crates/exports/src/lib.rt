@@ -1,5 +1,5 @@
 // The public calls, each with its answer packed in one number. exports_c hands these to C.
-#![tactic(auto)]
+#![tactic(auto, unfolding(crate::specs::Packed::packed, ast::specs::Answer::Fits))]
 
 ghost use Rattle.std.specs.Prelude.{◌≡◌, ◌≤◌};
 ghost use Rattle.names.specs.Name.{name_place};
@@ -10,63 +10,84 @@ ghost use Rattle.bindings.specs.Errors.{errors};
 ghost use Rattle.sorted.specs.Sorted.{sorted};
 ghost use Rattle.occurrences.specs.Answers.{once_answer};
 ghost use Rattle.occurrences.specs.Occurrences as CallsSpec;
-ghost use Rattle.ast.specs.Answer.{Short, Fits};
+ghost use Rattle.ast.specs.Answer.{refused, Short, Fits};
+ghost use Rattle.error.specs.Refusals.{refusal_number, unresolved_answer};
 ghost use Rattle.exports.specs.Packed.{fields, packed, Packs, Leaves, LeavesRows, Places};
 
-use occurrences::Once;
-use scopes::{Looked, Resolved, Rowed};
+use error::{Refusal, Unresolved};
+use occurrences::Lone;
+use scopes::{Looked, Resolved};
 use table::ScopeId;
 
-// A tag and three fields of 16 bits.
+// A tag and three fields of 16 bits. (The C interface needs it: an answer is one number, and modes, scopes and names are numbers.)
 fn pack(tag: u64, a: u32, b: u32, c: u32) -> u64
     requires { (tag ≤ 3) × (Short a) × (Short b) × (Short c) }
     ensures { result ≡ fields tag a b c }
 {
-    tag * 281474976710656 + (a as u64) * 4294967296 + (b as u64) * 65536 + (c as u64)
+    tag * 281474976710656 + u64::from(a) * 4294967296 + u64::from(b) * 65536 + u64::from(c)
 }
 
-fn pack_resolved(answer: Resolved) -> u64
+// A refusal.
+fn pack_refused(refusal: Refusal) -> u64
+    ensures { result ≡ packed (refused (refusal_number refusal)) }
+{
+    pack(0, 0, 0, refusal.number())
+}
+
+// A refusal, or the finding "twice".
+fn pack_unresolved(answer: Unresolved) -> u64
+    requires { Fits (unresolved_answer answer) }
+    ensures { result ≡ packed (unresolved_answer answer) }
+{
+    match answer {
+        Unresolved::Refused(refusal) => pack_refused(refusal),
+        Unresolved::Twice(twice) => pack(1, twice.name, twice.first.0, twice.second.0),
+    }
+}
+
+// What Resolve hands back. This and the next three differ in what they make of a result: what they share stands above.
+fn pack_resolved(answer: Result<Resolved, Unresolved>) -> u64
     requires { Fits (resolved_answer answer) }
     ensures { result ≡ packed (resolved_answer answer) }
 {
     match answer {
-        Resolved::Refused(number) => pack(0, 0, 0, number),
-        Resolved::Twice(name, first, second) => pack(1, name, first.0, second.0),
-        Resolved::Scopes(scopes, symbols) => pack(2, 0, scopes, symbols),
+        Ok(resolved) => pack(2, 0, resolved.scopes, resolved.symbols),
+        Err(unresolved) => pack_unresolved(unresolved),
     }
 }
 
-fn pack_looked(answer: Looked) -> u64
+// What Lookup hands back.
+fn pack_looked(answer: Result<Option<Looked>, Refusal>) -> u64
     requires { Fits (looked_answer answer) }
     ensures { result ≡ packed (looked_answer answer) }
 {
     match answer {
-        Looked::Refused(number) => pack(0, 0, 0, number),
-        Looked::At(symbol, node) => pack(2, 0, symbol, node.0),
-        Looked::Nothing => pack(3, 0, 0, 0),
+        Ok(Some(looked)) => pack(2, 0, looked.symbol.number(), looked.node.0),
+        Ok(None) => pack(3, 0, 0, 0),
+        Err(refusal) => pack_refused(refusal),
     }
 }
 
-fn pack_rowed(answer: Rowed) -> u64
+// What the calls that write rows hand back.
+fn pack_rowed(answer: Result<u32, Unresolved>) -> u64
     requires { Fits (rowed_answer answer) }
     ensures { result ≡ packed (rowed_answer answer) }
 {
     match answer {
-        Rowed::Refused(number) => pack(0, 0, 0, number),
-        Rowed::Twice(name, first, second) => pack(1, name, first.0, second.0),
-        Rowed::Rows(count) => pack(2, 0, 0, count),
+        Ok(count) => pack(2, 0, 0, count),
+        Err(unresolved) => pack_unresolved(unresolved),
     }
 }
 
-fn pack_once(answer: Once) -> u64
+// What Once hands back.
+fn pack_once(answer: Result<Option<Lone>, Unresolved>) -> u64
     requires { Fits (once_answer answer) }
     ensures { result ≡ packed (once_answer answer) }
 {
     match answer {
-        Once::Refused(number) => pack(0, 0, 0, number),
-        Once::Twice(name, first, second) => pack(1, name, first.0, second.0),
-        Once::Ok => pack(2, 0, 0, 0),
-        Once::Lone(node, binding) => pack(3, 0, node.0, binding.0),
+        Ok(None) => pack(2, 0, 0, 0),
+        Ok(Some(lone)) => pack(3, 0, lone.node.0, lone.binding.0),
+        Err(unresolved) => pack_unresolved(unresolved),
     }
 }
 
@@ -112,10 +133,12 @@ pub fn eqlog_occurrences(image: &[u8], table: &mut [u32], rows: &mut [u32]) -> u
     pack_rowed(occurrences::occurrences(image, table, rows))
 }
 
-// Name: where the name's bytes stand in the image, start and length; 0 where there is none.
+// Name: where the name's bytes stand in the image, start and length; 0 where there is none. (`as`: u64 has no From<usize>.)
 pub fn eqlog_name(image: &[u8], name: u32) -> u64
     ensures { Places result (name_place image.now name) }
 {
-    let p = names::name_place(image, name);
-    (p.start as u64) * 4294967296 + (p.len as u64)
+    match names::name_place(image, name) {
+        Some(place) => place.start as u64 * 4294967296 + place.len as u64,
+        None => 0,
+    }
 }

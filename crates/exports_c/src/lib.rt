@@ -1,4 +1,4 @@
-// The C interface: the calls of the crate exports under their C names.
+// The C interface: the calls of the crate exports under their C names, in a crate of its own, since a static library is one.
 #![tactic(auto)]
 
 ghost use Rattle.names.specs.Name.{name_place};

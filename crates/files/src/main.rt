@@ -2,101 +2,99 @@
 // rule files are those of crates/starred, whose definitions give the same bytes and the same lines.
 #![tactic(auto)]
 
+use std::alloc::{AllocError, Global};
+use std::io::Read;
 use std::rt::Files;
 use std::{fs, io};
 
-// Whether the report of the file `image` is what the file `report` holds. No, where one of the two cannot be opened.
-fn is_reported<R: Files>(files: &R, image: &str, report: &str) -> bool {
-    let Ok(mut given) = fs::open(files, image) else {
-        return false;
-    };
-    let Ok(mut wanted) = fs::open(files, report) else {
-        return false;
-    };
-    let mut bytes = [0u8; 61457];
-    let got = input::read_full(&mut given, &mut bytes);
-    let mut expected = [0u8; 65536];
-    let length = input::read_full(&mut wanted, &mut expected);
-    let mut out = [0u8; lines::LONGEST];
-    let size = lines::report(&bytes[..got], &mut out);
-    out[..size] == expected[..length]
-}
+// One byte more than any image has.
+const TOO_MANY: usize = 61457;
 
-fn run<R: Files + Print>(rt: &R, name: &str, image: &str, report: &str) -> io::Result<()> {
-    if is_reported(rt, image, report) {
-        println!(rt; "{name} ok")
-    } else {
-        println!(rt; "{name} DIFFERS")
-    }
-}
+// No report of data/ has more bytes.
+const MOST_REPORT_BYTES: usize = 65536;
 
-fn run_rules<R: Files + Print>(rt: &R) -> io::Result<()> {
+// The rule files.
+const RULES: [&str; 12] = [
     // ★A: `if x = x`
-    run(rt, "if_equal", "if_equal.image", "if_equal.report")?;
+    "if_equal",
     // ★Module alone
-    run(
-        rt,
-        "module_alone",
-        "module_alone.image",
-        "module_alone.report",
-    )?;
+    "module_alone",
     // ★Const c, `if c = c`
-    run(rt, "const_equal", "const_equal.image", "const_equal.report")?;
+    "const_equal",
     // ★Const c, `if c : T; if c = x; then x = c`
-    run(rt, "shadowed", "shadowed.image", "shadowed.report")?;
+    "shadowed",
     // ★`then x := f(x)!`
-    run(
-        rt,
-        "defined_then",
-        "defined_then.image",
-        "defined_then.report",
-    )?;
+    "defined_then",
     // ★Branch of two blocks `if x = x`
-    run(rt, "branches", "branches.image", "branches.report")?;
+    "branches",
     // ★The same after `if x = x`
-    run(
-        rt,
-        "branches_after",
-        "branches_after.image",
-        "branches_after.report",
-    )?;
+    "branches_after",
     // ★Enum E with constructor E
-    run(rt, "enum_twice", "enum_twice.image", "enum_twice.report")?;
+    "enum_twice",
     // ★Model list with pred p under an outer p
-    run(rt, "model_list", "model_list.image", "model_list.report")?;
+    "model_list",
     // ★One pred with two arguments named a
-    run(
-        rt,
-        "repeated_args",
-        "repeated_args.image",
-        "repeated_args.report",
-    )?;
+    "repeated_args",
     // ★Match case of constructor Foo on (x, x)
-    run(rt, "match_case", "match_case.image", "match_case.report")?;
+    "match_case",
     // `then p(dom x)`, x new
-    run(rt, "dom_term", "dom_term.image", "dom_term.report")?;
-    Ok(())
+    "dom_term",
+];
+
+// The byte strings at the limits of size.
+const SIZES: [&str; 7] = [
+    // four sizes alone, N = 2,048: passes 2
+    "nodes_2048",
+    // N = 2,049: 2
+    "nodes_2049",
+    // 15 bytes: 1
+    "fifteen",
+    // no byte: 1
+    "empty",
+    // every size at its limit, 61,456 bytes, the rest 0
+    "longest",
+    // the same and more, 70,000 bytes
+    "longer",
+    // a whole image of 2,048 nodes
+    "full",
+];
+
+// The input's front, of at most so many bytes; a read that fails ends it.
+fn read_front<R: Read>(alloc: Global, input: &mut R, most: usize) -> Result<Vec<u8>, AllocError> {
+    let mut bytes = vec![in alloc; 0; most]?;
+    let count = input::read_full(input, &mut bytes);
+    bytes.truncate(count);
+    Ok(bytes)
 }
 
-fn run_sizes<R: Files + Print>(rt: &R) -> io::Result<()> {
-    // four sizes alone, N = 2,048: passes 2
-    run(rt, "nodes_2048", "nodes_2048.image", "nodes_2048.report")?;
-    // N = 2,049: 2
-    run(rt, "nodes_2049", "nodes_2049.image", "nodes_2049.report")?;
-    // 15 bytes: 1
-    run(rt, "fifteen", "fifteen.image", "fifteen.report")?;
-    // no byte: 1
-    run(rt, "empty", "empty.image", "empty.report")?;
-    // every size at its limit, 61,456 bytes, the rest 0
-    run(rt, "longest", "longest.image", "longest.report")?;
-    // the same and more, 70,000 bytes
-    run(rt, "longer", "longer.image", "longer.report")?;
-    // a whole image of 2,048 nodes
-    run(rt, "full", "full.image", "full.report")?;
+// Whether the report of NAME.image is what NAME.report holds. No, where one of the two cannot be opened.
+fn is_reported<R: Files + AllocGlobal>(rt: &R, name: &str) -> io::Result<bool> {
+    let Ok(mut given) = fs::open(rt, format!(in rt.alloc(); "{name}.image")?) else {
+        return Ok(false);
+    };
+    let Ok(mut wanted) = fs::open(rt, format!(in rt.alloc(); "{name}.report")?) else {
+        return Ok(false);
+    };
+    let image = read_front(rt.alloc(), &mut given, TOO_MANY)?;
+    let report = read_front(rt.alloc(), &mut wanted, MOST_REPORT_BYTES)?;
+    // fixed memory, as `report` asks for it: so the size stands beside it
+    let mut out = [0u8; lines::LONGEST];
+    let size = lines::report(&image, &mut out);
+    Ok(out[..size] == report[..])
+}
+
+fn run<R: Files + Print + AllocGlobal>(rt: &R, names: &[&str]) -> io::Result<()> {
+    for name in names {
+        if is_reported(rt, name)? {
+            println!(rt; "{name} ok")?;
+        } else {
+            println!(rt; "{name} DIFFERS")?;
+        }
+    }
     Ok(())
 }
 
 fn main(rt: HostRuntime) -> io::Result<()> {
-    run_rules(&rt)?;
-    run_sizes(&rt)
+    run(&rt, &RULES)?;
+    run(&rt, &SIZES)
 }

@@ -11,16 +11,12 @@ pub fn read_full<R: Read>(input: &mut R, buffer: &mut [u8]) -> usize
     ensures in_bounds { result ≤ length buffer.new }
     ensures bytes { Consumes (R.remaining input.old) (R.remaining input.new) (take result buffer.new) }
 {
+    // no `for`: how far a read goes is its own answer
     let mut done = 0;
     while done < buffer.len() {
         match input.read(&mut buffer[done..]) {
-            Ok(0) => {
-                return done;
-            }
+            Ok(0) | Err(_) => return done,
             Ok(n) => done += n,
-            Err(_) => {
-                return done;
-            }
         }
     }
     done

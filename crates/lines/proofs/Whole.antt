@@ -10,20 +10,8 @@ use Rattle.rows.specs.Rows.{Row, lefts, rights, rows_length, filled, written}
 use Rattle.rows.proofs.Appends.{lefts-length, rights-length}
 use Rattle.lines.specs.Report.{Line, zipped}
 use Rattle.lines.specs.Bytes.{numbers, line_bytes, lines_bytes}
-use Rattle.lines.specs.Out.{Out, out_at, write, rows_from, Wrote}
-use Rattle.lines.proofs.Puts.{put-there, write-append}
-
--- some bytes, then more
-pub wrote_none : (o : Out) → Wrote [] 0 o o
-unfolding write
-wrote_none o = record { out = refl; short = omega arith }
-
-pub wrote-next : {bs cs : List ℕ} {m k : ℕ} {o p q : Out} → Wrote bs m o p → Wrote cs k p q → Wrote (bs ++ cs) (m + k) o q
-wrote-next {bs} {cs} {m} {k} {o} f g =
-    record {
-      out = g.out ∙ ap (write cs) f.out ∙ sym (write-append bs cs o);
-      short = (let a = f.short in let b = g.short in let e = length-append bs cs in omega arith);
-    }
+use Rattle.lines.specs.Out.{Out, out_at, write, rows_from}
+use Rattle.lines.proofs.Puts.{put-there}
 
 -- bytes that fit stand where they were put
 write-fits : (bs us ws : List ℕ) → length bs ≤ length ws → write bs (out_at (length us) (us ++ ws)) ≡ out_at (length us + length bs) (us ++ (bs ++ drop (length bs) ws))
@@ -37,9 +25,9 @@ write-fits (b ∷ bs) us (w ∷ ws) h =
     ∙ write-fits bs (us ++ (b ∷ [])) ws (omega arith)
     ∙ ap₂ out_at (let e = length-append us (b ∷ []) in omega arith) (append_assoc us (b ∷ []) (bs ++ drop (length bs) ws))
 
-module _ {bs ws vs : List ℕ} {most r : ℕ} (f : Wrote bs most (out_at 0 ws) (out_at r vs)) (fits : most ≤ length ws) where
+module _ (bs ws vs : List ℕ) (most r : ℕ) (f : out_at r vs ≡ write bs (out_at 0 ws)) (s : length bs ≤ most) (fits : most ≤ length ws) where
   whole : out_at r vs ≡ out_at (0 + length bs) (bs ++ drop (length bs) ws)
-  whole = f.out ∙ write-fits bs [] ws (let s = f.short in omega arith)
+  whole = f ∙ write-fits bs [] ws (omega arith)
 
   -- the first r bytes are what was put
   pub wrote-whole : take r vs ≡ bs
@@ -49,14 +37,13 @@ module _ {bs ws vs : List ℕ} {most r : ℕ} (f : Wrote bs most (out_at 0 ws) (
       ∙ take-append_seam bs (drop (length bs) ws)
 
   pub wrote-within : r ≤ most
-  wrote-within = let e = ap (λ (o : Out). o.place) whole in let s = f.short in omega arith
+  wrote-within = let e = ap (λ (o : Out). o.place) whole in omega arith
 
   pub wrote_kept : length vs ≡ length ws
   wrote_kept =
       let e = ap (λ (o : Out). length o.bytes) whole in
       let a = length-append bs (drop (length bs) ws) in
       let d = length-drop (length bs) ws in
-      let s = f.short in
       omega arith
 
 -- rows as lines are the lines of their words

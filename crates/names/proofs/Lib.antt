@@ -1,4 +1,4 @@
 pub mod Names
-pub mod Places
 pub mod NameParts
 pub mod Numbers
+pub mod Places

@@ -1,5 +1,5 @@
 -- Laws of Name: where the name's bytes stand in the image.
-use mathlib.Core.Path.{◌≡◌, refl, sym, ap, ◌∙◌, subst}
+use mathlib.Core.Path.{◌≡◌, refl, sym, ap, ap₂, ◌∙◌, subst}
 use mathlib.Core.Bool.{Bool, true, false, ◌&&◌}
 use mathlib.Core.List.{List}
 use Prim.Native.Nat.{ℕ, ◌+◌, ◌-◌, ◌<◌, ◌≤◌}
@@ -14,30 +14,35 @@ use Rattle.names.specs.declared.NamePlace.{NamePlace}
 use Rattle.ast.proofs.Accepted.{named, name_in, sized}
 
 module _ (img : List ℕ) (x : ℕ) where
+  pub none-refused : (verdict img ≡ 0 → ⊥) → has_name img x ≡ false
+  unfolding has_name
+  none-refused h = rw (ne_eqb _ _ h)
+
+  pub none-beyond : verdict img ≡ 0 → names img ≤ x → has_name img x ≡ false
+  unfolding has_name
+  none-beyond e h = rw (eq-eqb _ _ e, le-ltb _ _ h)
+
+  pub there : verdict img ≡ 0 → x < names img → has_name img x ≡ true
+  unfolding has_name
+  there e h = rw (eq-eqb _ _ e, lt-ltb _ _ h)
+
   place_none : has_name img x ≡ false → name_place img x ≡ record { start = 0; len = 0 }
   unfolding name_place
   place_none e = rw (e, name_place)
+
+  pub place-refused : (verdict img ≡ 0 → ⊥) → name_place img x ≡ record { start = 0; len = 0 }
+  place-refused h = place_none (none-refused h)
+
+  pub place-beyond : verdict img ≡ 0 → names img ≤ x → name_place img x ≡ record { start = 0; len = 0 }
+  place-beyond e h = place_none (none-beyond e h)
 
   place-some : has_name img x ≡ true → name_place img x ≡ record { start = bytes_place img + name_start img x; len = name_end img x - name_start img x }
   unfolding name_place
   place-some e = rw (e, name_place)
 
-  pub place-refused : (verdict img ≡ 0 → ⊥) → name_place img x ≡ record { start = 0; len = 0 }
-  unfolding has_name
-  place-refused h = place_none (rw (ne_eqb _ _ h))
-
-  module _ (accepted : verdict img ≡ 0) where
-    pub place-beyond : names img ≤ x → name_place img x ≡ record { start = 0; len = 0 }
-    unfolding has_name
-    place-beyond h = place_none (rw (eq-eqb _ _ accepted, le-ltb _ _ h))
-
-    -- as the code has it: from the start of the name up to its end
-    pub place_is : x < names img → (from to : ℕ) → from ≡ bytes_place img + name_start img x → to ≡ bytes_place img + name_end img x
-        → name_place img x ≡ record { start = from; len = to - from }
-    unfolding has_name
-    place_is h from to e f =
-        let q : to - from ≡ name_end img x - name_start img x = omega arith in
-        place-some (rw (eq-eqb _ _ accepted, lt-ltb _ _ h)) ∙ rw (q, e)
+  -- as the code has it
+  pub place_is : has_name img x ≡ true → (p : NamePlace) → p.start ≡ bytes_place img + name_start img x → p.len ≡ name_end img x - name_start img x → name_place img x ≡ p
+  place_is h p e f = place-some h ∙ ap₂ (λ a n. record { start = a; len = n }) (sym e) (sym f)
 
   has_both : has_name img x ≡ true → (verdict img ≡ 0) × (x < names img)
   unfolding has_name
@@ -45,8 +50,8 @@ module _ (img : List ℕ) (x : ℕ) where
     where
       go : (a b : Bool) → (a ≡ true → verdict img ≡ 0) → (b ≡ true → x < names img) → (a && b) ≡ true → (verdict img ≡ 0) × (x < names img)
       go true true f g h = (f refl, g refl)
-      go true false f g h = let z : ◌≡◌ {A = ℕ} 0 1 = cc in absurd (omega arith)
-      go false b f g h = let z : ◌≡◌ {A = ℕ} 0 1 = cc in absurd (omega arith)
+      go true false f g h = cc
+      go false b f g h = cc
 
   -- the place lies in the image, and the bytes there are the name's
   pub record Part (p : NamePlace) : Type 0 where

@@ -1,17 +1,19 @@
 -- Laws of the tests of the names: their ends, and buckets of names by a hash of their bytes.
 use mathlib.Core.Path.{◌≡◌, refl, sym, ap, ◌∙◌}
-use mathlib.Core.Bool.{Bool, true, false, not}
+use mathlib.Core.Bool.{Bool, true, false, not, ◌&&◌}
 use mathlib.Core.Logic.{◌⊎◌, inl, inr}
 use mathlib.Core.List.{List, [], ◌∷◌}
 use Prim.Native.Nat.{ℕ, zero, suc, ◌+◌, ◌-◌, ◌*◌, ◌%◌, ◌<◌, ◌≤◌}
 use native.Mathlib.Omega.{arith}
 use native.Mathlib.Numerals.{add-one}
 use lib.Dec.{eqb}
-use lib.ListN.{length, get_or, set, take, drop, replicate, length-replicate, length-set}
-use lib.Seq.{slice, slice-cons, slice_empty, length-slice, take-nil, get_or-set_same, get_or-set_other}
-use native.Mathlib.Nat.{add-zero, zero-add}
+use lib.ListN.{length, get_or, set, take, drop, replicate, length-replicate, length-set, drop_of_length-le}
+use lib.Seq.{drop-cons, get_or-set_same, get_or-set_other}
+use Rattle.std.specs.Cmp.Lexicographic.{pointwise}
+use Rattle.std.proofs.lemmas.Slice.Eq.{bytes_eq-Decides}
+use native.Mathlib.Nat.{add-zero}
 use native.Mathlib.Decide.{dec_lt}
-use borrow.Author.Tests.{lt-ltb, le-ltb, eq-eqb, ne_eqb, eqb-true}
+use borrow.Author.Tests.{lt-ltb, le-ltb, eq-eqb, ne_eqb}
 use Rattle.ast.specs.Image.{names, bytes, bytes_place, name_start, name_end, name_bytes}
 use Rattle.ast.specs.Promises.{Within, Rises}
 use Rattle.ast.specs.Tests.{◌▸◌, need, run, same, rising, unequal, test_ends, test_twice, test_names}
@@ -19,7 +21,7 @@ use Rattle.ast.proofs.Accepted.{skip, stop, stop-at, name_in}
 use Rattle.ast.proofs.Runs.{RunLeft, run-begin, run-next, run-stop, run_end}
 use Rattle.ast.proofs.Scans.{need-in, need-out}
 use Rattle.ast.specs.declared.Sizes.{Sizes}
-use Rattle.names.specs.Promises.{Met, NameAt, Reach, Spanned, hash, here, there}
+use Rattle.names.specs.Promises.{Met, Reach, hash, here, there}
 
 -- runs ----------------------------------------------------------------------------------------------------------------
 run-all : (f : ℕ → ℕ) (c i : ℕ) → ((j : ℕ) → j < c → f (i + j) ≡ 0) → run f c i ≡ 0
@@ -85,127 +87,51 @@ module _ (img : List ℕ) where
   unfolding test_names
   names-twice e = skip _ _ e
 
--- parts of the image --------------------------------------------------------------------------------------------------
-take_part : (a n : ℕ) (l : List ℕ) → drop a (take (a + n) l) ≡ take n (drop a l)
-take_part zero n l = rw zero-add
-take_part (suc a) n [] = ap (drop (suc a)) (take-nil (suc a + n)) ∙ sym (take-nil n)
-take_part (suc a) n (x ∷ l) = let q : suc a + n ≡ suc (a + n) = omega arith in rw q (take_part a n l)
+-- a name's bytes ------------------------------------------------------------------------------------------------------
+module _ (img : List ℕ) (s : Sizes) (w : Within img s) (r : Rises img) (i : ℕ) (h : i < s.names) where
+  -- where they stand is in the image
+  pub place-fits : (a n : ℕ) → a ≡ bytes_place img + name_start img i → n ≡ name_end img i - name_start img i → a + n ≤ length img
+  place-fits a n e f =
+      let k = name_in img r i (omega (arith, w.head.names_are)) in
+      let m = r.rises i (omega (arith, w.head.names_are)) in
+      omega (arith, w.exact, w.head)
 
-module _ (img : List ℕ) (r : Rises img) where
-  pub name-slice : (i : ℕ) → i < names img → name_bytes img i ≡ slice (bytes_place img + name_start img i) (bytes_place img + name_end img i) img
+  pub place-bytes : (a n : ℕ) → a ≡ bytes_place img + name_start img i → n ≡ name_end img i - name_start img i → take (a + n - a) (drop a img) ≡ name_bytes img i
   unfolding name_bytes
-  name-slice i h =
-      let a = r.rises i h in
-      let q : bytes_place img + name_end img i ≡ bytes_place img + name_start img i + (name_end img i - name_start img i) = omega arith in
-      rw q (sym (take_part (bytes_place img + name_start img i) _ img))
+  place-bytes a n e f = let q : a + n - a ≡ n = omega arith in rw (q, e, f)
 
-  pub name-long : (s : Sizes) → Within img s → (i : ℕ) → i < names img → bytes_place img + name_end img i ≤ length img
-  name-long s w i h = let a = name_in img r i h in let e = w.exact in let q = w.head in omega arith
-
--- the bytes agree
-module _ (img : List ℕ) (a b to : ℕ) where
-  abbrev pub part : ℕ → ℕ → Bool
-  part i j = same (slice i (a + (to - b)) img) (slice j to img)
-
-  pub record AgreeLeft (i j : ℕ) : Type 0 where
-    pub left : part a b ≡ part i j
-    pub level : i + (to - j) ≡ a + (to - b)
-    pub few : j ≤ to
-
-  module _ (i j : ℕ) (l : AgreeLeft i j) (h : j < to) (k : to ≤ length img) (m : a + (to - b) ≤ length img) where
-    split : part i j ≡ elim (eqb (get_or img i 0) (get_or img j 0)) [ true ↦ part (suc i) (suc j) | false ↦ false ]
-    unfolding same
-    split =
-        let e = l.level in
-        let f : i < a + (to - b) = omega arith in
-        rw (slice-cons i (a + (to - b)) img 0 f m, slice-cons j to img 0 h k)
-
-    pub agree-next : get_or img i 0 ≡ get_or img j 0 → AgreeLeft (i + 1) (j + 1)
-    agree-next e = let q = l.level in record { left = rw (add-one i, add-one j) (l.left ∙ split ∙ rw (eq-eqb _ _ e)); level = omega arith; few = omega arith }
-
-    pub agree-stop : (get_or img i 0 ≡ get_or img j 0 → ⊥) → part a b ≡ false
-    agree-stop e = l.left ∙ split ∙ rw (ne_eqb _ _ e)
-
-  pub agree-end : (i j : ℕ) → AgreeLeft i j → to ≤ j → part a b ≡ true
-  unfolding same
-  agree-end i j l h =
-      let q = l.level in
-      let f = l.few in
-      let e : j ≡ to = omega arith in
-      let g : i ≡ a + (to - b) = omega arith in
-      l.left ∙ rw (e, g) (rw (slice_empty to img, slice_empty (a + (to - b)) img))
-
-pub same_length : (xs ys : List ℕ) → (length xs ≡ length ys → ⊥) → same xs ys ≡ false
+-- what `==` of slices says
+pub same-is : (xs ys : List ℕ) → pointwise eqb xs ys ≡ same xs ys
 unfolding same
-same_length [] [] h = absurd (h refl)
-same_length [] (y ∷ ys) h = refl
-same_length (x ∷ xs) [] h = refl
-same_length (x ∷ xs) (y ∷ ys) h = go (eqb x y) (same_length xs ys (λ e. h (omega arith)))
+same-is [] [] = refl
+same-is [] (y ∷ ys) = refl
+same-is (x ∷ xs) [] = refl
+same-is (x ∷ xs) (y ∷ ys) = go (eqb x y) (same-is xs ys)
   where
-    go : (b : Bool) → same xs ys ≡ false → elim b [ true ↦ same xs ys | false ↦ false ] ≡ false
+    go : (b : Bool) → pointwise eqb xs ys ≡ same xs ys → (b && pointwise eqb xs ys) ≡ elim b [ true ↦ same xs ys | false ↦ false ]
     go true e = e
     go false e = refl
 
+-- the same of two names' bytes
+pub same-names : (j i : ℕ) (img : List ℕ) {xs ys : List ℕ} {b : Bool} → xs ≡ name_bytes img j → ys ≡ name_bytes img i → b ≡ pointwise eqb xs ys → same (name_bytes img j) (name_bytes img i) ≡ b
+same-names j i img {xs} {ys} {b} e f h = rw (← e, ← f) (sym (h ∙ same-is xs ys))
+
 same_true : (xs ys : List ℕ) → same xs ys ≡ true → xs ≡ ys
-unfolding same
-same_true [] [] e = refl
-same_true [] (y ∷ ys) e = let z : ◌≡◌ {A = ℕ} 0 1 = cc in absurd (omega arith)
-same_true (x ∷ xs) [] e = let z : ◌≡◌ {A = ℕ} 0 1 = cc in absurd (omega arith)
-same_true (x ∷ xs) (y ∷ ys) e = go (eqb x y) (eqb-true x y) (same_true xs ys) e
-  where
-    go : (b : Bool) → (b ≡ true → x ≡ y) → (same xs ys ≡ true → xs ≡ ys) → elim b [ true ↦ same xs ys | false ↦ false ] ≡ true → x ∷ xs ≡ y ∷ ys
-    go true f g q = let p = f refl in let r = g q in cc
-    go false f g q = let z : ◌≡◌ {A = ℕ} 0 1 = cc in absurd (omega arith)
-
-bytes-i : (img : List ℕ) (s : Sizes) (i from to : ℕ) → NameAt img s i from to → name_bytes img i ≡ slice from to img
-bytes-i img s i from to n = rw (n.from_is, n.to_is) (name-slice img n.rising_all i n.name)
-
-pub name-fits : (img : List ℕ) (s : Sizes) (i from to : ℕ) → NameAt img s i from to → (from ≤ to) × (to ≤ length img)
-name-fits img s i from to n =
-    let a = name-long img n.rising_all s n.within i n.name in
-    let c = n.rising_all.rises i n.name in
-    let e = n.from_is in
-    let f = n.to_is in
-    omega arith
-
-pub spans : (img : List ℕ) (s : Sizes) (i start : ℕ) → Spanned img s i start → (u v w x y e : ℕ) → u ≡ s.nodes → v ≡ s.operands → w ≡ s.names
-    → x ≡ start → y ≡ e → e ≡ name_end img i → NameAt img s i (16 + 8 * u + 4 * v + 4 * w + x) (16 + 8 * u + 4 * v + 4 * w + y)
-spans img s i start p u v w x y e a b c d f g =
-    let h = p.within.head in
-    let z = p.start_is in
-    record { within = p.within; rising_all = p.rising_all; name = p.name; from_is = omega arith; to_is = omega arith }
-
-pub bucket-is : (img : List ℕ) (s : Sizes) (i from to g : ℕ) → NameAt img s i from to → g ≡ hash 0 (slice from to img) → g ≡ hash 0 (name_bytes img i)
-bucket-is img s i from to g n k = k ∙ sym (ap (hash 0) (bytes-i img s i from to n))
-
-module _ (img : List ℕ) (s : Sizes) (j i a b from to : ℕ) (m : NameAt img s j a b) (n : NameAt img s i from to) where
-  pub names-other : (b - a ≡ to - from → ⊥) → same (name_bytes img j) (name_bytes img i) ≡ false
-  names-other h =
-      let k = name-fits img s j a b m in
-      let l = name-fits img s i from to n in
-      same_length _ _ (λ e. h (sym (ap length (bytes-i img s j a b m) ∙ length-slice a b img k.1) ∙ e ∙ ap length (bytes-i img s i from to n) ∙ length-slice from to img l.1))
-
-  pub names-agree : b - a ≡ to - from → same (name_bytes img j) (name_bytes img i) ≡ part img a from to a from
-  names-agree h =
-      let k = name-fits img s j a b m in
-      let l = name-fits img s i from to n in
-      let q : b ≡ a + (to - from) = omega arith in
-      rw (bytes-i img s i from to n, bytes-i img s j a b m, q)
+same_true xs ys e = (bytes_eq-Decides xs ys).0 (same-is xs ys ∙ e)
 
 -- the hash
-module _ (img : List ℕ) (from to : ℕ) where
+module _ (xs : List ℕ) where
   pub record HashLeft (h i : ℕ) : Type 0 where
-    pub left : hash 0 (slice from to img) ≡ hash h (slice i to img)
+    pub left : hash 0 xs ≡ hash h (drop i xs)
     pub small : h < 1024
-    pub few : i ≤ to
 
-  pub hash-next : (h i x : ℕ) → HashLeft h i → i < to → to ≤ length img → x ≡ get_or img i 0 → HashLeft ((37 * h + x) % 1024) (i + 1)
+  pub hash-next : (h i : ℕ) → HashLeft h i → i < length xs → HashLeft ((37 * h + get_or xs i 0) % 1024) (i + 1)
   unfolding hash
-  hash-next h i x l k m e = record { left = l.left ∙ rw (slice-cons i to img 0 k m, add-one, e); small = omega arith; few = omega arith }
+  hash-next h i l k = record { left = l.left ∙ rw (drop-cons xs i 0 k, add-one); small = omega arith }
 
-  pub hash-end : (h i : ℕ) → HashLeft h i → to ≤ i → h ≡ hash 0 (slice from to img)
+  pub hash-end : (h i : ℕ) → HashLeft h i → length xs ≤ i → h ≡ hash 0 xs
   unfolding hash
-  hash-end h i l k = let f = l.few in let e : i ≡ to = omega arith in sym (l.left ∙ rw e (rw (slice_empty to img)))
+  hash-end h i l k = sym (l.left ∙ rw (drop_of_length-le xs k))
 
 -- a chain ------------------------------------------------------------------------------------------------------------
 module _ (img : List ℕ) (i first : ℕ) (next : List ℕ) where
@@ -216,36 +142,34 @@ module _ (img : List ℕ) (i first : ℕ) (next : List ℕ) where
   pub chain-begin : first ≤ i → ChainLeft first
   chain-begin h = record { low = h; left = λ m r. inr r }
 
-  pub chain_next : (j : ℕ) → ChainLeft j → (j ≡ 0 → ⊥) → ((k : ℕ) → k < i → get_or next k 0 ≤ k)
-      → same (name_bytes img (j - 1)) (name_bytes img i) ≡ false → ChainLeft (get_or next (j - 1) 0)
-  chain_next zero l z f e = absurd (z refl)
-  chain_next (suc j) l z f e =
-      let q : suc j - 1 ≡ j = omega arith in
+  pub chain_next : (t : ℕ) → ChainLeft t → (j : ℕ) → 1 ≤ t → j ≡ t - 1 → ((k : ℕ) → k < i → get_or next k 0 ≤ k)
+      → same (name_bytes img j) (name_bytes img i) ≡ false → ChainLeft (get_or next j 0)
+  chain_next zero l j z q f e = absurd (omega arith)
+  chain_next (suc t) l j z q f e =
+      let p : j ≡ t = omega arith in
       let h = l.low in
-      let g = f j (omega arith) in
-      rw q (record { low = omega arith; left = λ m r. go m (l.left m r) (rw q at e) })
+      let g = f t (omega arith) in
+      rw p (record { low = omega arith; left = λ m r. go m (l.left m r) (rw p at e) })
     where
-      go : (m : ℕ) → (same (name_bytes img m) (name_bytes img i) ≡ false) ⊎ Reach next (suc j) m → same (name_bytes img j) (name_bytes img i) ≡ false
-          → (same (name_bytes img m) (name_bytes img i) ≡ false) ⊎ Reach next (get_or next j 0) m
+      go : (m : ℕ) → (same (name_bytes img m) (name_bytes img i) ≡ false) ⊎ Reach next (suc t) m → same (name_bytes img t) (name_bytes img i) ≡ false
+          → (same (name_bytes img m) (name_bytes img i) ≡ false) ⊎ Reach next (get_or next t 0) m
       go m (inl a) x = inl a
       go m (inr here) x = inl x
       go m (inr (there r)) x = inr r
 
-  pub chain-found : (j : ℕ) → ChainLeft j → (j ≡ 0 → ⊥) → same (name_bytes img (j - 1)) (name_bytes img i) ≡ true → Met img i first next true
-  chain-found zero l z e = absurd (z refl)
-  chain-found (suc j) l z e =
-      let q : suc j - 1 ≡ j = omega arith in
+  pub chain-found : (t : ℕ) → ChainLeft t → (j : ℕ) → 1 ≤ t → j ≡ t - 1 → same (name_bytes img j) (name_bytes img i) ≡ true → Met img i first next true
+  chain-found t l j z q e =
       let p : 0 + j ≡ j = omega arith in
       let h = l.low in
       record {
-        found = λ t. run-one (λ x. not (same (name_bytes img x) (name_bytes img i))) i 0 j (omega arith) (rw p (ap not (rw q at e)));
-        none = λ t. let y : ◌≡◌ {A = ℕ} 0 1 = cc in absurd (omega arith);
+        found = λ t. run-one (λ x. not (same (name_bytes img x) (name_bytes img i))) i 0 j (omega arith) (rw p (ap not e));
+        none = λ t. cc;
       }
 
   pub chain-end : (j : ℕ) → ChainLeft j → j ≡ 0 → Met img i first next false
   chain-end zero l z =
       record {
-        found = λ t. let y : ◌≡◌ {A = ℕ} 0 1 = cc in absurd (omega arith);
+        found = λ t. cc;
         none = λ t m r. go m (l.left m r);
       }
     where
@@ -265,23 +189,18 @@ module _ (img : List ℕ) where
   abbrev bucket_of : ℕ → ℕ
   bucket_of m = hash 0 (name_bytes img m)
 
-  pub record Buckets (i start : ℕ) (heads next : List ℕ) : Type 0 where
+  pub record Buckets (i : ℕ) (heads next : List ℕ) : Type 0 where
     pub left : RunLeft (λ i. run (unequal img i) i 0) (names img) i
-    pub start_is : start ≡ name_start img i
-    pub few : i ≤ names img
     pub heads_long : length heads ≡ 1024
     pub next_long : length next ≡ 1024
     pub low : (h : ℕ) → get_or heads h 0 ≤ i
     pub falls : (j : ℕ) → j < i → get_or next j 0 ≤ j
     pub reach : (m : ℕ) → m < i → Reach next (get_or heads (bucket_of m) 0) m
 
-  pub buckets-begin : Buckets 0 0 (replicate 1024 0) (replicate 1024 0)
-  unfolding name_start
+  pub buckets-begin : Buckets 0 (replicate 1024 0) (replicate 1024 0)
   buckets-begin =
       record {
         left = run-begin _ _;
-        start_is = refl;
-        few = omega arith;
         heads_long = length-replicate {A = ℕ} 1024 0;
         next_long = length-replicate {A = ℕ} 1024 0;
         low = λ h. zeros 1024 h;
@@ -298,8 +217,7 @@ module _ (img : List ℕ) where
   unfolding test_twice
   twice-are = refl
 
-  module _ (i start end h first : ℕ) (heads next : List ℕ) (b : Buckets i start heads next) (l : i < names img) (few-names : names img ≤ 1024)
-      (e : end ≡ name_end img i) (k : h ≡ bucket_of i) (small : h < 1024) (f : first ≡ get_or heads h 0) where
+  module _ (i h first : ℕ) (heads next : List ℕ) (b : Buckets i heads next) (l : i < names img) (few-names : names img ≤ 1024) (k : h ≡ bucket_of i) (small : h < 1024) (f : first ≡ get_or heads h 0) where
     none-meets : Met img i first next false → run (unequal img i) i 0 ≡ 0
     none-meets m = run-all (unequal img i) i 0 (λ j q. let p : 0 + j ≡ j = omega arith in rw p (need-in 5 _ (ap not (apart j q))))
       where
@@ -346,13 +264,10 @@ module _ (img : List ℕ) where
                 let z : bucket_of m ≡ h = omega arith in
                 rw z (rw heads-at (there {j = i} {m = m} (rw next-at (rw (sym f) at (rw z at (old p))))))
 
-    pub buckets-next : Met img i first next false → Buckets (i + 1) end (set heads h (i + 1)) (set next i first)
-    unfolding name_start
+    pub buckets-next : Met img i first next false → Buckets (i + 1) (set heads h (i + 1)) (set next i first)
     buckets-next m =
         record {
           left = run-next _ _ i b.left l (none-meets m);
-          start_is = rw add-one e;
-          few = omega arith;
           heads_long = length-set heads h (i + 1) ∙ b.heads_long;
           next_long = length-set next i first ∙ b.next_long;
           low = λ g. lower g (either (i + 1) g);
@@ -371,5 +286,5 @@ module _ (img : List ℕ) where
     pub buckets-stop : Met img i first next true → test_twice img ≡ 5
     buckets-stop m = twice-are ∙ run-stop _ _ i 5 b.left l (m.found refl) (λ z. omega arith)
 
-  pub buckets-end : (i start : ℕ) (heads next : List ℕ) → Buckets i start heads next → names img ≤ i → test_twice img ≡ 0
-  buckets-end i start heads next b h = twice-are ∙ run_end _ _ i b.left h
+  pub buckets-end : (i : ℕ) (heads next : List ℕ) → Buckets i heads next → names img ≤ i → test_twice img ≡ 0
+  buckets-end i heads next b h = twice-are ∙ run_end _ _ i b.left h

@@ -6,6 +6,10 @@ use Rattle.ast.specs.Image.{nodes}
 use Rattle.ast.specs.Tests.{◌▸◌, run, test_sizes, test_names, test_node, test_tree, verdict}
 use Rattle.ast.proofs.Accepted.{skip, stop-at}
 
+-- the places after the names: each node, whole tree
+abbrev pub after_names : List ℕ → ℕ
+after_names img = run (test_node img) (nodes img) 0 ▸ test_tree img
+
 module _ (img : List ℕ) where
   pub verdict-sizes : (k : ℕ) → test_sizes img ≡ k → (k ≡ 0 → ⊥) → verdict img ≡ k
   unfolding verdict

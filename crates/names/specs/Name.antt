@@ -1,5 +1,5 @@
 -- Name (image, name number): the name's own bytes as a part of the image, for all inputs.
-use Rattle.std.specs.Prelude.{◌≡◌, Bool, true, false, ◌&&◌, List, [], ℕ, ◌+◌, ◌-◌, eqb, ltb}
+use Rattle.std.specs.Prelude.{◌≡◌, Option, unwrap_or, Bool, true, false, ◌&&◌, List, [], ℕ, ◌+◌, ◌-◌, eqb, ltb}
 use Rattle.std.specs.Borrow.{Bor}
 use Rattle.ast.specs.Image.{names, bytes_place, name_start, name_end, name_bytes}
 use Rattle.ast.specs.Tests.{verdict}
@@ -20,6 +20,10 @@ module _ (img : List ℕ) (x : ℕ) where
     | true ↦ record { start = bytes_place img + name_start img x; len = name_end img x - name_start img x }
     | false ↦ record { start = 0; len = 0 }
   ]
+
+-- the code's value as the definition's: 0 and 0 where there is no name
+abbrev pub place_of : Option NamePlace → NamePlace
+place_of p = unwrap_or p (record { start = 0; len = 0 })
 
 -- a part of the lent image stands at a place: it points into the image's own memory, that many bytes after its start
 pub record PartAt (image : Bor (List ℕ)) (p : NamePlace) (part : Bor (List ℕ)) : Type 0 where

@@ -1,10 +1,8 @@
 -- The number of a name that is given by its bytes.
-use Rattle.std.specs.Prelude.{true, false, List, ℕ, zero, suc, ◌+◌}
+use Rattle.std.specs.Prelude.{true, false, List, ℕ, zero, suc, ◌+◌, Option as Given, Some, None}
 use Rattle.std.proofs.Math.Option.{Option, none, some}
 use Rattle.ast.specs.Image.{names, name_bytes}
 use Rattle.ast.specs.Tests.{same}
-use Rattle.names.specs.declared.Numbered.{Numbered}
-use Rattle.names.specs.declared.Numbered.TheVariants as numbered
 
 module _ (img : List ℕ) where
   -- the number of the name with these bytes, among the c names from i on
@@ -17,6 +15,6 @@ module _ (img : List ℕ) where
   number_of bs = number_from (names img) 0 bs
 
 -- the code's value as the definition's
-abbrev pub number_in : Numbered → Option ℕ
-number_in (numbered.At x) = some x
-number_in numbered.Nothing = none
+abbrev pub number_in : Given ℕ → Option ℕ
+number_in (Some x) = some x
+number_in None = none

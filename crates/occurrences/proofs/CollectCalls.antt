@@ -1,56 +1,37 @@
--- Occurrences and Once as their code goes: what the collectors find in the table that resolving fills, and that the lists do not need the
--- count of scopes, which lookup does not read.
-use mathlib.Core.Path.{◌≡◌, refl, sym, ap, subst, ◌∙◌}
+-- Occurrences and Once as their code goes: what the collectors find in the table that resolving fills.
+use mathlib.Core.Path.{◌≡◌, refl, sym, ap, ◌∙◌}
 use mathlib.Core.List.{List}
 use mathlib.Core.Option.{Option}
 use Prim.Native.Nat.{ℕ}
-use Rattle.ast.specs.Image.{nodes}
-use Rattle.table.specs.Values.{sought}
-use Rattle.ast.specs.Rules.{module_rules}
-use Rattle.table.specs.Table.{Table, lookup}
-use Rattle.table.specs.Values.{table_of}
-use Rattle.table.specs.declared.Walked.{Walked as InCode}
-use Rattle.rows.specs.Rows.{Row, Wrote}
-use Rattle.rows.proofs.Appends.{wrote_as}
+use Rattle.std.specs.Prelude.{Option as Given, Result, Ok, Err}
+use Rattle.std.specs.Result.{result_err}
+use Rattle.ast.specs.Answer.{Answer}
+use Rattle.error.specs.declared.SymbolDeclaredTwice.{SymbolDeclaredTwice}
+use Rattle.rows.specs.Rows.{Row}
 use Rattle.scopes.specs.Resolve.{test_table}
-use Rattle.scopes.specs.Answers.{Resolves}
-use Rattle.scopes.specs.Promises.{NotedBy}
-use Rattle.scopes.specs.declared.Declared.{Declared}
-use Rattle.scopes.specs.declared.Declared.TheVariants.{Done}
+use Rattle.scopes.specs.Answers.{table_of, Resolves}
+use Rattle.scopes.specs.declared.Resolved.{Resolved}
 use Rattle.scopes.proofs.Calls.{call-filled}
 use Rattle.scopes.proofs.Headed.{resolved-filled}
-use Rattle.occurrences.specs.Spots.{Spot}
-use Rattle.occurrences.specs.Occurrences.{found, occurrence_rows, lone, rows_by_rule, lone_answer, once}
-use Rattle.occurrences.specs.Promises.{Whole, Nodes}
+use Rattle.occurrences.specs.Occurrences.{lone, lone_answer, once}
+use Rattle.occurrences.specs.Promises.{module_lists, Whole, lone_of}
+use Rattle.occurrences.specs.Answers.{once_answer}
+use Rattle.occurrences.specs.declared.Lone.{Lone}
 use Rattle.occurrences.proofs.Few.{rows_few}
-use Rattle.environment.proofs.Noting.{noted-sought}
-use Rattle.occurrences.proofs.CollectRules.{same_lists, same-all}
 
-module _ (img : List ℕ) (t : Table) where
-  sought-found : (s : Spot) → found img t s ≡ found img (sought t.words t.symbols) s
-  unfolding lookup
-  sought-found s = refl
+-- the lone occurrence that a check hands back, as an answer
+lone-told : {A : Type 0} (c : Result A Lone) → lone_answer (lone_of c) ≡ once_answer (Ok (result_err c))
+unfolding lone_answer
+lone-told (Ok a) = refl
+lone-told (Err l) = refl
 
-  sought-rows : occurrence_rows img (sought t.words t.symbols) ≡ occurrence_rows img t
-  sought-rows = sym (same-all img t _ sought-found)
+module _ (img tab : List ℕ) (passes : test_table img tab ≡ 0) {d : Result Resolved SymbolDeclaredTwice} {ws : List ℕ} (r : Resolves img tab d ws) {w : Resolved} (q : d ≡ Ok w) where
+  pub whole : Whole img (table_of w ws)
+  whole = let f = resolved-filled img tab passes r q in record { accepted = f.accepted; symbols = f.symbols; few = rows_few img (table_of w ws) f.accepted }
 
-  sought-lists : rows_by_rule img t (module_rules img) ≡ rows_by_rule img (sought t.words t.symbols) (module_rules img)
-  sought-lists = same_lists img t _ sought-found (module_rules img)
-
-module _ (img tab : List ℕ) (passes : test_table img tab ≡ 0) {d : Declared} {ws : List ℕ} (r : Resolves img tab d ws) {w : InCode} (q : d ≡ Done w) where
-  pub whole : {env : List ℕ} → NotedBy img d ws env → Whole img (sought ws w.symbols) env
-  whole {env} n =
-      let f = resolved-filled img tab passes r q in
-      record { accepted = f.accepted; noted = noted-sought img (subst (λ (x : Declared). NotedBy img x ws env) q n); few = rows_few img (sought ws w.symbols) f.accepted }
-
-  pub symbols : Nodes img (sought ws w.symbols)
-  symbols = (resolved-filled img tab passes r q).symbols
-
-  pub listed-wrote : {old vs : List ℕ} {k : ℕ} → Wrote (nodes img) (occurrence_rows img (sought ws w.symbols)) old k vs → Wrote (nodes img) (occurrence_rows img (table_of w ws)) old k vs
-  listed-wrote h = wrote_as (sought-rows img (table_of w ws)) h
-
-  pub once-checked : {o : Option Row} → o ≡ lone (rows_by_rule img (sought ws w.symbols) (module_rules img)) → once img tab ≡ record { answer = lone_answer o; table = ws }
+  pub once-checked : {A : Type 0} (c : Result A Lone) {o : Given Lone} → lone_of c ≡ lone (module_lists img (table_of w ws)) → o ≡ result_err c → once img tab ≡ record { answer = once_answer (Ok o); table = ws }
   unfolding once
-  once-checked e =
+  once-checked c e f =
       call-filled img tab _ passes r q
-      ∙ ap (λ (x : Option Row). record { answer = lone_answer x; table = ws }) (ap lone (sought-lists img (table_of w ws)) ∙ sym e)
+      ∙ ap (λ (x : Option Row). record { answer = lone_answer x; table = ws }) (sym e)
+      ∙ ap (λ (x : Answer). record { answer = x; table = ws }) (lone-told c ∙ ap (λ (x : Given Lone). once_answer (Ok x)) (sym f))

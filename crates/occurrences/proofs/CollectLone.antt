@@ -1,21 +1,23 @@
 -- The count of bindings in a rule, and the first lone occurrence.
 use mathlib.Core.Path.{◌≡◌, refl, sym, ap, ap₂, subst, ◌∙◌}
-use mathlib.Core.Bool.{Bool, true, false}
+use mathlib.Core.Bool.{Bool, true, false, cond, not}
 use mathlib.Core.List.{List, [], ◌∷◌, ◌++◌}
 use mathlib.Core.Option.{Option, none as nothing, some}
 use Prim.Native.Nat.{ℕ, zero, suc, ◌+◌, ◌-◌, ◌<◌, ◌≤◌}
 use native.Mathlib.Omega.{arith}
 use native.Mathlib.Decide.{dec_lt}
-use lib.Dec.{eqb, leb}
+use lib.Dec.{eqb, ltb, leb}
 use lib.ListN.{length, length-append, get_or, set, replicate, length-set, length-replicate, get_or-replicate}
 use lib.Seq.{get_or-set_same, get_or-set_other, ext_get_or}
 use borrow.Author.Tests.{eqb-true, eqb-false, le-leb, lt-leb}
+use Rattle.std.specs.Prelude.{Option as Given, Some, None, Result, Ok, Err, IsErrAnd}
+use Rattle.std.specs.List.{find, range_with_len}
+use Rattle.std.specs.Option.{option_map}
 use Rattle.ast.specs.Image.{nodes, field}
 use Rattle.ast.specs.Kinds.{kind_of}
 use Rattle.ast.specs.Items.{items}
 use Rattle.ast.specs.Named.{rule_decl_kind}
 use Rattle.ast.specs.Promises.{bump, claim_all}
-use Rattle.ast.specs.declared.NodeId.{NodeId}
 use Rattle.ast.specs.Tests.{is, times}
 use Rattle.ast.proofs.Accepted.{sized}
 use Rattle.ast.proofs.Count.{is_same, is-other}
@@ -24,89 +26,95 @@ use Rattle.ast.proofs.Unfold.{All, nil, cons, All-map}
 use Rattle.typed.specs.RowShapes.{WordList}
 use Rattle.typed.specs.declared.nodes.NodeList.{NodeList}
 use Rattle.table.specs.Table.{Table, is_var}
-use Rattle.rows.specs.Rows.{Row, row, rights, Appended, read_rows}
-use Rattle.rows.proofs.Reading.{read-appended, read_more, read-end, read_all}
+use Rattle.rows.specs.declared.Rows.{Rows}
+use Rattle.rows.specs.declared.Written.{Written}
+use Rattle.rows.specs.Rows.{Row, row, rights, Appends, Starts, Shows, read_rows, shown}
+use Rattle.rows.proofs.Reading.{shown-appends, read_more, read-end}
 use Rattle.occurrences.specs.Spots.{Spot, spots_seq}
 use Rattle.occurrences.specs.Occurrences.{found, listed, rows_for, times_bound, lone_in, lone}
-use Rattle.occurrences.specs.Promises.{rows_at, rows_of, joined, lists_in, lists_of, Listing, ListingAll, Nodes, under, uncounted, recount, recounted, lone_of, Scratch, Searched}
-use Rattle.occurrences.specs.declared.Checked.{Checked}
-use Rattle.occurrences.specs.declared.Checked.TheVariants.{Ok, Lone}
+use Rattle.occurrences.specs.Promises.{rows_at, rows_of, joined, lists_in, lists_of, Listing, ListingAll, Nodes, under, uncounted, lone_of}
+use Rattle.occurrences.specs.declared.Lone.{Lone}
 use Rattle.occurrences.proofs.CollectRules.{joined-append, lists_left, lists-done, lists-all, RuleRun, rule_run, DeclItem, decl_item}
 use Rattle.occurrences.proofs.Few.{lookup-low}
 
--- no binding counted, and one more
-recounted-none : (up : Bool) (us : List ℕ) → recounted up [] us ≡ us
-unfolding claim_all uncounted
-recounted-none true us = refl
-recounted-none false us = refl
-
-recounted-one : (up : Bool) (b : ℕ) (bs us : List ℕ) → recounted up (b ∷ bs) us ≡ recounted up bs (set us b (recount up (get_or us b 0)))
-unfolding claim_all uncounted
-recounted-one true b bs us = refl
-recounted-one false b bs us = refl
+-- under two times
+few-is : (x : ℕ) → leb 2 x ≡ not (ltb x 2)
+few-is zero = refl
+few-is (suc zero) = refl
+few-is (suc (suc x)) = le-leb 2 (suc (suc x)) (omega arith) ∙ ap not (sym (lt-leb (suc (suc (suc x))) 2 (omega arith)))
 
 -- the loops -----------------------------------------------------------------------------------------------------------------
-module _ (N : ℕ) (ws : List ℕ) (c : ℕ) where
-  -- the bindings of the rows that are left after i
-  abbrev bindings : ℕ → List ℕ
-  bindings i = rights (read_rows N ws (c - i) i)
+module _ (rows : Written) where
+  -- the rows that are left after i, and their bindings
+  abbrev rest : ℕ → List Row
+  rest i = read_rows rows.nodes rows.words.now (rows.count - i) i
 
-  bindings-more : (i : ℕ) → i < c → bindings i ≡ get_or ws (1 + N + i) 0 ∷ bindings (i + 1)
-  unfolding rights
-  bindings-more i h = ap rights (read_more N ws c i h)
+  more : (i : ℕ) → i < rows.count → rest i ≡ row (get_or rows.words.now (1 + i) 0) (get_or rows.words.now (1 + rows.nodes + i) 0) ∷ rest (i + 1)
+  more i h = read_more rows.nodes rows.words.now rows.count i h
 
-  bindings-end : (i : ℕ) → c ≤ i → bindings i ≡ []
-  unfolding rights
-  bindings-end i h = ap rights (read-end N ws c i h)
+  done : (i : ℕ) → rows.count ≤ i → rest i ≡ []
+  done i h = read-end rows.nodes rows.words.now rows.count i h
 
-  -- the counts us came to vs after i rows: what is left to count from there is the whole
-  module _ (up : Bool) where
+  -- the counts us came to vs after i rows, each binding's by a step: what is left to count from there is the whole
+  module _ (count_all : List ℕ → List ℕ → List ℕ) (step : ℕ → ℕ) where
     pub record Counted (i : ℕ) (us vs : List ℕ) : Type 0 where
-      pub within : i ≤ c
-      pub long : length vs ≡ length us
-      pub left : recounted up (rights (read_rows N ws c 0)) us ≡ recounted up (bindings i) vs
+      pub left : count_all (rights (shown rows)) us ≡ count_all (rights (rest i)) vs
 
-    pub counted_start : (us : List ℕ) → Counted 0 us us
-    counted_start us = record { within = omega arith; long = refl; left = ap (λ (l : List Row). recounted up (rights l) us) (read_all N ws c) }
-
-    pub counted_next : {i b : ℕ} {us vs zs : List ℕ} → Counted i us vs → i < c → b ≡ get_or ws (1 + N + i) 0 → zs ≡ set vs b (recount up (get_or vs b 0)) → Counted (i + 1) us zs
-    counted_next {i} {b} {us} {vs} {zs} k h q e =
+    pub counted-next : ((b : ℕ) (bs us : List ℕ) → count_all (b ∷ bs) us ≡ count_all bs (set us b (step (get_or us b 0)))) → {i b : ℕ} {us vs zs : List ℕ} → Counted i us vs → i < rows.count
+        → b ≡ get_or rows.words.now (1 + rows.nodes + i) 0 → zs ≡ set vs b (step (get_or vs b 0)) → Counted (i + 1) us zs
+    unfolding rights
+    counted-next one {i} {b} {us} {vs} {zs} k h q e =
         record {
-          within = omega arith;
-          long = ap length e ∙ length-set vs b (recount up (get_or vs b 0)) ∙ k.long;
-          left = k.left ∙ ap (λ (l : List ℕ). recounted up l vs) (bindings-more i h ∙ ap (λ (x : ℕ). x ∷ bindings (i + 1)) (sym q)) ∙ recounted-one up b (bindings (i + 1)) vs ∙ ap (recounted up (bindings (i + 1))) (sym e);
+          left = k.left ∙ ap (λ (l : List Row). count_all (rights l) vs) (more i h) ∙ ap (λ (x : ℕ). count_all (x ∷ rights (rest (i + 1))) vs) (sym q) ∙ one b (rights (rest (i + 1))) vs
+              ∙ ap (count_all (rights (rest (i + 1)))) (sym e);
         }
 
-    pub counted-end : {i : ℕ} {us vs : List ℕ} → Counted i us vs → c ≤ i → vs ≡ recounted up (rights (read_rows N ws c 0)) us
-    counted-end {i} {us} {vs} k h = sym (k.left ∙ ap (λ (l : List ℕ). recounted up l vs) (bindings-end i h) ∙ recounted-none up vs)
+    pub counted-end : ((us : List ℕ) → count_all [] us ≡ us) → {i : ℕ} {us vs : List ℕ} → Counted i us vs → rows.count ≤ i → vs ≡ count_all (rights (shown rows)) us
+    unfolding rights
+    counted-end none {i} {us} {vs} k h = sym (k.left ∙ ap (λ (l : List Row). count_all (rights l) vs) (done i h) ∙ none vs)
 
+  -- the search for the first whose binding is counted under two times
   module _ (us : List ℕ) where
-    -- what is left to search after i rows is the whole
-    pub record Under (i : ℕ) : Type 0 where
-      pub within : i ≤ c
-      pub left : under us (read_rows N ws c 0) ≡ under us (read_rows N ws (c - i) i)
+    abbrev pub is_few : ℕ → Bool
+    is_few i = ltb (get_or us (get_or rows.words.now (1 + rows.nodes + i) 0) 0) 2
 
-    pub under-start : Under 0
-    under-start = record { within = omega arith; left = ap (under us) (read_all N ws c) }
+    abbrev pub row_at : Given ℕ → Option Row
+    row_at None = nothing
+    row_at (Some i) = some (row (get_or rows.words.now (1 + i) 0) (get_or rows.words.now (1 + rows.nodes + i) 0))
 
-    step : (i : ℕ) → i < c → (b : Bool) → leb 2 (get_or us (get_or ws (1 + N + i) 0) 0) ≡ b
-        → under us (read_rows N ws (c - i) i) ≡ elim b [ true ↦ under us (read_rows N ws (c - (i + 1)) (i + 1)) | false ↦ some (row (get_or ws (1 + i) 0) (get_or ws (1 + N + i) 0)) ]
-    unfolding under
-    step i h b e =
-        ap (under us) (read_more N ws c i h)
-        ∙ ap (λ (x : Bool). elim x as (λ _. Option Row) [ true ↦ under us (read_rows N ws (c - (i + 1)) (i + 1)) | false ↦ some (row (get_or ws (1 + i) 0) (get_or ws (1 + N + i) 0)) ]) e
+    under-from : (c i : ℕ) → row_at (find is_few (range_with_len i c)) ≡ under us (read_rows rows.nodes rows.words.now c i)
+    unfolding under read_rows
+    under-from zero i = refl
+    under-from (suc c) i = go (is_few i) (few-is (get_or us (get_or rows.words.now (1 + rows.nodes + i) 0) 0)) (under-from c (i + 1))
+      where
+        w : Row
+        w = row (get_or rows.words.now (1 + i) 0) (get_or rows.words.now (1 + rows.nodes + i) 0)
 
-    pub under_next : {i b k : ℕ} → Under i → i < c → b ≡ get_or ws (1 + N + i) 0 → k ≡ get_or us b 0 → 2 ≤ k → Under (i + 1)
-    under_next {i} {b} {k} u h q r l = record { within = omega arith; left = u.left ∙ step i h true (le-leb 2 _ (subst (λ (x : ℕ). 2 ≤ x) (r ∙ ap (λ (x : ℕ). get_or us x 0) q) l)) }
+        go : (b : Bool) → leb 2 (get_or us w.right 0) ≡ not b → row_at (find is_few (range_with_len (i + 1) c)) ≡ under us (read_rows rows.nodes rows.words.now c (i + 1))
+            → row_at (cond b (Some i) (find is_few (range_with_len (i + 1) c))) ≡ elim (leb 2 (get_or us w.right 0)) as (λ _. Option Row) [ true ↦ under us (read_rows rows.nodes rows.words.now c (i + 1)) | false ↦ some w ]
+        go true e r = rw e
+        go false e r = rw e r
 
-    pub under-here : {i a b k : ℕ} → Under i → i < c → a ≡ get_or ws (1 + i) 0 → b ≡ get_or ws (1 + N + i) 0 → k ≡ get_or us b 0 → k < 2 → some (row a b) ≡ under us (read_rows N ws c 0)
-    under-here {i} {a} {b} {k} u h p q r l =
-        ap₂ (λ (x y : ℕ). some (row x y)) p q
-        ∙ sym (u.left ∙ step i h false (lt-leb 2 _ (subst (λ (x : ℕ). x < 2) (r ∙ ap (λ (x : ℕ). get_or us x 0) q) l)))
+    pub under-found : (r : Given ℕ) → option_map (λ x. x) r ≡ find is_few (range_with_len 0 rows.count) → row_at r ≡ under us (shown rows)
+    under-found None e = ap row_at e ∙ under-from rows.count 0
+    under-found (Some i) e = ap row_at e ∙ under-from rows.count 0
 
-    pub under-end : {i : ℕ} → Under i → c ≤ i → nothing ≡ under us (read_rows N ws c 0)
-    unfolding under
-    under-end {i} u h = sym (u.left ∙ ap (under us) (read-end N ws c i h))
+-- one more binding counted, and none
+pub claim-one : (b : ℕ) (bs us : List ℕ) → claim_all (b ∷ bs) us ≡ claim_all bs (set us b (bump (get_or us b 0)))
+unfolding claim_all
+claim-one b bs us = refl
+
+pub claim-none : (us : List ℕ) → claim_all [] us ≡ us
+unfolding claim_all
+claim-none us = refl
+
+pub uncount-one : (b : ℕ) (bs us : List ℕ) → uncounted (b ∷ bs) us ≡ uncounted bs (set us b 0)
+unfolding uncounted
+uncount-one b bs us = refl
+
+pub uncount-none : (us : List ℕ) → uncounted [] us ≡ us
+unfolding uncounted
+uncount-none us = refl
 
 -- bindings are nodes ----------------------------------------------------------------------------------------------------------
 module _ (img : List ℕ) (t : Table) (symbols : Nodes img t) where
@@ -218,80 +226,77 @@ lone-none : nothing ≡ lone []
 unfolding lone
 lone-none = refl
 
-pub searched-as : {a b : List (List Row)} {cs us : List ℕ} {r : Checked} → a ≡ b → Searched b cs r us → Searched a cs r us
-searched-as e f = record { lone_is = f.lone_is ∙ sym (ap lone e); clean = f.clean }
+-- what `?` hands back is the same lone occurrence
+pub lone-passed : {A : Type 0} (r : Result A Lone) (l : Lone) → IsErrAnd r (λ x. x ≡ l) → lone_of r ≡ some (row l.node.0 l.binding.0)
+lone-passed (Ok a) l h = absurd h
+lone-passed (Err x) l h = ap (λ (y : Lone). some (row y.node.0 y.binding.0)) h
 
-pub searched-nothing : {a : List (List Row)} {cs : List ℕ} → a ≡ [] → Searched a cs Ok cs
-searched-nothing e = record { lone_is = lone-none ∙ sym (ap lone e); clean = refl }
+-- no rule, no lone occurrence
+pub lone-nothing : {a : List (List Row)} → a ≡ [] → nothing ≡ lone a
+lone-nothing e = lone-none ∙ sym (ap lone e)
 
 module _ (img : List ℕ) (t : Table) where
-  -- a loop over declarations that found none yet
-  pub record ChecksLeft (l : NodeList) (i : ℕ) (ws vs cs us : List ℕ) : Type 0 where
-    pub within : i ≤ l.count
+  -- a loop over declarations that found none yet, and nothing counted
+  pub record ChecksLeft (l : NodeList) (i : ℕ) (cs us : List ℕ) : Type 0 where
     pub few : 0 + length (joined (lists_left img t l i)) ≤ nodes img
     pub same : lone (lists_of img t l) ≡ lone (lists_left img t l i)
-    pub long : length vs ≡ length ws
     pub clean : us ≡ cs
 
-  pub checks-scratch : {i : ℕ} {l : NodeList} {ws vs cs us : List ℕ} → Scratch img t ws cs → ChecksLeft l i ws vs cs us → Scratch img t vs us
-  checks-scratch s k = record { symbols = s.symbols; long = (let a = s.long in let b = k.long in omega arith); zeros = k.clean ∙ s.zeros }
+  pub checks-end : {i : ℕ} {l : NodeList} {cs us : List ℕ} → ChecksLeft l i cs us → l.count ≤ i → nothing ≡ lone (lists_of img t l)
+  checks-end {i} {l} k h = lone-nothing (lists-done img t l i h) ∙ sym k.same
 
-  pub checks-end : {i : ℕ} {l : NodeList} {ws vs cs us : List ℕ} → ChecksLeft l i ws vs cs us → l.count ≤ i → Searched (lists_of img t l) cs Ok us
-  checks-end {i} {l} k h = record { lone_is = lone-none ∙ sym (k.same ∙ ap lone (lists-done img t l i h)); clean = k.clean }
-
-module _ (img : List ℕ) (t : Table) (env : List ℕ) where
-  -- a rule: its rows collected, counted, searched, uncounted
-  pub searched : {rule name r : ℕ} {body : NodeList} {ws vs cs us zs : List ℕ} {x : Checked} → Listing img t env (kind_of rule_decl_kind) rule 0 → Scratch img t ws cs → WordList img rule name body
-      → Appended (nodes img) (rows_of img t body) 0 ws r vs → us ≡ claim_all (rights (read_rows (nodes img) vs r 0)) cs → lone_of x ≡ under us (read_rows (nodes img) vs r 0)
-      → zs ≡ uncounted (rights (read_rows (nodes img) vs r 0)) us → Searched (lists_in img t rule) cs x zs
-  unfolding rows_at
-  searched {rule} {r = r} {body} {ws} {vs} {cs} {us} {zs} {x} p s q a counts found cleared =
-      record {
-        lone_is = found ∙ ap₂ under by read ∙ under-lone l l few ∙ sym (lone-single l) ∙ sym (ap lone u.single);
-        clean = cleared ∙ ap₂ (λ (k : List Row) (ys : List ℕ). uncounted (rights k) ys) read by ∙ back-to-zeros (rights l) ∙ sym s.zeros;
-      }
-    where
-      u : RuleRun img t env rule body 0
-      u = rule_run img t env p q
-
-      l : List Row
-      l = rows_of img t body
-
-      read : read_rows (nodes img) vs r 0 ≡ l
-      read = read-appended a (let f = subst (λ (k : List Row). 0 + length k ≤ nodes img) u.whole p.few in omega arith) s.long
-
-      by : us ≡ claim_all (rights l) (replicate 2048 0)
-      by = counts ∙ ap₂ (λ (k : List Row) (ys : List ℕ). claim_all (rights k) ys) read s.zeros
-
-      few : All (λ v. v < 2048) (rights l)
-      few = let z = (sized img p.is.accepted).few_nodes in All-map (λ c h. omega arith) (rights-low img t s.symbols (spots_seq body.node.0 (items img body.node.0 body.count body.first)))
-
-  pub checks-start : {l : NodeList} {ws cs : List ℕ} → ListingAll img t env l 0 → ChecksLeft img t l 0 ws ws cs cs
-  checks-start {l} p =
+  pub checks-start : {l : NodeList} (cs : List ℕ) → ListingAll img t l 0 → ChecksLeft l 0 cs cs
+  checks-start {l} cs p =
       let e = lists-all img t l in
-      record { within = omega arith; few = subst (λ (k : List (List Row)). 0 + length (joined k) ≤ nodes img) e p.few; same = ap lone e; long = refl; clean = refl }
+      record { few = subst (λ (k : List (List Row)). 0 + length (joined k) ≤ nodes img) e p.few; same = ap lone e; clean = refl }
 
-  pub checks-item : {i x : ℕ} {l : NodeList} {ws vs cs us : List ℕ} → ListingAll img t env l 0 → ChecksLeft img t l i ws vs cs us → i < l.count → x ≡ field img l.node.0 (l.first + i) → DeclItem img t env l i x 0
-  checks-item p k h q = decl_item img t env p h q k.few
+  pub checks-item : {i x : ℕ} {l : NodeList} {cs us : List ℕ} → ListingAll img t l 0 → ChecksLeft l i cs us → i < l.count → x ≡ field img l.node.0 (l.first + i) → DeclItem img t l i x 0
+  checks-item p k h q = decl_item img t p h q k.few
 
-  pub checks-next : {i x : ℕ} {l : NodeList} {ws vs zs cs us os : List ℕ} {r : Checked} → ChecksLeft img t l i ws vs cs us → DeclItem img t env l i x 0 → Searched (lists_in img t x) us r os → r ≡ Ok → length zs ≡ length vs
-      → ChecksLeft img t l (i + 1) ws zs cs os
-  checks-next {i} {x} {l} {r = r} k d f e long =
+  pub checks-next : {i x : ℕ} {l : NodeList} {cs us os : List ℕ} → ChecksLeft l i cs us → DeclItem img t l i x 0 → nothing ≡ lone (lists_in img t x) → os ≡ us → ChecksLeft l (i + 1) cs os
+  checks-next {i} {x} {l} k d f e =
       record {
-        within = (let h = d.within in omega arith);
         few = (let g = k.few in let a = ap (λ (m : List (List Row)). length (joined m)) d.more ∙ ap length (joined-append (lists_in img t x) rest) ∙ length-append (joined (lists_in img t x)) (joined rest) in omega arith);
-        same = k.same ∙ ap lone d.more ∙ lone-skip (lists_in img t x) rest (sym f.lone_is ∙ ap lone_of e);
-        long = long ∙ k.long;
-        clean = f.clean ∙ k.clean;
+        same = k.same ∙ ap lone d.more ∙ lone-skip (lists_in img t x) rest (sym f);
+        clean = e ∙ k.clean;
       }
     where
       rest : List (List Row)
       rest = lists_left img t l (i + 1)
 
-  pub checks-found : {i x : ℕ} {l : NodeList} {ws vs cs us os : List ℕ} {r : Checked} {a b : NodeId} → ChecksLeft img t l i ws vs cs us → DeclItem img t env l i x 0 → Searched (lists_in img t x) us r os → r ≡ Lone a b
-      → Searched (lists_of img t l) cs (Lone a b) os
-  checks-found {i} {x} {l} {a = a} {b} k d f e =
+  pub checks-found : {i x : ℕ} {l : NodeList} {cs us : List ℕ} {w : Row} → ChecksLeft l i cs us → DeclItem img t l i x 0 → some w ≡ lone (lists_in img t x) → some w ≡ lone (lists_of img t l)
+  checks-found {i} {x} {l} {w = w} k d f = sym (k.same ∙ ap lone d.more ∙ lone-hit (lists_in img t x) (lists_left img t l (i + 1)) w (sym f))
+
+  -- a rule: its rows collected, to be counted, searched and counted 0 times again
+  pub record RuleShown (rule : ℕ) (w : Written) (cs : List ℕ) : Type 0 where
+    pub lone_is : {us : List ℕ} {o : Option Row} → us ≡ claim_all (rights (shown w)) cs → o ≡ under us (shown w) → o ≡ lone (lists_in img t rule)
+    pub clean : {us zs : List ℕ} → us ≡ claim_all (rights (shown w)) cs → zs ≡ uncounted (rights (shown w)) us → zs ≡ cs
+
+  pub rule_shown : {rule name N lent : ℕ} {body : NodeList} {start end : Rows} {w : Written} {ws cs : List ℕ} → Nodes img t → Listing img t (kind_of rule_decl_kind) rule 0 → WordList img rule name body
+      → N ≡ nodes img → length ws ≡ 4097 → cs ≡ replicate 2048 0 → Starts lent N ws start → Appends (rows_of img t body) start end → Shows end w → RuleShown rule w cs
+  unfolding rows_at
+  rule_shown {rule} {body = body} {start} {w = w} {ws} {cs} symbols p q n long zeros s a shows =
       record {
-        lone_is = sym (k.same ∙ ap lone d.more ∙ lone-hit (lists_in img t x) (lists_left img t l (i + 1)) (row a.0 b.0) (sym f.lone_is ∙ ap lone_of e));
-        clean = f.clean ∙ k.clean;
+        lone_is = λ {us} {o} counts found. found ∙ ap₂ under (by counts) read ∙ under-lone l l few ∙ sym (lone-single l) ∙ sym (ap lone u.single);
+        clean = λ {us} {zs} counts cleared. cleared ∙ ap₂ (λ (k : List Row) (ys : List ℕ). uncounted (rights k) ys) read (by counts) ∙ back-to-zeros (rights l) ∙ sym zeros;
       }
+    where
+      u : RuleRun img t rule body 0
+      u = rule_run img t p q
+
+      l : List Row
+      l = rows_of img t body
+
+      size : start.nodes ≡ nodes img
+      size = s.nodes ∙ n
+
+      read : shown w ≡ l
+      read =
+          shown-appends s.count a shows (let f = subst (λ (k : List Row). 0 + length k ≤ nodes img) u.whole p.few in let e = size in omega arith)
+          (let z = (sized img p.is.accepted).few_nodes in let e = size in let k = ap length s.words in omega arith)
+
+      by : {us : List ℕ} → us ≡ claim_all (rights (shown w)) cs → us ≡ claim_all (rights l) (replicate 2048 0)
+      by counts = counts ∙ ap₂ (λ (k : List Row) (ys : List ℕ). claim_all (rights k) ys) read zeros
+
+      few : All (λ v. v < 2048) (rights l)
+      few = let z = (sized img p.is.accepted).few_nodes in All-map (λ c h. omega arith) (rights-low img t symbols (spots_seq body.node.0 (items img body.node.0 body.count body.first)))

@@ -29,13 +29,14 @@ use Rattle.typed.specs.contracts.nodes.Decl as Decls
 use Rattle.typed.proofs.Enums.{DeclIs, decl-is}
 use Rattle.typed.proofs.Lists.{at-list}
 use Rattle.table.specs.Table.{Table}
-use Rattle.rows.specs.Rows.{Row, Appended}
+use Rattle.rows.specs.declared.Rows.{Rows}
+use Rattle.rows.specs.Rows.{Row, Appends}
 use Rattle.scopes.proofs.Rooting.{root_is}
 use Rattle.rows.proofs.Parts.{Left, left-start, left-next, left_end}
-use Rattle.occurrences.specs.Spots.{Spot, spots, spots_seq, rule_spots}
+use Rattle.occurrences.specs.Spots.{spots, spots_seq}
 use Rattle.ast.specs.Rules.{Rule, rules, rules_all, rules_of, module_rules}
-use Rattle.occurrences.specs.Occurrences.{found, listed, rows_for, rule_rows, all_rows, occurrence_rows, rows_by_rule}
-use Rattle.occurrences.specs.Promises.{rows_at, rows_of, joined, lists_in, lists_at, lists_of, ReadyRun, ReadyAll, Listing, ListingRun, ListingAll, Whole}
+use Rattle.occurrences.specs.Occurrences.{rows_for, rule_rows, all_rows, occurrence_rows, rows_by_rule}
+use Rattle.occurrences.specs.Promises.{rows_at, rows_of, joined, lists_in, lists_at, lists_of, module_lists, ReadyRun, ReadyAll, Listing, ListingRun, ListingAll, Whole}
 use Rattle.occurrences.proofs.CollectRows.{bare, rows_append, owner}
 use Rattle.occurrences.proofs.CollectSteps.{left-count}
 
@@ -165,12 +166,11 @@ module _ (img : List ℕ) (t : Table) where
       ∙ free_all img t _ unmeant (append (items img n (field img n 1) 2) none)
       ∙ ap (λ (us : Trees). rows_by_rule img t (rules_all img unmeant us)) (append-none (items img n (field img n 1) 2))
 
-  -- the loop that collects the rows of a list of declarations: after i of them it stands at d
-  pub record DeclsLeft (l : NodeList) (i c : ℕ) (ws : List ℕ) (d : ℕ) (us : List ℕ) : Type 0 where
-    pub within : i ≤ l.count
-    pub left : Left (nodes img) (joined (lists_of img t l)) (joined (lists_left l i)) c ws d us
+  -- the loop that collects the rows of a list of declarations: after i of them the rows are `now`
+  pub record DeclsLeft (l : NodeList) (i : ℕ) (start now : Rows) : Type 0 where
+    pub left : Left (joined (lists_of img t l)) (joined (lists_left l i)) start now
 
-  pub decls-end : {i c d : ℕ} {l : NodeList} {ws us : List ℕ} → DeclsLeft l i c ws d us → l.count ≤ i → Appended (nodes img) (joined (lists_of img t l)) c ws d us
+  pub decls-end : {i : ℕ} {l : NodeList} {start now : Rows} → DeclsLeft l i start now → l.count ≤ i → Appends (joined (lists_of img t l)) start now
   unfolding joined
   decls-end {i} {l = l} k h = left_end k.left (ap joined (lists-done l i h))
 
@@ -183,13 +183,13 @@ module _ (img : List ℕ) (t : Table) where
       ∙ ap (λ (us : Trees). rows_by_rule img t (rules_all img unmeant us)) (append-none (items img (last img) (field img (last img) 0) 1))
 
 -- what the collectors of declarations ask and give
-module _ (img : List ℕ) (t : Table) (env : List ℕ) where
+module _ (img : List ℕ) (t : Table) where
   pub record Declared (k n d c : ℕ) : Type 0 where
     pub low : d < n
-    pub listing : Listing img t env (kind_of k) d c
+    pub listing : Listing img t (kind_of k) d c
     pub whole : lists_in img t n ≡ lists_in img t d
 
-  declared : {n d c : ℕ} → Listing img t env (kind_of decl_kind) n c → (x : ℕ) → x ≡ field img n 0 → d ≡ field img n 1 → eqb (get_or decl_kinds x no_child) no_child ≡ false
+  declared : {n d c : ℕ} → Listing img t (kind_of decl_kind) n c → (x : ℕ) → x ≡ field img n 0 → d ≡ field img n 1 → eqb (get_or decl_kinds x no_child) no_child ≡ false
       → Declared (get_or decl_kinds x no_child) n d c
   unfolding kind_of
   declared {n} {d} {c} p x q r s =
@@ -197,7 +197,7 @@ module _ (img : List ℕ) (t : Table) (env : List ℕ) where
       let w : lists_in img t n ≡ lists_in img t d = decl-lists img t p.is x q s ∙ ap (lists_in img t) (sym r) in
       record {
         low = h.below;
-        listing = record { is = child-is img p.is h; noted = p.noted; few = subst (λ (l : List (List Row)). c + length (joined l) ≤ nodes img) w p.few };
+        listing = record { is = child-is img p.is h; few = subst (λ (l : List (List Row)). c + length (joined l) ≤ nodes img) w p.few };
         whole = w;
       }
 
@@ -211,7 +211,7 @@ module _ (img : List ℕ) (t : Table) (env : List ℕ) where
   DeclCase n c (in_decl.Enum i) = lists_in img t n ≡ []
   DeclCase n c (in_decl.Model i) = Declared model_decl_kind n i.0.0 c
 
-  pub decl-case : {n c : ℕ} {o s : Decl} → Listing img t env (kind_of decl_kind) n c → o ≡ decl_at img n → o ≡ s → DeclCase n c s
+  pub decl-case : {n c : ℕ} {o s : Decl} → Listing img t (kind_of decl_kind) n c → o ≡ decl_at img n → o ≡ s → DeclCase n c s
   unfolding kind_of
   decl-case {n} {c} {s = s} p q r = go s (decl-is img p.is q r)
     where
@@ -228,7 +228,7 @@ module _ (img : List ℕ) (t : Table) (env : List ℕ) where
   abbrev others : List ℕ
   others = 0 ∷ 1 ∷ 2 ∷ 3 ∷ 5 ∷ []
 
-  pub decl-none : {n c : ℕ} {o : Decl} → Listing img t env (kind_of decl_kind) n c → o ≡ decl_at img n → OneOf others (tag_of Decls.the_type o) → lists_in img t n ≡ []
+  pub decl-none : {n c : ℕ} {o : Decl} → Listing img t (kind_of decl_kind) n c → o ≡ decl_at img n → OneOf others (tag_of Decls.the_type o) → lists_in img t n ≡ []
   decl-none {n} {c} {o} p q k = go o refl k
     where
       go : (s : Decl) → o ≡ s → OneOf others (tag_of Decls.the_type s) → lists_in img t n ≡ []
@@ -241,18 +241,18 @@ module _ (img : List ℕ) (t : Table) (env : List ℕ) where
       go (in_decl.Model i) r k = absurd (miss others 6 tt k)
 
   pub record RuleRun (n : ℕ) (l : NodeList) (c : ℕ) : Type 0 where
-    pub run : ReadyAll img t env stmt_kind l c
+    pub run : ReadyAll img t stmt_kind l c
     pub single : lists_in img t n ≡ rows_of img t l ∷ []
     pub whole : joined (lists_in img t n) ≡ rows_of img t l
 
-  pub rule_run : {n x c : ℕ} {l : NodeList} → Listing img t env (kind_of rule_decl_kind) n c → WordList img n x l → RuleRun n l c
+  pub rule_run : {n x c : ℕ} {l : NodeList} → Listing img t (kind_of rule_decl_kind) n c → WordList img n x l → RuleRun n l c
   unfolding kind_of FormedFields ends next joined
   rule_run {n} {c = c} {l} p q =
       record {
-        run = at-list img (λ m j k. ReadyRun img t env stmt_kind m j k c) q.list
+        run = at-list img (λ m j k. ReadyRun img t stmt_kind m j k c) q.list
             (record {
               run = run-tail img p.is refl refl;
-              room = record { noted = p.noted; fits = (let f = subst (λ (k : List Row). c + length k ≤ nodes img) w p.few in let z = (sized img p.is.accepted).few_nodes in omega arith) };
+              room = record { fits = (let f = subst (λ (k : List Row). c + length k ≤ nodes img) w p.few in let z = (sized img p.is.accepted).few_nodes in omega arith) };
             });
         single = at-list img (λ m j k. lists_in img t n ≡ rows_at img t m k j ∷ []) q.list s;
         whole = at-list img (λ m j k. joined (lists_in img t n) ≡ rows_at img t m k j) q.list w;
@@ -266,36 +266,33 @@ module _ (img : List ℕ) (t : Table) (env : List ℕ) where
 
   pub record ModelRun (n : ℕ) (l : NodeList) (c : ℕ) : Type 0 where
     pub node : l.node.0 ≡ n
-    pub run : ListingAll img t env l c
+    pub run : ListingAll img t l c
     pub whole : lists_in img t n ≡ lists_of img t l
 
-  pub model_run : {n x c : ℕ} {l : NodeList} → Listing img t env (kind_of model_decl_kind) n c → WordList img n x l → ModelRun n l c
+  pub model_run : {n x c : ℕ} {l : NodeList} → Listing img t (kind_of model_decl_kind) n c → WordList img n x l → ModelRun n l c
   unfolding kind_of FormedFields ends next
   model_run {n} {c = c} {l} p q =
       let w = model-lists img t p.is in
       record {
         node = q.list.node;
-        run = at-list img (λ m j k. ListingRun img t env m j k c) q.list
-            (record { run = run-tail img p.is refl refl; noted = p.noted; few = subst (λ (k : List (List Row)). c + length (joined k) ≤ nodes img) w p.few });
+        run = at-list img (λ m j k. ListingRun img t m j k c) q.list
+            (record { run = run-tail img p.is refl refl; few = subst (λ (k : List (List Row)). c + length (joined k) ≤ nodes img) w p.few });
         whole = at-list img (λ m j k. lists_in img t n ≡ lists_at img t m k j) q.list w;
       }
 
   -- the i-th declaration of a list, where d rows stand before
   pub record DeclItem (l : NodeList) (i x d : ℕ) : Type 0 where
     pub low : x < l.node.0
-    pub within : i < l.count
-    pub listing : Listing img t env (kind_of decl_kind) x d
+    pub listing : Listing img t (kind_of decl_kind) x d
     pub more : lists_left img t l i ≡ lists_in img t x ++ lists_left img t l (i + 1)
 
-  pub decl_item : {i x c d : ℕ} {l : NodeList} → ListingAll img t env l c → i < l.count → x ≡ field img l.node.0 (l.first + i) → d + length (joined (lists_left img t l i)) ≤ nodes img → DeclItem l i x d
+  pub decl_item : {i x c d : ℕ} {l : NodeList} → ListingAll img t l c → i < l.count → x ≡ field img l.node.0 (l.first + i) → d + length (joined (lists_left img t l i)) ≤ nodes img → DeclItem l i x d
   decl_item {i} {x} {d = d} {l} p h q f =
       subst (λ (y : ℕ). DeclItem l i y d) (sym q)
       (record {
         low = o.0.below;
-        within = h;
         listing = record {
           is = o.1;
-          noted = p.noted;
           few = (let g = subst (λ (k : List Row). d + length k ≤ nodes img) (ap joined m ∙ joined-append (lists_in img t y) (lists_left img t l (i + 1))) f in let a = length-append (joined (lists_in img t y)) (joined (lists_left img t l (i + 1))) in omega arith);
         };
         more = m;
@@ -310,29 +307,27 @@ module _ (img : List ℕ) (t : Table) (env : List ℕ) where
       m : lists_left img t l i ≡ lists_in img t y ++ lists_left img t l (i + 1)
       m = items-lists img t l.node.0 l.first l.count i h
 
-  pub decls-start : {c : ℕ} {l : NodeList} {ws : List ℕ} → ListingAll img t env l c → DeclsLeft img t l 0 c ws c ws
-  decls-start {l = l} p =
-      record { within = omega arith; left = left-start _ _ (ap joined (lists-all img t l)) (let f = p.few in let z = (sized img p.run.accepted).few_nodes in omega arith) }
+  pub decls-start : {l : NodeList} (rows : Rows) → ListingAll img t l rows.count → DeclsLeft img t l 0 rows rows
+  decls-start {l} rows p =
+      record { left = left-start rows (ap joined (lists-all img t l)) (let f = p.few in let z = (sized img p.run.accepted).few_nodes in omega arith) }
 
-  pub decls-item : {i x c d : ℕ} {l : NodeList} {ws us : List ℕ} → ListingAll img t env l c → DeclsLeft img t l i c ws d us → i < l.count → x ≡ field img l.node.0 (l.first + i) → DeclItem l i x d
+  pub decls-item : {i x : ℕ} {l : NodeList} {start now : Rows} → ListingAll img t l start.count → DeclsLeft img t l i start now → i < l.count → x ≡ field img l.node.0 (l.first + i) → DeclItem l i x now.count
   decls-item p k h q = decl_item p h q (let e = left-count k.left in let f = p.few in omega arith)
 
-  pub decls-next : {i x c d e : ℕ} {l : NodeList} {ws us vs : List ℕ} → DeclsLeft img t l i c ws d us → DeclItem l i x d → Appended (nodes img) (joined (lists_in img t x)) d us e vs → length vs ≡ length us
-      → DeclsLeft img t l (i + 1) c ws e vs
-  decls-next {i} {x} {l = l} k o a long =
-      record { within = (let h = o.within in omega arith); left = left-next k.left (ap joined o.more ∙ joined-append (lists_in img t x) (lists_left img t l (i + 1))) a long }
+  pub decls-next : {i x : ℕ} {l : NodeList} {start now next : Rows} → DeclsLeft img t l i start now → DeclItem l i x now.count → Appends (joined (lists_in img t x)) now next → DeclsLeft img t l (i + 1) start next
+  decls-next {i} {x} {l} k o a = record { left = left-next k.left (ap joined o.more ∙ joined-append (lists_in img t x) (lists_left img t l (i + 1))) a }
 
   pub record ModuleRun (l : NodeList) : Type 0 where
-    pub run : ListingAll img t env l 0
-    pub by_rule : rows_by_rule img t (module_rules img) ≡ lists_of img t l
+    pub run : ListingAll img t l 0
+    pub by_rule : module_lists img t ≡ lists_of img t l
     pub whole : occurrence_rows img t ≡ joined (lists_of img t l)
 
-  pub module_run : {n : ℕ} {l : NodeList} → Whole img t env → n ≡ last img → Listed img n 0 l → ModuleRun l
+  pub module_run : {n : ℕ} {l : NodeList} → Whole img t → n ≡ last img → Listed img n 0 l → ModuleRun l
   unfolding kind_of FormedFields ends next occurrence_rows
   module_run {n} {l} p e r =
       record {
-        run = at-list img (λ m j k. ListingRun img t env m j k 0) q
-            (record { run = run-list img (root_is img p.accepted) refl; noted = p.noted; few = subst (λ (k : List Row). 0 + length k ≤ nodes img) w (let f = p.few in omega arith) });
+        run = at-list img (λ m j k. ListingRun img t m j k 0) q
+            (record { run = run-list img (root_is img p.accepted) refl; few = subst (λ (k : List Row). 0 + length k ≤ nodes img) w (let f = p.few in omega arith) });
         by_rule = at-list img (λ m j k. rows_by_rule img t (module_rules img) ≡ lists_at img t m k j) q b;
         whole = at-list img (λ m j k. occurrence_rows img t ≡ joined (lists_at img t m k j)) q w;
       }
@@ -345,19 +340,3 @@ module _ (img : List ℕ) (t : Table) (env : List ℕ) where
 
       w : occurrence_rows img t ≡ joined (lists_at img t (last img) (field img (last img) 0) 1)
       w = all-joined img t (module_rules img) ∙ ap joined b
-
--- tables in which lookup finds the same ----------------------------------------------------------------------------------------
-module _ (img : List ℕ) (t u : Table) (same : (s : Spot) → found img t s ≡ found img u s) where
-  same_rows : (l : List Spot) → rows_for img t l ≡ rows_for img u l
-  unfolding rows_for listed
-  same_rows [] = refl
-  same_rows (s ∷ l) = ap₂ (listed img t s.node) (same s) (same_rows l)
-
-  pub same_lists : (rs : List Rule) → rows_by_rule img t rs ≡ rows_by_rule img u rs
-  unfolding rows_by_rule rule_rows
-  same_lists [] = refl
-  same_lists (r ∷ rs) = ap₂ (λ (l : List Row) (ls : List (List Row)). l ∷ ls) (same_rows (rule_spots r.statements)) (same_lists rs)
-
-  pub same-all : occurrence_rows img t ≡ occurrence_rows img u
-  unfolding occurrence_rows
-  same-all = all-joined img t (module_rules img) ∙ ap joined (same_lists (module_rules img)) ∙ sym (all-joined img u (module_rules img))

@@ -8,7 +8,8 @@ use native.Mathlib.Omega.{arith}
 use native.Mathlib.Nat.{sub-zero, add-zero}
 use lib.Dec.{eqb}
 use lib.ListN.{length, get_or, length-append}
-use Rattle.ast.specs.Image.{nodes, field, name_of}
+use Rattle.std.specs.Prelude.{Option as Given, Some, None}
+use Rattle.ast.specs.Image.{field, name_of}
 use Rattle.ast.specs.Kinds.{Class, inner, plain, head_member, member, case, child, list, cases, no_child, Kind, kind_of}
 use Rattle.ast.specs.Named.{app_head_kind, app_head_member_kind, app_term_kind, branch_stmt_kind, defined_then_atom_kind, ident_term_kind, if_atom_kind, if_stmt_kind, match_case_kind, match_stmt_kind, pred_atom_kind, pred_expr_kind, stmt_kind, term_kind, term_list_kind, term_member_kind, then_atom_kind, then_stmt_kind, type_expr_kind, var_if_atom_kind}
 use Rattle.ast.specs.Tree.{Trees, ordered, tree_at}
@@ -19,77 +20,75 @@ use Rattle.ast.proofs.Blocks.{BlocksFrom, blocks_from, blocks-place as place-of-
 use Rattle.typed.specs.Nodes.{term_word}
 use Rattle.typed.specs.RowShapes.{One, Two, Listed, WordList}
 use Rattle.typed.specs.declared.nodes.NodeList.{NodeList}
-use Rattle.typed.specs.declared.nodes.OptTermId.{OptTermId}
-use Rattle.typed.specs.declared.nodes.OptTermId.TheVariants.{Given, Absent}
 use Rattle.typed.specs.declared.nodes.TermId.{TermId}
 use Rattle.typed.proofs.Lists.{at-list}
 use Rattle.table.specs.Table.{Table, is_var}
 use Rattle.environment.specs.Asked.{asked}
 use Rattle.environment.proofs.Asking.{ident-below}
-use Rattle.rows.specs.Rows.{Row, row as row_of, put_rows, Appended}
-use Rattle.rows.proofs.Parts.{appended-as as appended-to, Left, left-start, left-next, left_end}
+use Rattle.rows.specs.declared.Rows.{Rows}
+use Rattle.rows.specs.Rows.{Row, row as row_of, put_rows, Appends}
+use Rattle.rows.proofs.Parts.{appends-as, appends-no, Left, left-start, left-next, left_end}
 use Rattle.occurrences.specs.Spots.{spots}
 use Rattle.occurrences.specs.Occurrences.{found, rows_for}
 use Rattle.occurrences.specs.Promises.{spot, ident_rows, rows_in, rows_at, rows_of, Room, Asks, Ready, ReadyRun, ReadyAll}
 use Rattle.occurrences.proofs.CollectRows.{bare, threads, ident-var, ident-rows, owner, one-rows, two-rows, first_rows, if_var-rows, undefined-rows, defined-rows, case_rows, list-rows, items-rows, items-none, child-list-rows, block_rows, branch-rows, block_more, block_none}
 
 -- rows that are equal to what was appended
-pub appended-as : {N c r : ℕ} {l k : List Row} {ws vs : List ℕ} → l ≡ k → Appended N k c ws r vs → Appended N l c ws r vs
-appended-as e a = appended-to (sym e) a
+pub appends-to : {l k : List Row} {a b : Rows} → l ≡ k → Appends k a b → Appends l a b
+appends-to e h = appends-as (sym e) h
 
 -- what stands and what is left is the whole
-pub left-count : {N c d : ℕ} {w k : List Row} {ws us : List ℕ} → Left N w k c ws d us → d + length k ≡ c + length w
-left-count {N} {d = d} {k = k} {us = us} h = (h.so (d + length k) (put_rows N d k us) (record { count = refl; words = refl })).count
+pub left-count : {w k : List Row} {start now : Rows} → Left w k start now → now.count + length k ≡ start.count + length w
+left-count {k = k} {now = now} h =
+    (h.so (record now { count = now.count + length k; words = record now.words { now = put_rows now.nodes now.count k now.words.now } }) (record { appended = record { count = refl; words = refl }; nodes = refl; lent = refl })).appended.count
 
 module _ (img : List ℕ) (t : Table) where
-  -- an ident's row, written by one that knows the number of nodes as N
-  pub ident-put : (n i : ℕ) {b N c r : ℕ} {ws vs : List ℕ} → found img t (spot n i) ≡ some b → is_var img (some b) ≡ true → N ≡ nodes img → Appended N (row_of n b ∷ []) c ws r vs
-      → Appended (nodes img) (ident_rows img t n i) c ws r vs
-  ident-put n i {b} {N} {c} {r} {ws} {vs} e k q a = appended-as (ident-var img t n i b e k) (subst (λ (x : ℕ). Appended x (row_of n b ∷ []) c ws r vs) q a)
+  -- an ident's row
+  pub ident-put : (n i : ℕ) {b : ℕ} {old new : Rows} → found img t (spot n i) ≡ some b → is_var img (some b) ≡ true → Appends (row_of n b ∷ []) old new → Appends (ident_rows img t n i) old new
+  ident-put n i {b} e k a = appends-to (ident-var img t n i b e k) a
 
   -- the rows of what is left of a list after i of its nodes
   abbrev rest_of : NodeList → ℕ → List Row
   rest_of l i = rows_at img t l.node.0 (l.count - i) (l.first + i)
 
-  -- a loop over a list: after i nodes it stands at d
-  pub record RowsLeft (l : NodeList) (i c : ℕ) (ws : List ℕ) (d : ℕ) (us : List ℕ) : Type 0 where
-    pub within : i ≤ l.count
-    pub left : Left (nodes img) (rows_of img t l) (rest_of l i) c ws d us
+  -- a loop over a list: after i nodes the rows are `now`
+  pub record RowsLeft (l : NodeList) (i : ℕ) (start now : Rows) : Type 0 where
+    pub left : Left (rows_of img t l) (rest_of l i) start now
 
-  pub rows_end : {i c d : ℕ} {l : NodeList} {ws us : List ℕ} → RowsLeft l i c ws d us → l.count ≤ i → Appended (nodes img) (rows_of img t l) c ws d us
+  pub rows_end : {i : ℕ} {l : NodeList} {start now : Rows} → RowsLeft l i start now → l.count ≤ i → Appends (rows_of img t l) start now
   rows_end {i} {l = l} s h = left_end s.left (items-none img t l.node.0 l.first l.count i h)
 
   -- a loop over the blocks of a branch: after i of them it stands at place j
-  pub record BlocksLeft (l : NodeList) (i j c : ℕ) (ws : List ℕ) (d : ℕ) (us : List ℕ) : Type 0 where
+  pub record BlocksLeft (l : NodeList) (i j : ℕ) (start now : Rows) : Type 0 where
     pub from : BlocksFrom img l.node.0 l.count i j
-    pub left : Left (nodes img) (rows_in img t l.node.0) (block_rows img t l.node.0 (l.count - i) j) c ws d us
+    pub left : Left (rows_in img t l.node.0) (block_rows img t l.node.0 (l.count - i) j) start now
 
-  pub blocks-place : {i j c d : ℕ} {l : NodeList} {ws us : List ℕ} → BlocksLeft l i j c ws d us → j ≤ 8192
+  pub blocks-place : {i j : ℕ} {l : NodeList} {start now : Rows} → BlocksLeft l i j start now → j ≤ 8192
   blocks-place b = place-of-blocks img b.from
 
-  pub blocks-end : {n i j c d : ℕ} {l : NodeList} {ws us : List ℕ} → Listed img n 0 l → BlocksLeft l i j c ws d us → l.count ≤ i → Appended (nodes img) (rows_in img t n) c ws d us
-  blocks-end {n} {i} {j} {l = l} q b h =
-      appended-as (ap (rows_in img t) (sym q.node))
+  pub blocks-end : {n i j : ℕ} {l : NodeList} {start now : Rows} → Listed img n 0 l → BlocksLeft l i j start now → l.count ≤ i → Appends (rows_in img t n) start now
+  blocks-end {n} {i} {j} {l} q b h =
+      appends-to (ap (rows_in img t) (sym q.node))
       (left_end b.left (ap (λ (x : ℕ). block_rows img t l.node.0 x j) (let z : l.count - i ≡ 0 = omega arith in z) ∙ block_none img t l.node.0 j))
 
--- what a collector asks, with what the walk noted
-module _ (img : List ℕ) (t : Table) (env : List ℕ) where
-  room_as : {l k : List Row} {c : ℕ} → l ≡ k → Room img t env l c → Room img t env k c
-  room_as {c = c} e h = subst (λ (l : List Row). Room img t env l c) e h
+-- what a collector asks
+module _ (img : List ℕ) (t : Table) where
+  room_as : {l k : List Row} {c : ℕ} → l ≡ k → Room l c → Room k c
+  room_as {c = c} e h = subst (λ (l : List Row). Room l c) e h
 
-  room-first : (l k : List Row) {c : ℕ} → Room img t env (l ++ k) c → Room img t env l c
-  room-first l k h = record { noted = h.noted; fits = (let f = h.fits in let g = length-append l k in omega arith) }
+  room-first : (l k : List Row) {c : ℕ} → Room (l ++ k) c → Room l c
+  room-first l k h = record { fits = (let f = h.fits in let g = length-append l k in omega arith) }
 
-  room-second : (l k : List Row) {c r : ℕ} → Room img t env (l ++ k) c → r ≡ c + length l → Room img t env k r
-  room-second l k h e = record { noted = h.noted; fits = (let f = h.fits in let g = length-append l k in omega arith) }
+  room-second : (l k : List Row) {c r : ℕ} → Room (l ++ k) c → r ≡ c + length l → Room k r
+  room-second l k h e = record { fits = (let f = h.fits in let g = length-append l k in omega arith) }
 
   -- one child, whose rows are the node's
   pub record Sub (kd : Kind) (n d c : ℕ) : Type 0 where
     pub low : d < n
-    pub ready : Ready img t env kd d c
+    pub ready : Ready img t kd d c
     pub whole : rows_in img t n ≡ rows_in img t d
 
-  sub_of : {kd : Kind} (k : ℕ) {n d c : ℕ} → Ready img t env kd n c → Child img n k d → bare (kind_of k).class ≡ true
+  sub_of : {kd : Kind} (k : ℕ) {n d c : ℕ} → Ready img t kd n c → Child img n k d → bare (kind_of k).class ≡ true
       → rows_in img t n ≡ rows_for img t (spots n (tree_at img d)) → Sub (kind_of k) n d c
   sub_of k {n} p h b e =
       let is = child-is img p.is h in
@@ -104,11 +103,11 @@ module _ (img : List ℕ) (t : Table) (env : List ℕ) where
   pub record Pair (k l n a b c : ℕ) : Type 0 where
     pub low : a < n
     pub low2 : b < n
-    pub first : Ready img t env (kind_of k) a c
-    pub second : {r : ℕ} → r ≡ c + length (rows_in img t a) → Ready img t env (kind_of l) b r
+    pub first : Ready img t (kind_of k) a c
+    pub second : {r : ℕ} → r ≡ c + length (rows_in img t a) → Ready img t (kind_of l) b r
     pub whole : rows_in img t n ≡ rows_in img t a ++ rows_in img t b
 
-  pair_of : {kd : Kind} {k l n a b c : ℕ} → Ready img t env kd n c → Child img n k a → Child img n l b → bare (kind_of k).class ≡ true → bare (kind_of l).class ≡ true
+  pair_of : {kd : Kind} {k l n a b c : ℕ} → Ready img t kd n c → Child img n k a → Child img n l b → bare (kind_of k).class ≡ true → bare (kind_of l).class ≡ true
       → rows_in img t n ≡ rows_for img t (spots n (tree_at img a)) ++ rows_for img t (spots n (tree_at img b)) → Pair k l n a b c
   pair_of {n = n} {a} {b} p h h2 u v e =
       let is = child-is img p.is h in
@@ -121,11 +120,11 @@ module _ (img : List ℕ) (t : Table) (env : List ℕ) where
   pair_under s p =
       record { low = (let l = s.low in let m = p.low in omega arith); low2 = (let l = s.low in let m = p.low2 in omega arith); first = p.first; second = p.second; whole = s.whole ∙ p.whole }
 
-  one : {k n d c : ℕ} → bare (kind_of k).class ≡ true → Ready img t env (kind_by (inner plain) (child k ∷ [])) n c → One img n d → Sub (kind_of k) n d c
+  one : {k n d c : ℕ} → bare (kind_of k).class ≡ true → Ready img t (kind_by (inner plain) (child k ∷ [])) n c → One img n d → Sub (kind_of k) n d c
   unfolding FormedFields
   one {k} {n} {d} {c} b p q = subst (λ (x : ℕ). Sub (kind_of k) n x c) (sym q) (sub_of k p (row img p.is).0 b (one-rows img t p.is))
 
-  two : {k l n a b c : ℕ} → bare (kind_of k).class ≡ true → bare (kind_of l).class ≡ true → Ready img t env (kind_by (inner plain) (child k ∷ child l ∷ [])) n c → Two img n a b → Pair k l n a b c
+  two : {k l n a b c : ℕ} → bare (kind_of k).class ≡ true → bare (kind_of l).class ≡ true → Ready img t (kind_by (inner plain) (child k ∷ child l ∷ [])) n c → Two img n a b → Pair k l n a b c
   unfolding FormedFields next
   two {k} {l} {n} {a} {b} {c} u v p q =
       subst (λ (x : ℕ). Pair k l n x b c) (sym q.first) (subst (λ (x : ℕ). Pair k l n (field img n 0) x c) (sym q.second)
@@ -159,12 +158,12 @@ module _ (img : List ℕ) (t : Table) (env : List ℕ) where
   then-stmt s q = under s (one refl s.ready q)
 
   -- the receiver of a member, and of an app head's member
-  receiver : {n d c : ℕ} → Ready img t env (kind_of term_member_kind) n c → d ≡ field img n 0 → Sub (kind_of term_kind) n d c
+  receiver : {n d c : ℕ} → Ready img t (kind_of term_member_kind) n c → d ≡ field img n 0 → Sub (kind_of term_kind) n d c
   unfolding FormedFields kind_of bare ordered spots
   receiver {n} {d} {c} p q =
       subst (λ (x : ℕ). Sub (kind_of term_kind) n x c) (sym q) (sub_of term_kind p (row img p.is).0 refl (first_rows img t (inner member) p.is (λ ts. refl) (λ x sh ts. refl)))
 
-  head_receiver : {n d c : ℕ} → Ready img t env (kind_of app_head_member_kind) n c → d ≡ field img n 0 → Sub (kind_of term_kind) n d c
+  head_receiver : {n d c : ℕ} → Ready img t (kind_of app_head_member_kind) n c → d ≡ field img n 0 → Sub (kind_of term_kind) n d c
   unfolding FormedFields kind_of bare ordered spots
   head_receiver {n} {d} {c} p q =
       subst (λ (x : ℕ). Sub (kind_of term_kind) n x c) (sym q) (sub_of term_kind p (row img p.is).0 refl (first_rows img t (inner head_member) p.is (λ ts. refl) (λ x sh ts. refl)))
@@ -176,7 +175,7 @@ module _ (img : List ℕ) (t : Table) (env : List ℕ) where
   head-member s q = under s (head_receiver s.ready q.first)
 
   -- an if-var: the type, then the term
-  if_var : {n a b c : ℕ} → Ready img t env (kind_of var_if_atom_kind) n c → a ≡ field img n 1 → b ≡ field img n 0 → Pair type_expr_kind term_kind n a b c
+  if_var : {n a b c : ℕ} → Ready img t (kind_of var_if_atom_kind) n c → a ≡ field img n 1 → b ≡ field img n 0 → Pair type_expr_kind term_kind n a b c
   unfolding FormedFields next kind_of bare
   if_var {n} {a} {b} {c} p q r =
       subst (λ (x : ℕ). Pair type_expr_kind term_kind n x b c) (sym q) (subst (λ (x : ℕ). Pair type_expr_kind term_kind n (field img n 1) x c) (sym r)
@@ -186,23 +185,41 @@ module _ (img : List ℕ) (t : Table) (env : List ℕ) where
   if-var s q = pair_under s (if_var s.ready q.second q.first)
 
   -- a defined-then, with and without a variable
-  undefined : {n d c : ℕ} → Ready img t env (kind_of defined_then_atom_kind) n c → field img n 0 ≡ 0 → d ≡ field img n 1 → Sub (kind_of term_kind) n d c
+  undefined : {n d c : ℕ} → Ready img t (kind_of defined_then_atom_kind) n c → field img n 0 ≡ 0 → d ≡ field img n 1 → Sub (kind_of term_kind) n d c
   unfolding FormedFields next kind_of bare
   undefined {n} {d} {c} p e q = subst (λ (x : ℕ). Sub (kind_of term_kind) n x c) (sym q) (sub_of term_kind p (row img p.is).1.0 refl (undefined-rows img t p.is e))
 
-  defined : {n m d c : ℕ} → Ready img t env (kind_of defined_then_atom_kind) n c → field img n 0 ≡ suc m → d ≡ field img n 1 → Pair term_kind term_kind n m d c
+  defined : {n m d c : ℕ} → Ready img t (kind_of defined_then_atom_kind) n c → field img n 0 ≡ suc m → d ≡ field img n 1 → Pair term_kind term_kind n m d c
   unfolding FormedFields next kind_of bare
   defined {n} {m} {d} {c} p e q =
       subst (λ (x : ℕ). Pair term_kind term_kind n m x c) (sym q) (pair_of p ((row img p.is).0 m e) (row img p.is).1.0 refl refl (defined-rows img t p.is m e))
 
-  pub defined-var : {n d b c : ℕ} {v : OptTermId} {m : TermId} → Sub (kind_of defined_then_atom_kind) n d c → Two img d (term_word v) b → v ≡ Given m → Pair term_kind term_kind n m.0.0 b c
+  pub defined-var : {n d b c : ℕ} {v : Given TermId} {m : TermId} → Sub (kind_of defined_then_atom_kind) n d c → Two img d (term_word v) b → v ≡ Some m → Pair term_kind term_kind n m.0.0 b c
   defined-var s q e = pair_under s (defined s.ready (sym q.first ∙ ap term_word e) q.second)
 
-  pub defined-bare : {n d b c : ℕ} {v : OptTermId} → Sub (kind_of defined_then_atom_kind) n d c → Two img d (term_word v) b → v ≡ Absent → Sub (kind_of term_kind) n b c
-  defined-bare s q e = under s (undefined s.ready (sym q.first ∙ ap term_word e) q.second)
+  -- the rows of the variable, if there is one
+  abbrev pub var_rows : Given TermId → List Row
+  var_rows None = []
+  var_rows (Some m) = rows_in img t m.0.0
+
+  pub var-given : {v : Given TermId} {m : TermId} {start now next : Rows} → v ≡ Some m → Appends (rows_in img t m.0.0) start next → now ≡ next → Appends (var_rows v) start now
+  var-given {start = start} {now} e a q = appends-to (ap var_rows e) (subst (Appends _ start) (sym q) a)
+
+  pub var-none : {v : Given TermId} {start now : Rows} → v ≡ None → now ≡ start → Appends (var_rows v) start now
+  var-none {v} {start} e q = subst (Appends (var_rows v) start) (sym q) (appends-no start (ap var_rows e))
+
+  pub record Defined (n b c : ℕ) (v : Given TermId) : Type 0 where
+    pub term : {r : ℕ} → r ≡ c + length (var_rows v) → Ready img t (kind_of term_kind) b r
+    pub whole : rows_in img t n ≡ var_rows v ++ rows_in img t b
+
+  pub defined-then : {n d b c : ℕ} (v : Given TermId) → Sub (kind_of defined_then_atom_kind) n d c → Two img d (term_word v) b → Defined n b c v
+  defined-then {b = b} {c} None s q =
+      let o = under s (undefined s.ready (sym q.first) q.second) in
+      record { term = λ {r} e. subst (Ready img t (kind_of term_kind) b) (sym (e ∙ add-zero c)) o.ready; whole = o.whole }
+  defined-then (Some m) s q = let o = pair_under s (defined s.ready (sym q.first) q.second) in record { term = o.second; whole = o.whole }
 
   -- a node that wraps an enum -----------------------------------------------------------------------------------------------------
-  pub wrapped : (cl : Class) (ks : List ℕ) {n d c : ℕ} → threads cl ≡ true → ((ts : Trees) → ordered cl ts ≡ ts) → Ready img t env (kind_by cl (cases ks ∷ [])) n c
+  pub wrapped : (cl : Class) (ks : List ℕ) {n d c : ℕ} → threads cl ≡ true → ((ts : Trees) → ordered cl ts ≡ ts) → Ready img t (kind_by cl (cases ks ∷ [])) n c
       → (x : ℕ) → x ≡ field img n 0 → d ≡ field img n 1 → eqb (get_or ks x no_child) no_child ≡ false → bare (kind_of (get_or ks x no_child)).class ≡ true
       → Sub (kind_of (get_or ks x no_child)) n d c
   wrapped cl ks {n} {d} {c} u straight p x q r s b =
@@ -211,40 +228,38 @@ module _ (img : List ℕ) (t : Table) (env : List ℕ) where
 
   -- a Term or AppHead of case Ident
   pub record Ident (n d c : ℕ) : Type 0 where
-    pub room : Room img t env (ident_rows img t n d) c
+    pub room : Room (ident_rows img t n d) c
     pub asks : Asks img n d
     pub whole : rows_in img t n ≡ ident_rows img t n d
 
-  pub ident_of : (cl : Class) (ks : List ℕ) {n d c : ℕ} → threads cl ≡ true → ((ts : Trees) → ordered cl ts ≡ ts) → Ready img t env (kind_by cl (cases (ident_term_kind ∷ ks) ∷ [])) n c
+  pub ident_of : (cl : Class) (ks : List ℕ) {n d c : ℕ} → threads cl ≡ true → ((ts : Trees) → ordered cl ts ≡ ts) → Ready img t (kind_by cl (cases (ident_term_kind ∷ ks) ∷ [])) n c
       → 0 ≡ field img n 0 → d ≡ field img n 1 → asked img n ≡ some (name_of img d) → Ident n d c
   ident_of cl ks {n} {d} {c} u straight p q r a =
       let is = child-is img p.is (case-child img cl (ident_term_kind ∷ ks) p.is 0 d q r refl) in
       let w = case_rows img t cl (ident_term_kind ∷ ks) p.is u straight 0 q refl ∙ ap (λ (i : ℕ). rows_for img t (spots n (tree_at img i))) (sym r) ∙ ident-rows img t is n in
       record { room = room_as w p.room; asks = record { low = p.is.below; is = a; below = ident-below img is }; whole = w }
 
-  pub ident-fits : (n i : ℕ) {b c : ℕ} → found img t (spot n i) ≡ some b → is_var img (some b) ≡ true → Room img t env (ident_rows img t n i) c → c + 1 < 2 ^ 32
+  pub ident-fits : (n i : ℕ) {b c : ℕ} → found img t (spot n i) ≡ some b → is_var img (some b) ≡ true → Room (ident_rows img t n i) c → c + 1 < 2 ^ 32
   ident-fits n i {b} e k p = (room_as (ident-var img t n i b e k) p).fits
 
   -- lists -------------------------------------------------------------------------------------------------------------------------
-  pub rows_start : {k c : ℕ} {l : NodeList} {ws : List ℕ} → ReadyAll img t env k l c → RowsLeft img t l 0 c ws c ws
-  rows_start {c = c} {l} {ws} p =
-      record { within = omega arith; left = left-start c ws (ap₂ (rows_at img t l.node.0) (sym (sub-zero l.count)) (sym (add-zero l.first))) p.room.fits }
+  pub rows_start : {k : ℕ} {l : NodeList} (rows : Rows) → ReadyAll img t k l rows.count → RowsLeft img t l 0 rows rows
+  rows_start {l = l} rows p =
+      record { left = left-start rows (ap₂ (rows_at img t l.node.0) (sym (sub-zero l.count)) (sym (add-zero l.first))) p.room.fits }
 
   -- the i-th node, where the loop stands at d
   pub record Item (k : ℕ) (l : NodeList) (i x d : ℕ) : Type 0 where
     pub low : x < l.node.0
-    pub ready : Ready img t env (kind_of k) x d
-    pub within : i < l.count
+    pub ready : Ready img t (kind_of k) x d
     pub more : rest_of img t l i ≡ rows_in img t x ++ rest_of img t l (i + 1)
 
-  item_of : {k i x b c d : ℕ} {l : NodeList} {ws us : List ℕ} → bare (kind_of k).class ≡ true → ReadyAll img t env k l b → RowsLeft img t l i c ws d us → i < l.count
-      → x ≡ field img l.node.0 (l.first + i) → Item k l i x d
-  item_of {k} {i} {x} {d = d} {l = l} u p s h q =
-      subst (λ (y : ℕ). Item k l i y d) (sym q)
+  item_of : {k i x b : ℕ} {l : NodeList} {start now : Rows} → bare (kind_of k).class ≡ true → ReadyAll img t k l b → RowsLeft img t l i start now → i < l.count
+      → x ≡ field img l.node.0 (l.first + i) → Item k l i x now.count
+  item_of {k} {i} {x} {l = l} {now = now} u p s h q =
+      subst (λ (y : ℕ). Item k l i y now.count) (sym q)
       (record {
         low = o.0.below;
-        ready = record { is = o.1; room = room-first _ _ (room_as more (record { noted = p.room.noted; fits = s.left.fits })) };
-        within = h;
+        ready = record { is = o.1; room = room-first _ _ (room_as more (record { fits = s.left.fits })) };
         more = more;
       })
     where
@@ -254,52 +269,51 @@ module _ (img : List ℕ) (t : Table) (env : List ℕ) where
       more : rest_of img t l i ≡ rows_in img t (field img l.node.0 (l.first + i)) ++ rest_of img t l (i + 1)
       more = items-rows img t l.node.0 l.first l.count i h o.1 u
 
-  pub term-item : {i x b c d : ℕ} {l : NodeList} {ws us : List ℕ} → ReadyAll img t env term_kind l b → RowsLeft img t l i c ws d us → i < l.count
-      → x ≡ field img l.node.0 (l.first + i) → Item term_kind l i x d
+  pub term-item : {i x b : ℕ} {l : NodeList} {start now : Rows} → ReadyAll img t term_kind l b → RowsLeft img t l i start now → i < l.count
+      → x ≡ field img l.node.0 (l.first + i) → Item term_kind l i x now.count
   unfolding kind_of bare
   term-item p s h q = item_of refl p s h q
 
-  pub stmt-item : {i x b c d : ℕ} {l : NodeList} {ws us : List ℕ} → ReadyAll img t env stmt_kind l b → RowsLeft img t l i c ws d us → i < l.count
-      → x ≡ field img l.node.0 (l.first + i) → Item stmt_kind l i x d
+  pub stmt-item : {i x b : ℕ} {l : NodeList} {start now : Rows} → ReadyAll img t stmt_kind l b → RowsLeft img t l i start now → i < l.count
+      → x ≡ field img l.node.0 (l.first + i) → Item stmt_kind l i x now.count
   unfolding kind_of bare
   stmt-item p s h q = item_of refl p s h q
 
-  pub case-item : {i x b c d : ℕ} {l : NodeList} {ws us : List ℕ} → ReadyAll img t env match_case_kind l b → RowsLeft img t l i c ws d us → i < l.count
-      → x ≡ field img l.node.0 (l.first + i) → Item match_case_kind l i x d
+  pub case-item : {i x b : ℕ} {l : NodeList} {start now : Rows} → ReadyAll img t match_case_kind l b → RowsLeft img t l i start now → i < l.count
+      → x ≡ field img l.node.0 (l.first + i) → Item match_case_kind l i x now.count
   unfolding kind_of bare
   case-item p s h q = item_of refl p s h q
 
-  pub rows_next : {k i x c d e : ℕ} {l : NodeList} {ws us vs : List ℕ} → RowsLeft img t l i c ws d us → Item k l i x d → Appended (nodes img) (rows_in img t x) d us e vs → length vs ≡ length us
-      → RowsLeft img t l (i + 1) c ws e vs
-  rows_next s o a long = record { within = (let h = o.within in omega arith); left = left-next s.left o.more a long }
+  pub rows_next : {k i x : ℕ} {l : NodeList} {start now next : Rows} → RowsLeft img t l i start now → Item k l i x now.count → Appends (rows_in img t x) now next → RowsLeft img t l (i + 1) start next
+  rows_next s o a = record { left = left-next s.left o.more a }
 
   -- a term list: its terms
   pub record ListRun (k n : ℕ) (l : NodeList) (c : ℕ) : Type 0 where
     pub node : l.node.0 ≡ n
-    pub run : ReadyAll img t env k l c
+    pub run : ReadyAll img t k l c
     pub whole : rows_in img t n ≡ rows_of img t l
 
-  list_run : {k n c : ℕ} {l : NodeList} → Ready img t env (kind_by (inner plain) (list k ∷ [])) n c → Listed img n 0 l → ListRun k n l c
+  list_run : {k n c : ℕ} {l : NodeList} → Ready img t (kind_by (inner plain) (list k ∷ [])) n c → Listed img n 0 l → ListRun k n l c
   list_run {k} {n} {c} p q =
       let w = list-rows img t p.is in
       record {
         node = q.node;
-        run = at-list img (λ m j s. ReadyRun img t env k m j s c) q (record { run = run-list img p.is refl; room = room_as w p.room });
+        run = at-list img (λ m j s. ReadyRun img t k m j s c) q (record { run = run-list img p.is refl; room = room_as w p.room });
         whole = at-list img (λ m j s. rows_in img t n ≡ rows_at img t m s j) q w;
       }
 
-  pub term_list : {n c : ℕ} {l : NodeList} → Ready img t env (kind_of term_list_kind) n c → Listed img n 0 l → ListRun term_kind n l c
+  pub term_list : {n c : ℕ} {l : NodeList} → Ready img t (kind_of term_list_kind) n c → Listed img n 0 l → ListRun term_kind n l c
   unfolding kind_of
   term_list p q = list_run p q
 
   -- a term, then a list: a match case and a match
   pub record ThenList (k n a : ℕ) (l : NodeList) (c : ℕ) : Type 0 where
     pub node : l.node.0 ≡ n
-    pub first : Ready img t env (kind_of term_kind) a c
-    pub second : {r : ℕ} → r ≡ c + length (rows_in img t a) → ReadyAll img t env k l r
+    pub first : Ready img t (kind_of term_kind) a c
+    pub second : {r : ℕ} → r ≡ c + length (rows_in img t a) → ReadyAll img t k l r
     pub whole : rows_in img t n ≡ rows_in img t a ++ rows_of img t l
 
-  then_list : (cl : Class) {k n a c : ℕ} {l : NodeList} → threads cl ≡ true → ((ts : Trees) → ordered cl ts ≡ ts) → Ready img t env (kind_by cl (child term_kind ∷ list k ∷ [])) n c
+  then_list : (cl : Class) {k n a c : ℕ} {l : NodeList} → threads cl ≡ true → ((ts : Trees) → ordered cl ts ≡ ts) → Ready img t (kind_by cl (child term_kind ∷ list k ∷ [])) n c
       → WordList img n a l → ThenList k n a l c
   unfolding FormedFields next kind_of bare
   then_list cl {k} {n} {a} {c} {l} u straight p q =
@@ -307,7 +321,7 @@ module _ (img : List ℕ) (t : Table) (env : List ℕ) where
       (record {
         node = q.list.node;
         first = record { is = is; room = room-first _ _ room };
-        second = λ {r} e. at-list img (λ m j s. ReadyRun img t env k m j s r) q.list (record { run = run-tail img p.is refl refl; room = room-second (rows_in img t (field img n 0)) (rows_at img t n (field img n 1) 2) room e });
+        second = λ {r} e. at-list img (λ m j s. ReadyRun img t k m j s r) q.list (record { run = run-tail img p.is refl refl; room = room-second (rows_in img t (field img n 0)) (rows_at img t n (field img n 1) 2) room e });
         whole = at-list img (λ m j s. rows_in img t n ≡ rows_in img t (field img n 0) ++ rows_at img t m s j) q.list w;
       })
     where
@@ -320,44 +334,44 @@ module _ (img : List ℕ) (t : Table) (env : List ℕ) where
       w : rows_in img t n ≡ rows_in img t (field img n 0) ++ rows_at img t n (field img n 1) 2
       w = child-list-rows img t cl p.is u straight ∙ ap (λ (l : List Row). l ++ rows_at img t n (field img n 1) 2) (owner img t is refl n)
 
-      room : Room img t env (rows_in img t (field img n 0) ++ rows_at img t n (field img n 1) 2) c
+      room : Room (rows_in img t (field img n 0) ++ rows_at img t n (field img n 1) 2) c
       room = room_as w p.room
 
-  pub match_case : {n a c : ℕ} {l : NodeList} → Ready img t env (kind_of match_case_kind) n c → WordList img n a l → ThenList stmt_kind n a l c
+  pub match_case : {n a c : ℕ} {l : NodeList} → Ready img t (kind_of match_case_kind) n c → WordList img n a l → ThenList stmt_kind n a l c
   unfolding kind_of threads ordered
   match_case p q = then_list (inner case) refl (λ ts. refl) p q
 
-  pub match_of : {n a c : ℕ} {l : NodeList} → Ready img t env (kind_of match_stmt_kind) n c → WordList img n a l → ThenList match_case_kind n a l c
+  pub match_of : {n a c : ℕ} {l : NodeList} → Ready img t (kind_of match_stmt_kind) n c → WordList img n a l → ThenList match_case_kind n a l c
   unfolding kind_of threads ordered
   match_of p q = then_list (inner plain) refl (λ ts. refl) p q
 
-  pub blocks_start : {n c : ℕ} {l : NodeList} {ws : List ℕ} → Ready img t env (kind_of branch_stmt_kind) n c → Listed img n 0 l → BlocksLeft img t l 0 l.first c ws c ws
-  blocks_start {n} {c} {l} {ws} p q =
-      subst (λ (j : ℕ). BlocksLeft img t l 0 j c ws c ws) (sym q.first)
+  pub blocks_start : {n : ℕ} {l : NodeList} (rows : Rows) → Ready img t (kind_of branch_stmt_kind) n rows.count → Listed img n 0 l → BlocksLeft img t l 0 l.first rows rows
+  blocks_start {n} {l} rows p q =
+      subst (λ (j : ℕ). BlocksLeft img t l 0 j rows rows) (sym q.first)
       (record {
         from = blocks_from img o.is e;
-        left = left-start _ _ (branch-rows img t o.is ∙ ap (λ (x : ℕ). block_rows img t l.node.0 x 1) (sym e ∙ sym (sub-zero l.count))) o.room.fits;
+        left = left-start rows (branch-rows img t o.is ∙ ap (λ (x : ℕ). block_rows img t l.node.0 x 1) (sym e ∙ sym (sub-zero l.count))) o.room.fits;
       })
     where
-      o : Ready img t env (kind_of branch_stmt_kind) l.node.0 c
-      o = subst (λ (x : ℕ). Ready img t env (kind_of branch_stmt_kind) x c) (sym q.node) p
+      o : Ready img t (kind_of branch_stmt_kind) l.node.0 rows.count
+      o = subst (λ (x : ℕ). Ready img t (kind_of branch_stmt_kind) x rows.count) (sym q.node) p
 
       e : l.count ≡ field img l.node.0 0
       e = q.count ∙ ap (λ (x : ℕ). field img x 0) (sym q.node)
 
   -- the block k at the place where the loop stands
-  pub record Block (l : NodeList) (i c : ℕ) (ws : List ℕ) (d : ℕ) (us : List ℕ) (k : NodeList) : Type 0 where
+  pub record Block (l : NodeList) (i : ℕ) (start now : Rows) (k : NodeList) : Type 0 where
     pub node : k.node.0 ≡ l.node.0
-    pub run : ReadyAll img t env stmt_kind k d
-    pub more : {e : ℕ} {vs : List ℕ} → Appended (nodes img) (rows_of img t k) d us e vs → length vs ≡ length us → BlocksLeft img t l (i + 1) (k.first + k.count) c ws e vs
+    pub run : ReadyAll img t stmt_kind k now.count
+    pub more : {end : Rows} → Appends (rows_of img t k) now end → BlocksLeft img t l (i + 1) (k.first + k.count) start end
 
-  pub block_of : {n i j c b d : ℕ} {l k : NodeList} {ws us : List ℕ} → Ready img t env (kind_of branch_stmt_kind) n b → BlocksLeft img t l i j c ws d us → i < l.count → Listed img l.node.0 j k → Block l i c ws d us k
-  block_of {i = i} {j} {c} {d = d} {l} {k} {ws} {us} p b h q =
+  pub block_of : {n i j b : ℕ} {l k : NodeList} {start now : Rows} → Ready img t (kind_of branch_stmt_kind) n b → BlocksLeft img t l i j start now → i < l.count → Listed img l.node.0 j k → Block l i start now k
+  block_of {i = i} {j} {l = l} {k} {start} {now} p b h q =
       record {
         node = q.node;
-        run = at-list img (λ m x s. ReadyRun img t env stmt_kind m x s d) q (record { run = o.run; room = room-first _ _ (room_as m (record { noted = p.room.noted; fits = b.left.fits })) });
-        more = λ {e} {vs} g long. at-list img (λ x y s. Appended (nodes img) (rows_at img t x s y) d us e vs → BlocksLeft img t l (i + 1) (y + s) c ws e vs) q
-            (λ f. record { from = o.from; left = left-next b.left m f long }) g;
+        run = at-list img (λ m x s. ReadyRun img t stmt_kind m x s now.count) q (record { run = o.run; room = room-first _ _ (room_as m (record { fits = b.left.fits })) });
+        more = λ {end} g. at-list img (λ x y s. Appends (rows_at img t x s y) now end → BlocksLeft img t l (i + 1) (y + s) start end) q
+            (λ f. record { from = o.from; left = left-next b.left m f }) g;
       }
     where
       z : ℕ

@@ -1,6 +1,6 @@
 -- What the contracts say: the rows of a node's tree, of a run of nodes in a row, of the rules of a declaration; what a
 -- collector asks before it starts; how bindings are counted.
-use Rattle.std.specs.Prelude.{◌≡◌, Bool, true, false, List, [], ◌∷◌, ◌++◌, ℕ, ◌+◌, ◌<◌, ◌≤◌, ◌^◌, leb, length, get_or, set, replicate}
+use Rattle.std.specs.Prelude.{◌≡◌, true, false, List, [], ◌∷◌, ◌++◌, ℕ, ◌+◌, ◌<◌, ◌≤◌, ◌^◌, leb, length, get_or, set, Result, Ok, Err}
 use Rattle.std.proofs.Math.Option.{Option, none as nothing, some}
 use Rattle.ast.specs.Image.{nodes, name_of}
 use Rattle.ast.specs.Kinds.{Kind}
@@ -8,20 +8,23 @@ use Rattle.ast.specs.Tree.{tree_at}
 use Rattle.ast.specs.Items.{items}
 use Rattle.ast.specs.Is.{Is, Run}
 use Rattle.ast.specs.Named.{decl_kind}
-use Rattle.ast.specs.Promises.{bump, claim_all}
 use Rattle.ast.specs.Tests.{verdict}
 use Rattle.typed.specs.declared.nodes.NodeList.{NodeList}
 use Rattle.table.specs.Table.{Table}
 use Rattle.table.specs.Rising.{node_at}
 use Rattle.environment.specs.Layout.{names_most}
 use Rattle.environment.specs.Asked.{asked}
-use Rattle.environment.specs.Stands.{Noted}
-use Rattle.rows.specs.Rows.{Row, row, rows_length}
+use Rattle.environment.specs.Reading.{table_in}
+use Rattle.environment.specs.declared.Scopes.{Scopes}
+use Rattle.rows.specs.Rows.{Row, row}
 use Rattle.occurrences.specs.Spots.{Spot, spots, spots_seq}
-use Rattle.ast.specs.Rules.{rules, rules_all}
-use Rattle.occurrences.specs.Occurrences.{rows_for, occurrence_rows, lone, rows_by_rule}
-use Rattle.occurrences.specs.declared.Checked.{Checked}
-use Rattle.occurrences.specs.declared.Checked.TheVariants.{Ok, Lone}
+use Rattle.ast.specs.Rules.{rules, rules_all, module_rules}
+use Rattle.occurrences.specs.Occurrences.{rows_for, occurrence_rows, rows_by_rule}
+use Rattle.occurrences.specs.declared.Lone.{Lone}
+
+-- what a definition says of the image and the table that are read
+abbrev pub seen {ℓ} : {A : Type ℓ} → (List ℕ → Table → A) → Scopes → A
+seen f s = f s.image.now (table_in s)
 
 abbrev pub spot : ℕ → ℕ → Spot
 spot n i = record { node = n; ident = i }
@@ -55,13 +58,16 @@ module _ (img : List ℕ) (t : Table) where
   abbrev pub lists_of : NodeList → List (List Row)
   lists_of l = lists_at l.node.0 l.count l.first
 
+  -- of the whole module
+  abbrev pub module_lists : List (List Row)
+  module_lists = rows_by_rule img t (module_rules img)
+
 unfoldable pub joined : List (List Row) → List Row
 joined [] = []
 joined (l ∷ ls) = l ++ joined ls
 
--- the walk noted what names stand for, and the count of rows fits a word with the rows l appended to the first c
-pub record Room (img : List ℕ) (t : Table) (env : List ℕ) (l : List Row) (c : ℕ) : Type 0 where
-  pub noted : Noted img t env
+-- the count of rows fits a word with the rows l appended to the first c
+pub record Room (l : List Row) (c : ℕ) : Type 0 where
   pub fits : c + length l < 2 ^ 32
 
 -- n is a Term or AppHead of case Ident, with the ident i: its name is asked for there
@@ -71,39 +77,41 @@ pub record Asks (img : List ℕ) (n i : ℕ) : Type 0 where
   pub below : name_of img i < names_most
 
 -- what a collector asks: the node is of its kind, and there is room for the rows of its tree
-pub record Ready (img : List ℕ) (t : Table) (env : List ℕ) (kd : Kind) (n c : ℕ) : Type 0 where
+pub record Ready (img : List ℕ) (t : Table) (kd : Kind) (n c : ℕ) : Type 0 where
   pub is : Is img kd n
-  pub room : Room img t env (rows_in img t n) c
+  pub room : Room (rows_in img t n) c
 
 -- the same of a run of children
-pub record ReadyRun (img : List ℕ) (t : Table) (env : List ℕ) (k n j count c : ℕ) : Type 0 where
+pub record ReadyRun (img : List ℕ) (t : Table) (k n j count c : ℕ) : Type 0 where
   pub run : Run img k n j count
-  pub room : Room img t env (rows_at img t n count j) c
+  pub room : Room (rows_at img t n count j) c
 
 -- of the nodes of a list
-abbrev pub ReadyAll : List ℕ → Table → List ℕ → ℕ → NodeList → ℕ → Type 0
-ReadyAll img t env k l c = ReadyRun img t env k l.node.0 l.first l.count c
+abbrev pub ReadyAll : List ℕ → Table → ℕ → NodeList → ℕ → Type 0
+ReadyAll img t k l c = ReadyRun img t k l.node.0 l.first l.count c
 
 -- what the collector of a declaration asks: room for the rows of its rules in an array of N words, after the first c
-pub record Listing (img : List ℕ) (t : Table) (env : List ℕ) (kd : Kind) (n c : ℕ) : Type 0 where
+pub record Listing (img : List ℕ) (t : Table) (kd : Kind) (n c : ℕ) : Type 0 where
   pub is : Is img kd n
-  pub noted : Noted img t env
   pub few : c + length (joined (lists_in img t n)) ≤ nodes img
 
 -- the same of a run of declarations
-pub record ListingRun (img : List ℕ) (t : Table) (env : List ℕ) (n j count c : ℕ) : Type 0 where
+pub record ListingRun (img : List ℕ) (t : Table) (n j count c : ℕ) : Type 0 where
   pub run : Run img decl_kind n j count
-  pub noted : Noted img t env
   pub few : c + length (joined (lists_at img t n count j)) ≤ nodes img
 
 -- of the declarations of a list
-abbrev pub ListingAll : List ℕ → Table → List ℕ → NodeList → ℕ → Type 0
-ListingAll img t env l c = ListingRun img t env l.node.0 l.first l.count c
+abbrev pub ListingAll : List ℕ → Table → NodeList → ℕ → Type 0
+ListingAll img t l c = ListingRun img t l.node.0 l.first l.count c
 
--- the same of the whole module
-pub record Whole (img : List ℕ) (t : Table) (env : List ℕ) : Type 0 where
+-- every symbol is a node
+abbrev pub Nodes : List ℕ → Table → Type 0
+Nodes img t = (j : ℕ) → j < t.symbols → node_at (nodes img) t.words j < nodes img
+
+-- what a checker holds of an image and its table: the image is accepted, symbols are nodes, and there is room for all rows
+pub record Whole (img : List ℕ) (t : Table) : Type 0 where
   pub accepted : verdict img ≡ 0
-  pub noted : Noted img t env
+  pub symbols : Nodes img t
   pub few : length (occurrence_rows img t) ≤ nodes img
 
 -- the first row whose binding is counted under two times
@@ -116,31 +124,6 @@ unfoldable pub uncounted : List ℕ → List ℕ → List ℕ
 uncounted [] us = us
 uncounted (b ∷ bs) us = uncounted bs (set us b 0)
 
--- one more for a binding, or its count back to 0; the same for some bindings
-abbrev pub recount : Bool → ℕ → ℕ
-recount true w = bump w
-recount false w = 0
-
-abbrev pub recounted : Bool → List ℕ → List ℕ → List ℕ
-recounted true bs us = claim_all bs us
-recounted false bs us = uncounted bs us
-
-abbrev pub lone_of : Checked → Option Row
-lone_of Ok = nothing
-lone_of (Lone n b) = some (row n.0 b.0)
-
--- every symbol is a node
-abbrev pub Nodes : List ℕ → Table → Type 0
-Nodes img t = (j : ℕ) → j < t.symbols → node_at (nodes img) t.words j < nodes img
-
--- what the check asks of the table and of the words that it works in: symbols are nodes, there is room for N rows, and
--- nothing is counted
-pub record Scratch (img : List ℕ) (t : Table) (rows counts : List ℕ) : Type 0 where
-  pub symbols : Nodes img t
-  pub long : rows_length (nodes img) ≤ length rows
-  pub zeros : counts ≡ replicate 2048 0
-
--- what it gives: the first lone occurrence, and nothing counted again
-pub record Searched (lists : List (List Row)) (counts : List ℕ) (r : Checked) (us : List ℕ) : Type 0 where
-  pub lone_is : lone_of r ≡ lone lists
-  pub clean : us ≡ counts
+abbrev pub lone_of : {A : Type 0} → Result A Lone → Option Row
+lone_of (Ok _) = nothing
+lone_of (Err l) = some (row l.node.0 l.binding.0)

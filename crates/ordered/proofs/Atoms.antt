@@ -10,6 +10,8 @@ use Rattle.ast.specs.Image.{field}
 use Rattle.ast.specs.Is.{kind_by, Is}
 use Rattle.ast.specs.Kinds.{inner, plain, Field, name, cases, no_child, kind_of}
 use Rattle.ast.specs.Tree.{Tree, Trees, none, ◌◂◌, swap, ordered, tree_at}
+use Rattle.ast.specs.declared.NodeId.{NodeId}
+use Rattle.typed.proofs.Enums.{Cased}
 use Rattle.table.specs.State.{Walked, marked}
 use Rattle.ast.proofs.Row.{append, next, node_of, Child, FormedFields}
 use Rattle.ast.proofs.Shapes.{row, tree_of, child-is, term_kinds, term-last}
@@ -25,11 +27,11 @@ module _ (img : List ℕ) where
   leaf-step e is = ap (λ (u : Tree). walk img occurs u e) (tree_of img is)
 
   -- a plain node that wraps an enum
-  pub plain-wrapped : (ks : List ℕ) {n d : ℕ} {e : Walked} → Ready img (kind_by (inner plain) (cases ks ∷ [])) n e → (c : ℕ) → c ≡ field img n 0 → d ≡ field img n 1
-      → eqb (get_or ks c no_child) no_child ≡ false → Wrapped img occurs (kind_of (get_or ks c no_child)) n d e
+  pub plain-wrapped : {ks : List ℕ} {n c : ℕ} {i : NodeId} {e : Walked} → Ready img (kind_by (inner plain) (cases ks ∷ [])) n e → Cased img n c i → eqb (get_or ks c no_child) no_child ≡ false
+      → Wrapped img occurs (kind_of (get_or ks c no_child)) n i.0 e
   unfolding ordered
-  plain-wrapped ks {n} {d} {e} p c q q2 s =
-      let k = case-of img (inner plain) ks occurs e p.is (λ ts. refl) c q q2 s in
+  plain-wrapped {ks} {n} {c} {e = e} p q s =
+      let k = case-of img (inner plain) ks occurs e p.is (λ ts. refl) c q.number q.child s in
       record {
         low = k.low;
         ready = record { is = k.is; room = part_room img p (plain-whole img e p.is ∙ ap (marked img n e.scope) k.inner) (stays _) };

@@ -14,7 +14,10 @@ use Rattle.typed.specs.declared.nodes.NodeList.{NodeList}
 use Rattle.table.specs.Table.{new_scope, new_symbol}
 use Rattle.table.specs.State.{Walked, introduce, child_scope, own_symbol, marked, back}
 use Rattle.ast.proofs.Small.{Small, tree-small, items-small}
+use Rattle.table.specs.declared.ScopeId.{ScopeId}
 use Rattle.environment.specs.Stands.{Stands, Path}
+use Rattle.environment.specs.Builder.{walked_of}
+use Rattle.environment.specs.declared.ScopeBuilder.{ScopeBuilder}
 use Rattle.environment.proofs.Asking.{loud_fields, quiet}
 use Rattle.ordered.specs.Walk.{occurs, declares, walk, walk_seq}
 use Rattle.ordered.specs.Promises.{over, inside, rest, over_all, Ends, Room, Ready, ReadyRun}
@@ -30,34 +33,39 @@ module _ (img : List ℕ) where
   pub ends_as : {a b f : Walked} {env : List ℕ} → b ≡ a → Ends img a f env → Ends img b f env
   ends_as q h = record { same = h.same ∙ sym q; stands = h.stands }
 
+  -- where branches of a match meet: the builder and the scope are those of one of them
+  pub ends_in : {a b : Walked} {x y : ScopeBuilder} {s t : ScopeId} → x ≡ y → s ≡ t → b ≡ a → Ends img a (walked_of y t) y.env.now → Ends img b (walked_of x s) x.env.now
+  ends_in {b = b} {y = y} {s} q r w h =
+      subst (λ (z : ScopeBuilder). Ends img b (walked_of z s) z.env.now) (sym q) (subst (λ (z : ScopeId). Ends img b (walked_of y z) y.env.now) (sym r) (ends_as w h))
+
   -- a plain node, after what is below it
-  pub plain-ends : {fs : List Field} {n : ℕ} {e f g : Walked} {env : List ℕ} → loud_fields fs ≡ false → Ready img (kind_by (inner plain) fs) n e → Ends img (inside img occurs n e) f env
-      → g ≡ marked img n e.scope f → Ends img (over img n e) g env
-  plain-ends {e = e} q p h w = ends-left img e.scope p.is.below (quiet img q p.is) (plain-whole img e p.is) w h
+  pub plain-ends : {fs : List Field} {n : ℕ} {e f g : Walked} {env env' : List ℕ} → loud_fields fs ≡ false → Ready img (kind_by (inner plain) fs) n e → Ends img (inside img occurs n e) f env
+      → g ≡ marked img n e.scope f → env' ≡ env → Ends img (over img n e) g env'
+  plain-ends {e = e} q p h w k = ends-left img e.scope p.is.below (quiet img q p.is) (plain-whole img e p.is) w k h
 
   -- a leaf
-  pub leaf-ends : {n : ℕ} {e g : Walked} {env : List ℕ} → Is img (kind_by (inner plain) (name ∷ [])) n → g ≡ marked img n e.scope e → Stands img e env → Ends img (over img n e) g env
+  pub leaf-ends : {n : ℕ} {e g : Walked} {env env' : List ℕ} → Is img (kind_by (inner plain) (name ∷ [])) n → g ≡ marked img n e.scope e → env' ≡ env → Stands img e env → Ends img (over img n e) g env'
   unfolding loud_fields
-  leaf-ends {e = e} is w s = ends-left img e.scope is.below (quiet img refl is) (leaf-step img e is) w (record { same = refl; stands = s })
+  leaf-ends {e = e} is w k s = ends-left img e.scope is.below (quiet img refl is) (leaf-step img e is) w k (record { same = refl; stands = s })
 
   -- an if-var: its type, then its term
-  pub if-var-ends : {n c d : ℕ} {e f g h : Walked} {env env' : List ℕ} → Ready img (kind_of 33) n e → c ≡ field img n 0 → d ≡ field img n 1 → Ends img (over img d e) f env
-      → Ends img (walk img declares (tree_at img c) f) g env' → h ≡ marked img n e.scope g → Ends img (over img n e) h env'
+  pub if-var-ends : {n c d : ℕ} {e f g h : Walked} {env env' env'' : List ℕ} → Ready img (kind_of 33) n e → c ≡ field img n 0 → d ≡ field img n 1 → Ends img (over img d e) f env
+      → Ends img (walk img declares (tree_at img c) f) g env' → h ≡ marked img n e.scope g → env'' ≡ env' → Ends img (over img n e) h env''
   unfolding kind_of loud_fields
-  if-var-ends {c = c} {e = e} p q q2 a b w =
-      ends-left img e.scope p.is.below (quiet img refl p.is) (if_var_of img p q q2).whole w (ends-then img (λ (v : Walked). walk img declares (tree_at img c) v) a.same b)
+  if-var-ends {c = c} {e = e} p q q2 a b w k =
+      ends-left img e.scope p.is.below (quiet img refl p.is) (if_var_of img p q q2).whole w k (ends-then img (λ (v : Walked). walk img declares (tree_at img c) v) a.same b)
 
   -- an argument with a name, and one without
-  pub arg-ends : {n d : ℕ} {e f g h : Walked} {env env' : List ℕ} → Ready img (kind_of 10) n e → d ≡ field img n 1 → (field img n 0 ≡ 0 → ⊥) → Ends img (over img d e) f env
-      → g ≡ introduce img n f → Stands img g env' → h ≡ marked img n e.scope g → Ends img (over img n e) h env'
+  pub arg-ends : {n d : ℕ} {e f g h : Walked} {env env' env'' : List ℕ} → Ready img (kind_of 10) n e → d ≡ field img n 1 → (field img n 0 ≡ 0 → ⊥) → Ends img (over img d e) f env
+      → Ends img (introduce img n f) g env' → h ≡ marked img n e.scope g → env'' ≡ env' → Ends img (over img n e) h env''
   unfolding kind_of loud_fields
-  arg-ends {n} {e = e} p q z a w s v =
-      ends-left img e.scope p.is.below (quiet img refl p.is) ((arg_of img p q).whole2 z) v (record { same = w ∙ ap (introduce img n) a.same; stands = s })
+  arg-ends {n} {e = e} p q z a b v k =
+      ends-left img e.scope p.is.below (quiet img refl p.is) ((arg_of img p q).whole2 z) v k (ends-then img (introduce img n) a.same b)
 
-  pub arg-ends-bare : {n d : ℕ} {e f h : Walked} {env : List ℕ} → Ready img (kind_of 10) n e → d ≡ field img n 1 → field img n 0 ≡ 0 → Ends img (over img d e) f env
-      → h ≡ marked img n e.scope f → Ends img (over img n e) h env
+  pub arg-ends-bare : {n d : ℕ} {e f h : Walked} {env env' : List ℕ} → Ready img (kind_of 10) n e → d ≡ field img n 1 → field img n 0 ≡ 0 → Ends img (over img d e) f env
+      → h ≡ marked img n e.scope f → env' ≡ env → Ends img (over img n e) h env'
   unfolding kind_of loud_fields
-  arg-ends-bare {e = e} p q z a v = ends-left img e.scope p.is.below (quiet img refl p.is) ((arg_of img p q).whole z) v a
+  arg-ends-bare {e = e} p q z a v k = ends-left img e.scope p.is.below (quiet img refl p.is) ((arg_of img p q).whole z) v k a
 
   -- there is room for an argument's name
   pub arg-room : {n d : ℕ} {e f : Walked} → Ready img (kind_of 10) n e → d ≡ field img n 1 → (field img n 0 ≡ 0 → ⊥) → f ≡ over img d e
@@ -69,23 +77,23 @@ module _ (img : List ℕ) where
       (omega arith, omega arith)
 
   -- a branch, after its blocks
-  pub branch-ends : {n : ℕ} {e f g : Walked} {env : List ℕ} → Ready img (kind_of 39) n e → Ends img (walk_seq img occurs (blocks img n (field img n 0) 1) e) f env
-      → g ≡ marked img n e.scope f → Ends img (over img n e) g env
+  pub branch-ends : {n : ℕ} {e f g : Walked} {env env' : List ℕ} → Ready img (kind_of 39) n e → Ends img (walk_seq img occurs (blocks img n (field img n 0) 1) e) f env
+      → g ≡ marked img n e.scope f → env' ≡ env → Ends img (over img n e) g env'
   unfolding kind_of loud_fields
-  branch-ends {e = e} p h w = ends-left img e.scope p.is.below (quiet img refl p.is) (branch-whole img e p.is) w h
+  branch-ends {e = e} p h w k = ends-left img e.scope p.is.below (quiet img refl p.is) (branch-whole img e p.is) w k h
 
   -- a match: its term, then its cases
-  pub match-ends : {n c : ℕ} {l : NodeList} {e f g h : Walked} {env env' : List ℕ} → Ready img (kind_of 40) n e → WordList img n c l → Ends img (over img c e) f env
-      → Ends img (over_all img occurs l f) g env' → h ≡ marked img n e.scope g → Ends img (over img n e) h env'
+  pub match-ends : {n c : ℕ} {l : NodeList} {e f g h : Walked} {env env' env'' : List ℕ} → Ready img (kind_of 40) n e → WordList img n c l → Ends img (over img c e) f env
+      → Ends img (over_all img occurs l f) g env' → h ≡ marked img n e.scope g → env'' ≡ env' → Ends img (over img n e) h env''
   unfolding kind_of loud_fields
-  match-ends {l = l} {e} p q a b w = ends-left img e.scope p.is.below (quiet img refl p.is) (match_of img p q).whole w (ends-then img (over_all img occurs l) a.same b)
+  match-ends {l = l} {e} p q a b w k = ends-left img e.scope p.is.below (quiet img refl p.is) (match_of img p q).whole w k (ends-then img (over_all img occurs l) a.same b)
 
   -- a match case, back from its pattern and its statements
-  pub case-ends : {n c : ℕ} {l : NodeList} {e f g h k : Walked} {env env' env'' : List ℕ} → Ready img (kind_of 35) n e → WordList img n c l → Ends img (over img c e) f env
-      → Ends img (over_all img occurs l f) g env' → h ≡ back img e.scope g → Stands img h env'' → k ≡ marked img n e.scope h → Ends img (over img n e) k env''
+  pub case-ends : {n c : ℕ} {l : NodeList} {e f g h k : Walked} {env env' env'' env''' : List ℕ} → Ready img (kind_of 35) n e → WordList img n c l → Ends img (over img c e) f env
+      → Ends img (over_all img occurs l f) g env' → h ≡ back img e.scope g → Stands img h env'' → k ≡ marked img n e.scope h → env''' ≡ env'' → Ends img (over img n e) k env'''
   unfolding kind_of loud_fields
-  case-ends {l = l} {e} p q a b w s v =
-      ends-left img e.scope p.is.below (quiet img refl p.is) (match_case img p q).whole v
+  case-ends {l = l} {e} p q a b w s v z =
+      ends-left img e.scope p.is.below (quiet img refl p.is) (match_case img p q).whole v z
       (record { same = w ∙ ap (back img e.scope) (b.same ∙ ap (over_all img occurs l) a.same); stands = s })
 
   -- the way back from a block's statements, and from a match case's pattern and statements

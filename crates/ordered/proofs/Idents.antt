@@ -1,28 +1,23 @@
 -- What the environment says where an ident is walked, and where a node is left at which no name is asked for.
 use mathlib.Core.Path.{◌≡◌, refl, sym, ap, subst, ◌∙◌}
 use mathlib.Core.Bool.{Bool, true, false}
-use mathlib.Core.Logic.{⊎_elim}
 use mathlib.Core.List.{List, [], ◌∷◌}
-use mathlib.Core.Option.{Option, none, some}
-use Prim.Native.Nat.{ℕ, zero, suc, ◌+◌, ◌<◌}
+use mathlib.Core.Option.{none, some}
+use Prim.Native.Nat.{ℕ, suc, ◌+◌, ◌<◌}
 use native.Mathlib.Omega.{arith}
 use lib.Dec.{eqb}
 use lib.ListN.{get_or}
-use types.Run.{OneOf}
-use denote.Enum.Declared.{tag_of}
 use Rattle.ast.specs.Image.{nodes, field, name_of}
 use Rattle.ast.specs.Is.{Is, Run, kind_by}
-use Rattle.ast.specs.Kinds.{inner, plain, child, list, cases, no_child, kind_of}
+use Rattle.ast.specs.Kinds.{inner, plain, child, list, no_child, kind_of}
 use Rattle.ast.specs.Tree.{tree_at}
-use Rattle.ast.proofs.Shapes.{run-item, head_kinds}
+use Rattle.ast.proofs.Shapes.{run-item, head_kinds, term_kinds}
 use Rattle.ast.proofs.Small.{tree-small}
-use Rattle.typed.specs.Nodes.{term_at}
 use Rattle.typed.specs.RowShapes.{Two, Listed, WordList}
-use Rattle.typed.specs.declared.nodes.Term.{Term}
-use Rattle.typed.specs.contracts.nodes.Term as TermCode
-use Rattle.typed.proofs.Enums.{term-number}
 use Rattle.typed.specs.declared.nodes.NodeList.{NodeList}
-use Rattle.table.specs.Table.{lookup, is_var, is_value, mark, new_scope, new_symbol}
+use Rattle.table.specs.Table.{lookup, is_var, mark, new_scope, new_symbol}
+use Rattle.ast.specs.declared.NodeId.{NodeId}
+use Rattle.typed.proofs.Enums.{Cased}
 use Rattle.table.specs.State.{Walked, introduce, child_scope, own_symbol, marked, unmarked}
 use Rattle.environment.specs.Layout.{names_most, standing}
 use Rattle.environment.specs.Asked.{asked}
@@ -30,88 +25,84 @@ use Rattle.environment.specs.Stands.{told, Tells, Stands, Named, Asking}
 use Rattle.environment.proofs.Asking.{loud_fields, quiet, quiet-term, quiet-head, quiet_then, asked-term, asked-head, asked-then, ident-named}
 use Rattle.environment.proofs.Laws.{left, left-bare, Older, tells-later}
 use Rattle.ordered.specs.Walk.{Role, occurs, declares, names, defines, walk_ident, walk}
-use Rattle.ordered.specs.Promises.{over, inside, rest, over_all, unless, Ends, Few, Ready, Variable, Defining}
-use Rattle.ordered.proofs.Steps.{ident-step, name-step, one, two, member_of, term-whole, term-wild, plain-whole, head-whole, head-case, head-wrapped, head-ident}
-use Rattle.ordered.proofs.Lists.{rest_more, rest_end, list_of, head_member_of}
+use Rattle.ordered.specs.Promises.{asks, from, over, inside, over_all, unless, Ends, Few, Ready, Variable, Defining}
+use Rattle.ordered.proofs.Steps.{ident-step, name-step, one, two, member_of, term-whole, term-wild, plain-whole, head-whole, head-case, term-wrapped, head-wrapped, head-ident}
+use Rattle.ordered.proofs.Lists.{list_of, head_member_of}
 use Rattle.ordered.proofs.Atoms.{plain-wrapped, var-ident, var-other, Defined, defined_of}
 use Rattle.ordered.proofs.Paths.{walk-older}
 
 module _ (img : List ℕ) where
   -- a node left at which no name is asked for
-  pub ends-left : {n : ℕ} (c : ℕ) {a b f g : Walked} {env : List ℕ} → n < nodes img → asked img n ≡ none → a ≡ marked img n c b → g ≡ marked img n c f → Ends img b f env → Ends img a g env
-  ends-left {n} c l q w s h = record { same = s ∙ ap (marked img n c) h.same ∙ sym w; stands = left img c l q s h.stands }
+  pub ends-left : {n : ℕ} (c : ℕ) {a b f g : Walked} {env env' : List ℕ} → n < nodes img → asked img n ≡ none → a ≡ marked img n c b → g ≡ marked img n c f → env' ≡ env → Ends img b f env → Ends img a g env'
+  ends-left {n} c {g = g} l q w s k h = record { same = s ∙ ap (marked img n c) h.same ∙ sym w; stands = left img c l q s k h.stands }
 
   -- one walk after another
   pub ends-then : {f g : Walked} (h : Walked → Walked) {b : Walked} {env : List ℕ} → f ≡ b → Ends img (h f) g env → Ends img (h b) g env
   ends-then h q e = record { same = e.same ∙ ap h q; stands = e.stands }
 
   -- nodes with one child, with two, and with a list
-  pub one-ends : {k n c : ℕ} {e f g : Walked} {env : List ℕ} → Ready img (kind_by (inner plain) (child k ∷ [])) n e → c ≡ field img n 0 → Ends img (over img c e) f env
-      → g ≡ marked img n e.scope f → Ends img (over img n e) g env
+  pub one-ends : {k n c : ℕ} {e f g : Walked} {env env' : List ℕ} → Ready img (kind_by (inner plain) (child k ∷ [])) n e → c ≡ field img n 0 → Ends img (over img c e) f env
+      → g ≡ marked img n e.scope f → env' ≡ env → Ends img (over img n e) g env'
   unfolding loud_fields
-  one-ends {e = e} p q h w = ends-left e.scope p.is.below (quiet img refl p.is) (one img p q).whole w h
+  one-ends {e = e} p q h w k = ends-left e.scope p.is.below (quiet img refl p.is) (one img p q).whole w k h
 
-  pub two_ends : {k l n c d : ℕ} {e f g h : Walked} {env env' : List ℕ} → Ready img (kind_by (inner plain) (child k ∷ child l ∷ [])) n e → c ≡ field img n 0 → d ≡ field img n 1
-      → Ends img (over img c e) f env → Ends img (over img d f) g env' → h ≡ marked img n e.scope g → Ends img (over img n e) h env'
+  pub two_ends : {k l n c d : ℕ} {e f g h : Walked} {env env' env'' : List ℕ} → Ready img (kind_by (inner plain) (child k ∷ child l ∷ [])) n e → c ≡ field img n 0 → d ≡ field img n 1
+      → Ends img (over img c e) f env → Ends img (over img d f) g env' → h ≡ marked img n e.scope g → env'' ≡ env' → Ends img (over img n e) h env''
   unfolding loud_fields
-  two_ends {d = d} {e} p q q2 a b w = ends-left e.scope p.is.below (quiet img refl p.is) (two img p q q2).whole w (ends-then (over img d) a.same b)
+  two_ends {d = d} {e} p q q2 a b w k = ends-left e.scope p.is.below (quiet img refl p.is) (two img p q q2).whole w k (ends-then (over img d) a.same b)
 
-  pub list-ends : {k n : ℕ} {l : NodeList} {e f g : Walked} {env : List ℕ} → Ready img (kind_by (inner plain) (list k ∷ [])) n e → Listed img n 0 l
-      → Ends img (over_all img occurs l e) f env → g ≡ marked img n e.scope f → Ends img (over img n e) g env
+  pub list-ends : {k n : ℕ} {l : NodeList} {e f g : Walked} {env env' : List ℕ} → Ready img (kind_by (inner plain) (list k ∷ [])) n e → Listed img n 0 l
+      → Ends img (over_all img occurs l e) f env → g ≡ marked img n e.scope f → env' ≡ env → Ends img (over img n e) g env'
   unfolding loud_fields
-  list-ends {e = e} p q h w = ends-left e.scope p.is.below (quiet img refl p.is) (list_of img p q).whole w h
+  list-ends {e = e} p q h w k = ends-left e.scope p.is.below (quiet img refl p.is) (list_of img p q).whole w k h
 
   -- a term that is no ident, after what is below it
-  pub other-ends : {n : ℕ} {e f g : Walked} {env : List ℕ} → Ready img (kind_of 12) n e → (field img n 0 ≡ 0 → ⊥) → Ends img (inside img occurs n e) f env → g ≡ marked img n e.scope f → Ends img (over img n e) g env
-  other-ends {e = e} p z h w = ends-left e.scope p.is.below (quiet-term img p.is z) (term-whole img e p.is) w h
+  pub other-ends : {n : ℕ} {e f g : Walked} {env env' : List ℕ} → Ready img (kind_of 12) n e → (field img n 0 ≡ 0 → ⊥) → Ends img (inside img occurs n e) f env → g ≡ marked img n e.scope f → env' ≡ env → Ends img (over img n e) g env'
+  other-ends {e = e} p z h w k = ends-left e.scope p.is.below (quiet-term img p.is z) (term-whole img e p.is) w k h
 
-  -- a wildcard: of Ident and Wildcard it is the other
-  pub wild-ends : {n : ℕ} {e : Walked} {env : List ℕ} {t : Term} → Is img (kind_of 12) n → (field img n 0 ≡ 0 → ⊥) → t ≡ term_at img n → OneOf (0 ∷ 1 ∷ []) (tag_of TermCode.the_type t) → Stands img e env → Ends img (inside img occurs n e) e env
-  wild-ends {n} {e} {t = t} is z q h s = record { same = sym (term-wild img occurs e is one); stands = s }
-    where
-      one : 1 ≡ field img n 0
-      one = ⊎_elim (λ (i : tag_of TermCode.the_type t ≡ 0). absurd (z (sym (term-number img is q) ∙ i))) (λ (i : tag_of TermCode.the_type t ≡ 1). sym i ∙ term-number img is q) h
+  -- a wildcard, and a term that wraps a child
+  pub wild-ends : {n : ℕ} {e f g : Walked} {env env' : List ℕ} → Ready img (kind_of 12) n e → 1 ≡ field img n 0 → Ends img e f env → g ≡ marked img n e.scope f → env' ≡ env → Ends img (over img n e) g env'
+  wild-ends {e = e} p q h = other-ends p (λ z. let y = q in omega arith) (record { same = h.same ∙ sym (term-wild img occurs e p.is q); stands = h.stands })
+
+  pub term-ends : {n c : ℕ} {i : NodeId} {e f g : Walked} {env env' : List ℕ} → Ready img (kind_of 12) n e → Cased img n (suc c) i → eqb (get_or term_kinds (suc c) no_child) no_child ≡ false
+      → Ends img (over img i.0 e) f env → g ≡ marked img n e.scope f → env' ≡ env → Ends img (over img n e) g env'
+  term-ends p q s h =
+      other-ends p (λ z. let y = q.number in omega arith) (record { same = h.same ∙ sym (term-wrapped img p q s).inner; stands = h.stands })
 
   -- an app head that wraps a child which is walked as itself
-  pub head-ends : {n d : ℕ} {e f g : Walked} {env : List ℕ} → Ready img (kind_of 15) n e → (c : ℕ) → suc c ≡ field img n 0 → d ≡ field img n 1 → eqb (get_or head_kinds (suc c) no_child) no_child ≡ false
-      → g ≡ marked img n e.scope f → Ends img (over img d e) f env → Ends img (over img n e) g env
-  head-ends {n} {e = e} p c q q2 s w h =
-      ends-left e.scope p.is.below (quiet-head img p.is (λ z. let y = q in omega arith))
-      (head-whole img e p.is ∙ ap (marked img n e.scope) (head-wrapped img p c q q2 s).inner) w h
+  pub head-ends : {n c : ℕ} {i : NodeId} {e f g : Walked} {env env' : List ℕ} → Ready img (kind_of 15) n e → Cased img n (suc c) i → eqb (get_or head_kinds (suc c) no_child) no_child ≡ false
+      → Ends img (over img i.0 e) f env → g ≡ marked img n e.scope f → env' ≡ env → Ends img (over img n e) g env'
+  head-ends {n} {e = e} p q s h w k =
+      ends-left e.scope p.is.below (quiet-head img p.is (λ z. let y = q.number in omega arith))
+      (head-whole img e p.is ∙ ap (marked img n e.scope) (head-wrapped img p q s).inner) w k h
 
   -- no name is asked for at an IdentTerm
   pub ident-quiet : {i : ℕ} → Is img (kind_of 13) i → asked img i ≡ none
   unfolding kind_of loud_fields
   ident-quiet is = quiet img refl is
 
-  -- names that introduce nothing
-  pub names_stand : {m j count : ℕ} (e : Walked) {env : List ℕ} → Run img 13 m j count → Stands img e env → Stands img (rest img names m j count 0 e) env
-  names_stand {m} {j} {count} e {env} p s = go count 0 e (omega arith) s
-    where
-      go : (c i : ℕ) (f : Walked) → i + c ≡ count → Stands img f env → Stands img (rest img names m j count i f) env
-      go zero i f q h = subst (λ (g : Walked). Stands img g env) (sym (rest_end img names m j count i f (omega arith))) h
-      go (suc c) i f q h =
-          let l : i < count = omega arith in
-          let is = (run-item img p l refl).1 in
-          subst (λ (g : Walked). Stands img g env) (sym (rest_more img names m j count i f l))
-          (go c (i + 1) _ (omega arith) (left img f.scope is.below (ident-quiet is) (name-step img f is) h))
+  -- a name that introduces nothing, of a run of them
+  pub name-ends : {n j count i c : ℕ} {e f : Walked} {env env' : List ℕ} → Run img 13 n j count → i < count → c ≡ field img n (j + i) → f ≡ marked img c e.scope e → env' ≡ env
+      → Stands img e env → Ends img (walk img names (tree_at img c) e) f env'
+  name-ends {e = e} p l q w k s =
+      let is = (run-item img p l q).1 in
+      ends-left e.scope is.below (ident-quiet is) (name-step img e is) w k (record { same = refl; stands = s })
 
-  pub member-ends : {n c d : ℕ} {e f g h : Walked} {env : List ℕ} → Ready img (kind_of 17) n e → c ≡ field img n 0 → d ≡ field img n 1 → Ends img (over img c e) f env
-      → g ≡ marked img d f.scope f → h ≡ marked img n e.scope g → Ends img (over img n e) h env
+  pub member-ends : {n c d : ℕ} {e f g h : Walked} {env env' env'' : List ℕ} → Ready img (kind_of 17) n e → c ≡ field img n 0 → d ≡ field img n 1 → Ends img (over img c e) f env
+      → g ≡ marked img d f.scope f → env' ≡ env → h ≡ marked img n e.scope g → env'' ≡ env' → Ends img (over img n e) h env''
   unfolding kind_of loud_fields
-  member-ends {d = d} {e} {f} p q q2 a w w2 =
+  member-ends {d = d} {e} {f} p q q2 a w k w2 k2 =
       let o = member_of img p q q2 in
-      ends-left e.scope p.is.below (quiet img refl p.is) o.whole w2
-      (ends-left f.scope o.second.below (ident-quiet o.second) (ap (λ (v : Walked). marked img d v.scope v) (sym a.same)) w (record { same = refl; stands = a.stands }))
+      ends-left e.scope p.is.below (quiet img refl p.is) o.whole w2 k2
+      (ends-left f.scope o.second.below (ident-quiet o.second) (ap (λ (v : Walked). marked img d v.scope v) (sym a.same)) w k (record { same = refl; stands = a.stands }))
 
-  pub head-member-ends : {n c : ℕ} {l : NodeList} {e f g h : Walked} {env : List ℕ} → Ready img (kind_of 16) n e → WordList img n c l → Ends img (over img c e) f env
-      → g ≡ over_all img names l f → h ≡ unmarked img n g → Ends img (over img n e) h env
+  pub head-member-ends : {n c : ℕ} {l : NodeList} {e f g h : Walked} {env env' env'' : List ℕ} → Ready img (kind_of 16) n e → WordList img n c l → Ends img (over img c e) f env
+      → Ends img (over_all img names l f) g env' → h ≡ unmarked img n g → env'' ≡ env' → Ends img (over img n e) h env''
   unfolding kind_of loud_fields
-  head-member-ends {n} {c} {l} {e} {f} {g} {h} {env} p q a w w2 =
-      let o = head_member_of img p q in
+  head-member-ends {n} {l = l} {h = h} p q a b w k =
       record {
-        same = w2 ∙ ap (unmarked img n) (w ∙ ap (over_all img names l) a.same) ∙ sym o.whole;
-        stands = left-bare img p.is.below (quiet img refl p.is) w2 (subst (λ (v : Walked). Stands img v env) (sym w) (names_stand f o.idents a.stands));
+        same = w ∙ ap (unmarked img n) (b.same ∙ ap (over_all img names l) a.same) ∙ sym (head_member_of img p q).whole;
+        stands = left-bare img p.is.below (quiet img refl p.is) w k b.stands;
       }
 
   -- an ident that is known, and one that is not
@@ -130,28 +121,15 @@ module _ (img : List ℕ) where
       let k = h.scopes in let y = h.symbols in
       (omega arith, omega arith)
 
-  -- what a role asks of the name's symbol, and from where
-  abbrev pub asks : Role → Option ℕ → Bool
-  asks occurs o = is_value img o
-  asks declares o = is_var img o
-  asks (defines b) o = is_var img o
-  asks names o = true
-
-  abbrev pub from : Role → Walked → ℕ
-  from occurs e = e.scope
-  from declares e = e.scope
-  from (defines b) e = b
-  from names e = e.scope
-
-  ident-is : (r : Role) (i : ℕ) (e : Walked) → walk_ident img r i e ≡ unless img (asks r (lookup img e.table (from r e) (name_of img i))) i e
+  ident-is : (r : Role) (i : ℕ) (e : Walked) → walk_ident img r i e ≡ unless img (asks img r (lookup img e.table (from r e) (name_of img i))) i e
   unfolding walk_ident unless
   ident-is occurs i e = refl
   ident-is declares i e = refl
   ident-is (defines b) i e = refl
   ident-is names i e = refl
 
-  pub unless-is : {b : Bool} {i x : ℕ} (r : Role) (e : Walked) → Named img i x → b ≡ asks r (lookup img e.table (from r e) x) → unless img b i e ≡ walk_ident img r i e
-  unless-is {b} {i} r e n q = ap (λ (v : Bool). unless img v i e) (q ∙ ap (λ (y : ℕ). asks r (lookup img e.table (from r e) y)) n.is) ∙ sym (ident-is r i e)
+  pub unless-is : {b : Bool} {i x : ℕ} (r : Role) (e : Walked) → Named img i x → b ≡ asks img r (lookup img e.table (from r e) x) → unless img b i e ≡ walk_ident img r i e
+  unless-is {b} {i} r e n q = ap (λ (v : Bool). unless img v i e) (q ∙ ap (λ (y : ℕ). asks img r (lookup img e.table (from r e) y)) n.is) ∙ sym (ident-is r i e)
 
   -- the word of a name, where the walk stands
   pub word-tells : {x w : ℕ} {e : Walked} {env : List ℕ} → Stands img e env → x < names_most → w ≡ standing env x → Tells img e.table w (lookup img e.table e.scope x)
@@ -190,7 +168,7 @@ module _ (img : List ℕ) where
   head-below {e = e} p t q = (ident-named img (head-case img {e = e} names p.is 0 t.first t.second refl).is q).below
 
   -- of a term, in its role
-  pub ident_of : {r : Role} {n i x : ℕ} {b : Bool} {e : Walked} → Variable img r n e → Two img n 0 i → x ≡ field img i 0 → b ≡ asks r (lookup img e.table (from r e) x)
+  pub ident_of : {r : Role} {n i x : ℕ} {b : Bool} {e : Walked} → Variable img r n e → Two img n 0 i → x ≡ field img i 0 → b ≡ asks img r (lookup img e.table (from r e) x)
       → Ident r n i x b e (walk img r (tree_at img n) e)
   ident_of {r} {n} {i} {x} {b} {e} p t q k =
       let v = var-ident img p t.first t.second in
@@ -209,11 +187,11 @@ module _ (img : List ℕ) where
 
   -- the same where the role asks from where the walk stands, by the word of the name
   pub ident_here : {r : Role} {n i x w : ℕ} {b : Bool} {e : Walked} {env : List ℕ} → Variable img r n e → Two img n 0 i → x ≡ field img i 0 → from r e ≡ e.scope → Stands img e env → w ≡ standing env x
-      → b ≡ asks r (told img e.table.words w) → Ident r n i x b e (walk img r (tree_at img n) e)
+      → b ≡ asks img r (told img e.table.words w) → Ident r n i x b e (walk img r (tree_at img n) e)
   ident_here {r} {x = x} {e = e} p t q z s l k =
       let v = var-ident img p t.first t.second in
       let h = word-tells s (ident-named img v.is q).below l in
-      ident_of p t q (k ∙ ap (asks r) h.is ∙ ap (λ (y : ℕ). asks r (lookup img e.table y x)) (sym z))
+      ident_of p t q (k ∙ ap (asks img r) h.is ∙ ap (λ (y : ℕ). asks img r (lookup img e.table y x)) (sym z))
 
   -- of an app head
   pub ident_head : {n i x : ℕ} {e : Walked} {env : List ℕ} → Ready img (kind_of 15) n e → Two img n 0 i → x ≡ field img i 0 → Stands img e env → Ident names n i x true e (over img n e)
@@ -232,15 +210,15 @@ module _ (img : List ℕ) where
       }
 
   -- what the node is left with, after its ident; and where its walk ends
-  pub ident-asking : {r : Role} {n i x w : ℕ} {b : Bool} {e f g a : Walked} {env env' : List ℕ} → Ident r n i x b e a → Stands img e env → w ≡ standing env x → Ends img (unless img b i e) f env'
-      → g ≡ marked img i e.scope f → Asking img n x w e.scope g env'
+  pub ident-asking : {r : Role} {n i x w : ℕ} {b : Bool} {e f g a : Walked} {env env' env'' : List ℕ} → Ident r n i x b e a → Stands img e env → w ≡ standing env x → Ends img (unless img b i e) f env'
+      → g ≡ marked img i e.scope f → env'' ≡ env' → Asking img n x w e.scope g env''
   unfolding marked mark
-  ident-asking {r} {i = i} {b = b} {e} {f} {g} o s q h z =
+  ident-asking {r} {i = i} {b = b} {e} {f} {g} o s q h z p =
       let y = z ∙ ap (marked img i e.scope) h.same in
       let k : Few img g.table = subst (λ (v : Walked). Few img v.table) (sym y) (record { scopes = o.few.scopes; symbols = o.few.symbols }) in
       let l = later r i k s o.named.below q (y ∙ o.step) in
       record {
-        stands = left img e.scope o.is.below (ident-quiet o.is) z h.stands;
+        stands = left img e.scope o.is.below (ident-quiet o.is) z p h.stands;
         node = o.node;
         is = o.asks;
         below = o.named.below;
@@ -256,17 +234,12 @@ module _ (img : List ℕ) where
   pub as-variable : {n : ℕ} {e : Walked} → Ready img (kind_of 12) n e → Variable img occurs n e
   as-variable p = record { is = p.is; room = p.room }
 
-  -- a plain node that wraps an enum, at which no name is asked for
-  pub wrapped-ends : (ks : List ℕ) {n d : ℕ} {e f g : Walked} {env : List ℕ} → Ready img (kind_by (inner plain) (cases ks ∷ [])) n e → (c : ℕ) → c ≡ field img n 0 → d ≡ field img n 1
-      → eqb (get_or ks c no_child) no_child ≡ false → asked img n ≡ none → Ends img (over img d e) f env → g ≡ marked img n e.scope f → Ends img (over img n e) g env
-  wrapped-ends ks {n} {e = e} p c q q2 s l h w =
-      ends-left e.scope p.is.below l (plain-whole img e p.is ∙ ap (marked img n e.scope) (plain-wrapped img ks p c q q2 s).inner) w h
-
   -- a ThenAtom of another case than Defined
-  pub then-ends : {n d : ℕ} {e f g : Walked} {env : List ℕ} → Ready img (kind_of 29) n e → (c : ℕ) → (c ≡ 1 → ⊥) → c ≡ field img n 0 → d ≡ field img n 1
-      → eqb (get_or (30 ∷ 34 ∷ 31 ∷ []) c no_child) no_child ≡ false → Ends img (over img d e) f env → g ≡ marked img n e.scope f → Ends img (over img n e) g env
+  pub then-ends : {n c : ℕ} {i : NodeId} {e f g : Walked} {env env' : List ℕ} → Ready img (kind_of 29) n e → Cased img n c i → (c ≡ 1 → ⊥) → eqb (get_or (30 ∷ 34 ∷ 31 ∷ []) c no_child) no_child ≡ false
+      → Ends img (over img i.0 e) f env → g ≡ marked img n e.scope f → env' ≡ env → Ends img (over img n e) g env'
   unfolding kind_of
-  then-ends p c y q q2 s h w = wrapped-ends (30 ∷ 34 ∷ 31 ∷ []) p c q q2 s (quiet_then img p.is (λ z. y (q ∙ z))) h w
+  then-ends {n} {e = e} p q y s h w k =
+      ends-left e.scope p.is.below (quiet_then img p.is (λ z. y (q.number ∙ z))) (plain-whole img e p.is ∙ ap (marked img n e.scope) (plain-wrapped img p q s).inner) w k h
 
   -- a variable that is no ident, walked as any term
   pub var-ends : {r : Role} {n : ℕ} {e f : Walked} {env : List ℕ} → Variable img r n e → (field img n 0 ≡ 0 → ⊥) → Ends img (over img n e) f env → Ends img (walk img r (tree_at img n) e) f env
@@ -280,8 +253,8 @@ module _ (img : List ℕ) where
 
   pub defined_atom : {n id d : ℕ} {e : Walked} → Ready img (kind_of 29) n e → Two img n 1 id → d ≡ field img id 1 → DefinedAtom n id d e
   unfolding kind_of
-  defined_atom {n} {e = e} p t q =
-      let o = plain-wrapped img (30 ∷ 34 ∷ 31 ∷ []) p 1 t.first t.second refl in
+  defined_atom {n} {id} {e = e} p t q =
+      let o = plain-wrapped img {i = record { 0 = id }} p (record { number = t.first; child = t.second }) refl in
       record { ready = o.ready; parts = defined_of img o.ready q; whole = plain-whole img e p.is ∙ ap (marked img n e.scope) o.inner }
 
   -- the name of its variable
@@ -292,21 +265,21 @@ module _ (img : List ℕ) where
   pub atom-asked : {n id d : ℕ} {e f g : Walked} {env env' : List ℕ} → DefinedAtom n id d e → Ends img (over img id e) f env → g ≡ marked img n e.scope f → Stands img g env' → Ends img (over img n e) g env'
   atom-asked {n} {e = e} o h w s = record { same = w ∙ ap (marked img n e.scope) h.same ∙ sym o.whole; stands = s }
 
-  pub atom-quiet : {n id d : ℕ} {e f g : Walked} {env : List ℕ} → DefinedAtom n id d e → Is img (kind_of 29) n → asked img n ≡ none → Ends img (over img id e) f env → g ≡ marked img n e.scope f → Ends img (over img n e) g env
-  atom-quiet {e = e} o is q h w = ends-left e.scope is.below q o.whole w h
+  pub atom-quiet : {n id d : ℕ} {e f g : Walked} {env env' : List ℕ} → DefinedAtom n id d e → Is img (kind_of 29) n → asked img n ≡ none → Ends img (over img id e) f env → g ≡ marked img n e.scope f → env' ≡ env → Ends img (over img n e) g env'
+  atom-quiet {e = e} o is q h w k = ends-left e.scope is.below q o.whole w k h
 
   -- the defined-then left: after its term, if it has no variable, and after its variable
   defined-quiet : {id : ℕ} → Is img (kind_of 34) id → asked img id ≡ none
   unfolding kind_of loud_fields
   defined-quiet is = quiet img refl is
 
-  pub absent-ends : {n id d : ℕ} {e f g : Walked} {env : List ℕ} → DefinedAtom n id d e → field img id 0 ≡ 0 → Ends img (over img d e) f env → g ≡ marked img id e.scope f → Ends img (over img id e) g env
-  absent-ends {e = e} o z h w = ends-left e.scope o.ready.is.below (defined-quiet o.ready.is) (o.parts.whole z) w h
+  pub absent-ends : {n id d : ℕ} {e f g : Walked} {env env' : List ℕ} → DefinedAtom n id d e → field img id 0 ≡ 0 → Ends img (over img d e) f env → g ≡ marked img id e.scope f → env' ≡ env → Ends img (over img id e) g env'
+  absent-ends {e = e} o z h w k = ends-left e.scope o.ready.is.below (defined-quiet o.ready.is) (o.parts.whole z) w k h
 
-  pub given-ends : {n id d : ℕ} (v : ℕ) {e f g h : Walked} {env env' : List ℕ} → DefinedAtom n id d e → suc v ≡ field img id 0 → Ends img (over img d e) f env
-      → Ends img (walk img (defines e.scope) (tree_at img v) f) g env' → h ≡ marked img id e.scope g → Ends img (over img id e) h env'
-  given-ends v {e = e} o q a b w =
-      ends-left e.scope o.ready.is.below (defined-quiet o.ready.is) (o.parts.whole2 v (sym q)) w (ends-then (walk img (defines e.scope) (tree_at img v)) a.same b)
+  pub given-ends : {n id d : ℕ} (v : ℕ) {e f g h : Walked} {env env' env'' : List ℕ} → DefinedAtom n id d e → suc v ≡ field img id 0 → Ends img (over img d e) f env
+      → Ends img (walk img (defines e.scope) (tree_at img v) f) g env' → h ≡ marked img id e.scope g → env'' ≡ env' → Ends img (over img id e) h env''
+  given-ends v {e = e} o q a b w k =
+      ends-left e.scope o.ready.is.below (defined-quiet o.ready.is) (o.parts.whole2 v (sym q)) w k (ends-then (walk img (defines e.scope) (tree_at img v)) a.same b)
 
   -- its variable, from where the term's walk ends
   pub given-variable : {n id d : ℕ} (v : ℕ) {e f : Walked} {env : List ℕ} → DefinedAtom n id d e → suc v ≡ field img id 0 → Ends img (over img d e) f env → Variable img (defines e.scope) v f

@@ -4,7 +4,6 @@ use mathlib.Core.List.{List, [], ◌∷◌}
 use Prim.Native.Nat.{ℕ, ◌+◌, ◌-◌, ◌<◌, ◌≤◌}
 use native.Mathlib.Omega.{arith}
 use native.Mathlib.Nat.{add-zero, sub-zero}
-use lib.ListN.{length}
 use Rattle.ast.specs.Image.{field}
 use Rattle.ast.specs.Items.{items}
 use Rattle.ast.specs.Is.{Is, Run, kind_by}
@@ -13,20 +12,19 @@ use Rattle.ast.specs.Tree.{Tree, Trees, tree_at}
 use Rattle.typed.specs.RowShapes.{Listed, WordList}
 use Rattle.typed.specs.declared.nodes.NodeList.{NodeList}
 use Rattle.table.specs.State.{Walked, marked, unmarked}
+use Rattle.table.specs.declared.ScopeId.{ScopeId}
+use Rattle.environment.specs.Stands.{Stands}
+use Rattle.environment.specs.Builder.{Keeps, walked_of}
+use Rattle.environment.specs.declared.ScopeBuilder.{ScopeBuilder}
+use Rattle.environment.proofs.Steps.{keeps-then}
 use Rattle.ast.proofs.Row.{append-none, Child, FormedFields, next, node_of}
 use Rattle.ast.proofs.Shapes.{row, tree_of, child-is, items_more, run-item, run-list, run-tail}
 use Rattle.ast.proofs.Small.{items-small}
 use Rattle.typed.proofs.Lists.{at-list}
 use Rattle.ordered.specs.Walk.{Role, occurs, names, walk, walk_seq}
-use Rattle.ordered.specs.Promises.{over, rest, Ready, ReadyRun}
+use Rattle.ordered.specs.Promises.{over, rest, over_all, Ready, ReadyRun, ReadyAll, Walks}
 use Rattle.ordered.proofs.Grows.{Grows, stays, unmarked-grows, seq-grows}
-use Rattle.ordered.proofs.Steps.{room_in, part_room, name-step}
-
--- a loop over items: after i of them it stands at f, and what is left from there is the whole
-pub record Left (img : List ℕ) (r : Role) (n j count i : ℕ) (e f : Walked) : Type 0 where
-  pub within : i ≤ count
-  pub long : length f.table.words ≡ length e.table.words
-  pub left : rest img r n j count 0 e ≡ rest img r n j count i f
+use Rattle.ordered.proofs.Steps.{room_in, part_room}
 
 module _ (img : List ℕ) where
   pub rest_more : (r : Role) (n j count i : ℕ) (e : Walked) → i < count → rest img r n j count i e ≡ rest img r n j count (i + 1) (walk img r (tree_at img (field img n (j + i))) e)
@@ -105,10 +103,26 @@ module _ (img : List ℕ) where
         whole = w;
       }))
 
-  -- a name of it, marked
-  pub name-more : {n j count i c : ℕ} (e f : Walked) → Run img 13 n j count → i < count → c ≡ field img n (j + i)
-      → rest img names n j count 0 e ≡ rest img names n j count i f
-      → rest img names n j count 0 e ≡ rest img names n j count (i + 1) (marked img c f.scope f)
-  name-more {n} {j} {count} {i} {c} e f p l q w =
-      w ∙ rest_more names n j count i f l
-      ∙ ap (rest img names n j count (i + 1)) (name-step img f (run-item img p l refl).1 ∙ ap (λ (x : ℕ). marked img x f.scope f) (sym q))
+  -- a loop over the nodes of a list: after i of them it stands in the scope s' of b', and what is left from there is the whole
+  pub record Left (r : Role) (l : NodeList) (i : ℕ) (b : ScopeBuilder) (s : ScopeId) (b' : ScopeBuilder) (s' : ScopeId) : Type 0 where
+    pub left : over_all img r l (walked_of b s) ≡ rest img r l.node.0 l.first l.count i (walked_of b' s')
+    pub stands : Stands img (walked_of b' s') b'.env.now
+    pub keeps : Keeps b b'
+
+  pub left-item : {k i c : ℕ} {l : NodeList} {b b' : ScopeBuilder} {s s' : ScopeId} → ReadyAll img k l (walked_of b s) → i < l.count → c ≡ field img l.node.0 (l.first + i) → Left occurs l i b s b' s'
+      → RunItem k l.node.0 l.first l.count i c (walked_of b s) (walked_of b' s')
+  left-item p h q w = run_item p h q w.left
+
+  pub left-more : {r : Role} {i c : ℕ} {l : NodeList} {b b' b'' : ScopeBuilder} {s s' s'' : ScopeId} → i < l.count → c ≡ field img l.node.0 (l.first + i) → Left r l i b s b' s' → Keeps b' b''
+      → Walks img (walk img r (tree_at img c)) b' s' b'' s'' → Left r l (i + 1) b s b'' s''
+  left-more {r} {i} {l = l} {b' = b'} {s' = s'} h q w k v =
+      record {
+        left =
+            w.left ∙ rest_more r l.node.0 l.first l.count i (walked_of b' s') h
+            ∙ ap (rest img r l.node.0 l.first l.count (i + 1)) (ap (λ (x : ℕ). walk img r (tree_at img x) (walked_of b' s')) (sym q) ∙ sym v.same);
+        stands = v.stands;
+        keeps = keeps-then w.keeps k;
+      }
+
+  pub left-end : {r : Role} {i : ℕ} {l : NodeList} {b b' : ScopeBuilder} {s s' : ScopeId} → l.count ≤ i → Left r l i b s b' s' → Walks img (over_all img r l) b s b' s'
+  left-end {r} {i} {l} {b' = b'} {s' = s'} h w = record { same = sym (w.left ∙ rest_end r l.node.0 l.first l.count i (walked_of b' s') h); stands = w.stands }

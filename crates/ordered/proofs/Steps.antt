@@ -11,6 +11,8 @@ use Rattle.ast.specs.Items.{below}
 use Rattle.ast.specs.Kinds.{Class, inner, plain, term, head, Field, child, cases, no_child, Kind, kind_of}
 use Rattle.ast.specs.Tree.{Tree, Trees, none, ◌◂◌, ordered, tree_at}
 use Rattle.ast.specs.Is.{Is, kind_by}
+use Rattle.ast.specs.declared.NodeId.{NodeId}
+use Rattle.typed.proofs.Enums.{Cased}
 use Rattle.table.specs.State.{Walked, marked}
 use Rattle.ast.proofs.Row.{Child, FormedFields, next, node_of}
 use Rattle.ast.proofs.Shapes.{term_kinds, head_kinds, row, tree_of, child-is, case-kids, case-one, case-child}
@@ -177,27 +179,27 @@ module _ (img : List ℕ) where
     pub ready : Ready img kd d e
     pub inner : inside img r n e ≡ over img d e
 
-  pub term-wrapped : {n d : ℕ} {e : Walked} → Ready img (kind_of 12) n e → (c : ℕ) → c ≡ field img n 0 → d ≡ field img n 1 → eqb (get_or term_kinds c no_child) no_child ≡ false
-      → Wrapped occurs (kind_of (get_or term_kinds c no_child)) n d e
-  term-wrapped {n} {d} {e} p c q q2 s =
-      let k = term-case {e = e} occurs p.is c q q2 s in
+  pub term-wrapped : {n c : ℕ} {i : NodeId} {e : Walked} → Ready img (kind_of 12) n e → Cased img n c i → eqb (get_or term_kinds c no_child) no_child ≡ false
+      → Wrapped occurs (kind_of (get_or term_kinds c no_child)) n i.0 e
+  term-wrapped {n} {c} {e = e} p q s =
+      let k = term-case {e = e} occurs p.is c q.number q.child s in
       record {
         low = k.low;
         ready = record { is = k.is; room = part_room p (term-whole e p.is ∙ ap (marked img n e.scope) k.inner) (stays _) };
         inner = k.inner;
       }
 
-  pub head-wrapped : {n d : ℕ} {e : Walked} → Ready img (kind_of 15) n e → (c : ℕ) → suc c ≡ field img n 0 → d ≡ field img n 1 → eqb (get_or head_kinds (suc c) no_child) no_child ≡ false
-      → Wrapped (head_role img (field img n 0 ∷ [])) (kind_of (get_or head_kinds (suc c) no_child)) n d e
+  pub head-wrapped : {n c : ℕ} {i : NodeId} {e : Walked} → Ready img (kind_of 15) n e → Cased img n (suc c) i → eqb (get_or head_kinds (suc c) no_child) no_child ≡ false
+      → Wrapped (head_role img (field img n 0 ∷ [])) (kind_of (get_or head_kinds (suc c) no_child)) n i.0 e
   unfolding head_role
-  head-wrapped {n} {d} {e} p c q q2 s =
-      let o : head_role img (field img n 0 ∷ []) ≡ occurs = ap (λ (x : ℕ). head_role img (x ∷ [])) (sym q) in
-      let k = head-case {e = e} occurs p.is (suc c) q q2 s in
-      let i : inside img (head_role img (field img n 0 ∷ [])) n e ≡ over img d e = ap (λ (r : Role). inside img r n e) o ∙ k.inner in
+  head-wrapped {n} {c} {i} {e} p q s =
+      let o : head_role img (field img n 0 ∷ []) ≡ occurs = ap (λ (x : ℕ). head_role img (x ∷ [])) (sym q.number) in
+      let k = head-case {e = e} occurs p.is (suc c) q.number q.child s in
+      let w : inside img (head_role img (field img n 0 ∷ [])) n e ≡ over img i.0 e = ap (λ (r : Role). inside img r n e) o ∙ k.inner in
       record {
         low = k.low;
-        ready = record { is = k.is; room = part_room p (head-whole e p.is ∙ ap (marked img n e.scope) i) (stays _) };
-        inner = i;
+        ready = record { is = k.is; room = part_room p (head-whole e p.is ∙ ap (marked img n e.scope) w) (stays _) };
+        inner = w;
       }
 
   pub head-ident : {n d : ℕ} (e : Walked) → Is img (kind_of 15) n → 0 ≡ field img n 0 → d ≡ field img n 1 → inside img (head_role img (field img n 0 ∷ [])) n e ≡ marked img d e.scope e

@@ -4,7 +4,6 @@ use mathlib.Core.List.{List}
 use Prim.Native.Nat.{ℕ, suc, ◌+◌, ◌-◌, ◌<◌, ◌≤◌}
 use native.Mathlib.Omega.{arith}
 use native.Mathlib.Nat.{sub-zero}
-use lib.ListN.{length}
 use Rattle.ast.specs.Image.{field}
 use Rattle.ast.specs.Is.{Is}
 use Rattle.ast.specs.Items.{items, blocks}
@@ -103,14 +102,12 @@ module _ (img : List ℕ) where
   -- a loop over blocks: after i of them it stands at place j and at f
   pub record BlocksLeft (bs : NodeList) (i j : ℕ) (e f : Walked) : Type 0 where
     pub from : BlocksFrom img bs.node.0 bs.count i j
-    pub long : length f.table.words ≡ length e.table.words
     pub left : over_blocks bs e ≡ walk_seq img occurs (blocks img bs.node.0 (bs.count - i) j) f
 
   pub branch-start : {n : ℕ} {bs : NodeList} {e : Walked} → Is img (kind_of 39) n → Listed img n 0 bs → BlocksLeft bs 0 bs.first e e
   branch-start {bs = bs} {e} is q =
       record {
         from = at-list img (λ m j c. BlocksFrom img m c 0 j) q (blocks_from img is refl);
-        long = refl;
         left = ap (λ (c : ℕ). walk_seq img occurs (blocks img bs.node.0 c bs.first) e) (sym (sub-zero bs.count));
       }
 
@@ -123,7 +120,7 @@ module _ (img : List ℕ) where
   -- one block more: s items of m's row from place k on
   pub record BlockItem (bs : NodeList) (i m k s : ℕ) (e f : Walked) : Type 0 where
     pub run : ReadyRun img 36 m k s f
-    pub more : (g : Walked) → g ≡ back img f.scope (rest img occurs m k s 0 f) → length g.table.words ≡ length e.table.words → BlocksLeft bs (i + 1) (k + s) e g
+    pub more : (g : Walked) → g ≡ back img f.scope (rest img occurs m k s 0 f) → BlocksLeft bs (i + 1) (k + s) e g
 
   pub block_item : {n i j : ℕ} {bs l : NodeList} {e f : Walked} → Ready img (kind_of 39) n e → Listed img n 0 bs → BlocksLeft bs i j e f → i < bs.count → Listed img bs.node.0 j l
       → BlockItem bs i l.node.0 l.first l.count e f
@@ -131,7 +128,7 @@ module _ (img : List ℕ) where
       at-list img (λ m k s. BlockItem bs i m k s e f) r
       (record {
         run = record { run = k.run; room = part_room img p (branch-whole e p.is ∙ ap (marked img n e.scope) (blocks-listed e q ∙ m)) (further (back-grows img f.scope (stays _)) (blocks_grows bs.node.0 c (j + 1 + z) _)) };
-        more = λ g w long. record { from = k.from; long = long; left = m ∙ ap (walk_seq img occurs (blocks img bs.node.0 c (j + 1 + z))) (sym w) };
+        more = λ g w. record { from = k.from; left = m ∙ ap (walk_seq img occurs (blocks img bs.node.0 c (j + 1 + z))) (sym w) };
       })
     where
       z : ℕ

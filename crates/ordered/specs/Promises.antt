@@ -2,6 +2,7 @@
 -- what is left of a list; and what a walker asks before it starts.
 use Rattle.std.specs.Prelude.{◌≡◌, Bool, List, ℕ, suc, ◌+◌, ◌-◌, ◌<◌, ◌≤◌, ◌^◌}
 use Rattle.std.proofs.Math.Bool.{true, false}
+use Rattle.std.proofs.Math.Option.{Option}
 use Rattle.ast.specs.Image.{nodes}
 use Rattle.ast.specs.Kinds.{Kind, kind_of}
 use Rattle.ast.specs.Tree.{tree_at}
@@ -10,12 +11,29 @@ use Rattle.ast.specs.Is.{Is, Run}
 use Rattle.ast.specs.Named.{term_kind}
 use Rattle.typed.specs.RowShapes.{Two}
 use Rattle.typed.specs.declared.nodes.NodeList.{NodeList}
-use Rattle.table.specs.Table.{Table}
+use Rattle.table.specs.Table.{Table, is_var, is_value}
 use Rattle.table.specs.State.{Walked, introduce}
+use Rattle.table.specs.declared.ScopeId.{ScopeId}
 use Rattle.environment.specs.Stands.{Stands}
-use Rattle.ordered.specs.Walk.{Role, occurs, walk, walk_seq}
+use Rattle.environment.specs.Builder.{walked_of}
+use Rattle.environment.specs.declared.ScopeBuilder.{ScopeBuilder}
+use Rattle.ordered.specs.Walk.{Role, occurs, declares, defines, names, walk, walk_seq}
+
+-- the scope from which a role asks for the name of its ident
+abbrev pub from : Role → Walked → ℕ
+from occurs e = e.scope
+from declares e = e.scope
+from (defines b) e = b
+from names e = e.scope
 
 module _ (img : List ℕ) where
+  -- what the name's symbol must be for the ident to introduce nothing
+  abbrev pub asks : Role → Option ℕ → Bool
+  asks occurs o = is_value img o
+  asks declares o = is_var img o
+  asks (defines b) o = is_var img o
+  asks names o = true
+
   -- the walk over the tree of node n
   abbrev pub over : ℕ → Walked → Walked
   over n e = walk img occurs (tree_at img n) e
@@ -77,8 +95,21 @@ pub record ReadyRun (img : List ℕ) (k n j count : ℕ) (e : Walked) : Type 0 w
   pub room : Room img (rest img occurs n j count 0 e)
 
 -- of the nodes of a list
-abbrev pub RunAll : List ℕ → ℕ → NodeList → Type 0
-RunAll img k l = Run img k l.node.0 l.first l.count
-
 abbrev pub ReadyAll : List ℕ → ℕ → NodeList → Walked → Type 0
 ReadyAll img k l e = ReadyRun img k l.node.0 l.first l.count e
+
+module _ (img : List ℕ) where
+  -- what a walker asks of the builder, at the scope that the walk stands in: it is ready, and names stand for what lookup gives
+  -- there
+  abbrev pub Starts : Kind → ℕ → ScopeBuilder → ScopeId → Type 0
+  Starts kd n b s = Ready img kd n (walked_of b s) × Stands img (walked_of b s) b.env.now
+
+  abbrev pub StartsAll : ℕ → NodeList → ScopeBuilder → ScopeId → Type 0
+  StartsAll k l b s = ReadyAll img k l (walked_of b s) × Stands img (walked_of b s) b.env.now
+
+  abbrev pub StartsVariable : Role → ℕ → ScopeBuilder → ScopeId → Type 0
+  StartsVariable r n b s = Variable img r n (walked_of b s) × Stands img (walked_of b s) b.env.now
+
+  -- what it hands back: from the scope s of the old builder the walk f ends in the scope s' of the new one
+  abbrev pub Walks : (Walked → Walked) → ScopeBuilder → ScopeId → ScopeBuilder → ScopeId → Type 0
+  Walks f old s new s' = Ends img (f (walked_of old s)) (walked_of new s') new.env.now

@@ -2,248 +2,269 @@
 // recorded words. The records come on standard input; differential/src/record.rs says how they are laid out and made.
 #![tactic(auto)]
 
+use std::alloc::{AllocError, Global};
 use std::io;
-use std::io::Read;
+use std::io::{BufReader, Read};
 
-// The i-th number at a record's head: 0 image bytes, 1 table words, 2 rows words, 3 mode, 4 scope, 5 name bytes, 6 name number.
-fn head_word(head: &[u8; 88], i: usize) -> u32 {
-    if 22 <= i {
-        return 0;
-    }
-    ast::word(head, 4 * i)
+// At most so many records are replayed.
+const MOST_RECORDS: u64 = 1_000_000;
+
+// A record whose image, name, table or rows are larger is not read on.
+const MOST_IMAGE_BYTES: u32 = 65536;
+
+const MOST_NAME_BYTES: u32 = 8192;
+
+const MOST_TABLE_WORDS: u32 = 10246;
+
+const MOST_ROWS_WORDS: u32 = 4100;
+
+// What every lent word is before a call.
+const LENT: u32 = 7;
+
+// Why a record is not had.
+#[derive(Debug, Drop)]
+enum RecordError {
+    // a part is larger than it may be
+    TooLarge,
+    // the input ends within it, or a read fails
+    Unread,
+    OutOfMemory,
 }
 
-// The i-th packed answer: 0 resolve, 1 errors, 2 once, 3 occurrences, 4 lookup, 5 name, 6 sorted.
-fn answer(head: &[u8; 88], i: usize) -> u64 {
-    if 7 <= i {
-        return 0;
+impl From<io::Error> for RecordError {
+    fn from(_e: io::Error) -> RecordError {
+        RecordError::Unread
     }
-    let low = head_word(head, 8 + 2 * i);
-    let high = head_word(head, 9 + 2 * i);
-    (low as u64) + 4294967296 * (high as u64)
 }
 
-// The words are those of the bytes.
-fn same_words(words: &[u32], bytes: &[u8]) -> bool {
-    let mut i = 0;
-    while i < words.len() {
-        if bytes.len() / 4 <= i {
-            return false;
+impl From<AllocError> for RecordError {
+    fn from(_e: AllocError) -> RecordError {
+        RecordError::OutOfMemory
+    }
+}
+
+// The next bytes of the input.
+fn next_bytes<const N: usize, R: Read>(input: &mut R) -> Result<[u8; N], RecordError> {
+    let mut bytes = [0; N];
+    input.read_exact(&mut bytes)?;
+    Ok(bytes)
+}
+
+// A number as it stands in a record, little-endian.
+trait Number: Copy {
+    fn read<R: Read>(input: &mut R) -> Result<Self, RecordError>;
+}
+
+impl Number for u8 {
+    fn read<R: Read>(input: &mut R) -> Result<u8, RecordError> {
+        Ok(u8::from_le_bytes(next_bytes(input)?))
+    }
+}
+
+impl Number for u32 {
+    fn read<R: Read>(input: &mut R) -> Result<u32, RecordError> {
+        Ok(u32::from_le_bytes(next_bytes(input)?))
+    }
+}
+
+impl Number for u64 {
+    fn read<R: Read>(input: &mut R) -> Result<u64, RecordError> {
+        Ok(u64::from_le_bytes(next_bytes(input)?))
+    }
+}
+
+// Reads so many numbers, which may be no more than `most`.
+fn read_part<T: Number, R: Read>(
+    alloc: Global,
+    input: &mut R,
+    count: u32,
+    most: u32,
+) -> Result<Vec<T>, RecordError> {
+    if most < count {
+        return Err(RecordError::TooLarge);
+    }
+    (0..count).map(|_| T::read(input)).try_collect(alloc)
+}
+
+// The packed answer of each call.
+#[derive(Clone, Copy)]
+struct Answers {
+    resolve: u64,
+    errors: u64,
+    once: u64,
+    occurrences: u64,
+    lookup: u64,
+    name: u64,
+    sorted: u64,
+}
+
+impl Answers {
+    fn read<R: Read>(input: &mut R) -> Result<Answers, RecordError> {
+        Ok(Answers {
+            resolve: u64::read(input)?,
+            errors: u64::read(input)?,
+            once: u64::read(input)?,
+            occurrences: u64::read(input)?,
+            lookup: u64::read(input)?,
+            name: u64::read(input)?,
+            sorted: u64::read(input)?,
+        })
+    }
+}
+
+// The sizes of a record's parts, what its calls are given, and their answers.
+#[derive(Clone, Copy)]
+struct Head {
+    image_bytes: u32,
+    table_words: u32,
+    rows_words: u32,
+    mode: u32,
+    scope: u32,
+    name_bytes: u32,
+    name_number: u32,
+    answers: Answers,
+}
+
+impl Head {
+    fn read<R: Read>(input: &mut R) -> Result<Head, RecordError> {
+        let image_bytes = u32::read(input)?;
+        let table_words = u32::read(input)?;
+        let rows_words = u32::read(input)?;
+        let mode = u32::read(input)?;
+        let scope = u32::read(input)?;
+        let name_bytes = u32::read(input)?;
+        let name_number = u32::read(input)?;
+        let _zero = u32::read(input)?;
+        let answers = Answers::read(input)?;
+        Ok(Head {
+            image_bytes,
+            table_words,
+            rows_words,
+            mode,
+            scope,
+            name_bytes,
+            name_number,
+            answers,
+        })
+    }
+}
+
+// A record: its head, the image, the name looked up, and the words that the calls leave.
+#[derive(Drop)]
+struct Record {
+    head: Head,
+    image: Vec<u8>,
+    name: Vec<u8>,
+    table: Vec<u32>,
+    errors: Vec<u32>,
+    occurrences: Vec<u32>,
+    sorted: Vec<u32>,
+}
+
+impl Record {
+    fn read<R: Read>(alloc: Global, input: &mut R, head: Head) -> Result<Record, RecordError> {
+        Ok(Record {
+            image: read_part(alloc, input, head.image_bytes, MOST_IMAGE_BYTES)?,
+            name: read_part(alloc, input, head.name_bytes, MOST_NAME_BYTES)?,
+            table: read_part(alloc, input, head.table_words, MOST_TABLE_WORDS)?,
+            errors: read_part(alloc, input, head.rows_words, MOST_ROWS_WORDS)?,
+            occurrences: read_part(alloc, input, head.rows_words, MOST_ROWS_WORDS)?,
+            sorted: read_part(alloc, input, head.rows_words, MOST_ROWS_WORDS)?,
+            head,
+        })
+    }
+
+    // Whether the call hands back the answer and leaves the recorded table.
+    fn leaves_table<F: FnOnce(&[u8], &mut [u32]) -> u64>(
+        &self,
+        alloc: Global,
+        answer: u64,
+        call: F,
+    ) -> Result<bool, AllocError>
+        requires { F.IsAlwaysCallable call }
+    {
+        let mut table = vec![in alloc; LENT; self.table.len()]?;
+        Ok(call(&self.image, &mut table) == answer && table == self.table)
+    }
+
+    // Whether the call hands back the answer and leaves these rows.
+    fn leaves_rows<F: FnOnce(&[u8], &mut [u32], &mut [u32]) -> u64>(
+        &self,
+        alloc: Global,
+        answer: u64,
+        after: &[u32],
+        call: F,
+    ) -> Result<bool, AllocError>
+        requires { F.IsAlwaysCallable call }
+    {
+        let mut table = vec![in alloc; LENT; self.table.len()]?;
+        let mut rows = vec![in alloc; LENT; after.len()]?;
+        Ok(call(&self.image, &mut table, &mut rows) == answer && rows.as_slice() == after)
+    }
+
+    // Whether every call answers and leaves what is recorded; lookup and name leave nothing. Lookup is given the recorded
+    // table, which resolve must leave.
+    fn is_as_recorded(&self, alloc: Global) -> Result<bool, AllocError> {
+        let Head {
+            mode,
+            scope,
+            name_number,
+            answers,
+            ..
+        } = self.head;
+        let found = exports::eqlog_lookup(&self.image, &self.table, scope, &self.name);
+        let place = exports::eqlog_name(&self.image, name_number);
+        let errors = |image: &[u8], table: &mut [u32], rows: &mut [u32]| exports::eqlog_errors(
+            image, table, rows, mode,
+        );
+        let sorted = |image: &[u8], table: &mut [u32], rows: &mut [u32]| exports::eqlog_sorted(
+            image, table, rows, mode,
+        );
+        Ok(
+            found == answers.lookup
+                && place == answers.name
+                && self.leaves_table(alloc, answers.resolve, exports::eqlog_resolve)?
+                && self.leaves_table(alloc, answers.once, exports::eqlog_once)?
+                && self.leaves_rows(alloc, answers.errors, &self.errors, errors)?
+                && self.leaves_rows(
+                    alloc,
+                    answers.occurrences,
+                    &self.occurrences,
+                    exports::eqlog_occurrences,
+                )?
+                && self.leaves_rows(alloc, answers.sorted, &self.sorted, sorted)?,
+        )
+    }
+}
+
+// Reads the rest of a record, and says whether all is as recorded: no, where the rest cannot be read.
+fn rest_is_as_recorded<R: Read>(
+    alloc: Global,
+    input: &mut R,
+    head: Head,
+) -> Result<bool, AllocError> {
+    match Record::read(alloc, input, head) {
+        Ok(record) => record.is_as_recorded(alloc),
+        Err(RecordError::TooLarge | RecordError::Unread) => Ok(false),
+        Err(RecordError::OutOfMemory) => Err(AllocError),
+    }
+}
+
+// Replays the records of the input; how many there are.
+fn replay<P: Print + AllocGlobal, R: Read>(rt: &P, input: &mut R) -> io::Result<u64> {
+    for number in 0..MOST_RECORDS {
+        let Ok(head) = Head::read(input) else {
+            return Ok(number);
+        };
+        if !rest_is_as_recorded(rt.alloc(), input, head)? {
+            println!(rt; "{number} differs")?;
         }
-        if words[i] != ast::word(bytes, 4 * i) {
-            return false;
-        }
-        i += 1;
     }
-    true
-}
-
-fn resolve(head: &[u8; 88], image: &[u8], name: &[u8], table: &mut [u32], after: &[u8]) -> bool {
-    if exports::eqlog_resolve(image, table) != answer(head, 0) {
-        return false;
-    }
-    if exports::eqlog_lookup(image, table, head_word(head, 4), name) != answer(head, 4) {
-        return false;
-    }
-    same_words(table, after)
-}
-
-fn once(head: &[u8; 88], image: &[u8], table: &mut [u32], after: &[u8]) -> bool {
-    if exports::eqlog_once(image, table) != answer(head, 2) {
-        return false;
-    }
-    same_words(table, after)
-}
-
-// The call whose answer has this number: errors, occurrences or sorted.
-fn write_rows(
-    head: &[u8; 88],
-    image: &[u8],
-    table: &mut [u32],
-    rows: &mut [u32],
-    which: usize,
-) -> u64 {
-    if which == 3 {
-        return exports::eqlog_occurrences(image, table, rows);
-    }
-    if which == 6 {
-        return exports::eqlog_sorted(image, table, rows, head_word(head, 3));
-    }
-    exports::eqlog_errors(image, table, rows, head_word(head, 3))
-}
-
-fn wrote_rows(
-    head: &[u8; 88],
-    image: &[u8],
-    table: &mut [u32],
-    rows: &mut [u32],
-    which: usize,
-    after: &[u8],
-) -> bool {
-    if write_rows(head, image, table, rows, which) != answer(head, which) {
-        return false;
-    }
-    same_words(rows, after)
-}
-
-fn called_name(head: &[u8; 88], image: &[u8]) -> bool {
-    exports::eqlog_name(image, head_word(head, 6)) == answer(head, 5)
-}
-
-// The calls on words of which there are as many as the record says, each 7 before.
-fn on_table(head: &[u8; 88], image: &[u8], name: &[u8], table: &mut [u32], after: &[u8]) -> bool {
-    let n = ast::wide(head_word(head, 1));
-    if table.len() < n {
-        return false;
-    }
-    resolve(head, image, name, &mut table[..n], after)
-}
-
-fn once_on_table(head: &[u8; 88], image: &[u8], table: &mut [u32], after: &[u8]) -> bool {
-    let n = ast::wide(head_word(head, 1));
-    if table.len() < n {
-        return false;
-    }
-    once(head, image, &mut table[..n], after)
-}
-
-fn on_rows(
-    head: &[u8; 88],
-    image: &[u8],
-    table: &mut [u32],
-    rows: &mut [u32],
-    which: usize,
-    after: &[u8],
-) -> bool {
-    let n = ast::wide(head_word(head, 1));
-    let m = ast::wide(head_word(head, 2));
-    if table.len() < n {
-        return false;
-    }
-    if rows.len() < m {
-        return false;
-    }
-    wrote_rows(head, image, &mut table[..n], &mut rows[..m], which, after)
-}
-
-fn rows_of(head: &[u8; 88], image: &[u8], which: usize, after: &[u8]) -> bool {
-    let mut table = [7u32; 10246];
-    let mut rows = [7u32; 4100];
-    on_rows(head, image, &mut table, &mut rows, which, after)
-}
-
-fn calls(
-    head: &[u8; 88],
-    image: &[u8],
-    name: &[u8],
-    after: &[u8],
-    rows: &[u8],
-    list: &[u8],
-    sorted: &[u8],
-) -> bool {
-    let mut a = [7u32; 10246];
-    if !on_table(head, image, name, &mut a, after) {
-        return false;
-    }
-    let mut b = [7u32; 10246];
-    if !once_on_table(head, image, &mut b, after) {
-        return false;
-    }
-    if !rows_of(head, image, 1, rows) {
-        return false;
-    }
-    if !rows_of(head, image, 3, list) {
-        return false;
-    }
-    if !rows_of(head, image, 6, sorted) {
-        return false;
-    }
-    called_name(head, image)
-}
-
-// Reads so many bytes, for which there must be room.
-fn read_part<R: Read>(input: &mut R, buffer: &mut [u8], n: usize) -> bool {
-    if buffer.len() < n {
-        return false;
-    }
-    input.read_exact(&mut buffer[..n]).is_ok()
-}
-
-// Reads the rest of a record, and says whether all is as recorded.
-fn is_as_recorded<R: Read>(input: &mut R, head: &[u8; 88]) -> bool {
-    let mut image = [0u8; 65536];
-    let mut name = [0u8; 8192];
-    let mut table = [0u8; 40984];
-    let mut rows = [0u8; 16400];
-    let mut list = [0u8; 16400];
-    let mut sorted = [0u8; 16400];
-    let a = ast::wide(head_word(head, 0));
-    let b = ast::wide(head_word(head, 5));
-    let n = ast::wide(head_word(head, 1));
-    let m = ast::wide(head_word(head, 2));
-    if !read_part(input, &mut image, a) {
-        return false;
-    }
-    if !read_part(input, &mut name, b) {
-        return false;
-    }
-    if !read_part(input, &mut table, 4 * n) {
-        return false;
-    }
-    if !read_part(input, &mut rows, 4 * m) {
-        return false;
-    }
-    if !read_part(input, &mut list, 4 * m) {
-        return false;
-    }
-    if !read_part(input, &mut sorted, 4 * m) {
-        return false;
-    }
-    calls_on(head, &image, &name, &table, &rows, &list, &sorted)
-}
-
-// The image and the name cut to the lengths that the record says.
-fn calls_on(
-    head: &[u8; 88],
-    image: &[u8],
-    name: &[u8],
-    after: &[u8],
-    rows: &[u8],
-    list: &[u8],
-    sorted: &[u8],
-) -> bool {
-    let a = ast::wide(head_word(head, 0));
-    let b = ast::wide(head_word(head, 5));
-    if image.len() < a {
-        return false;
-    }
-    if name.len() < b {
-        return false;
-    }
-    calls(head, &image[..a], &name[..b], after, rows, list, sorted)
-}
-
-fn say<R: Print>(rt: &R, number: u64, text: &str) -> io::Result<()> {
-    println!(rt; "{number}{text}")
-}
-
-// Replays the next record; false where there is none.
-fn next_record<R: Read, P: Print>(rt: &P, input: &mut R, number: u64) -> io::Result<bool> {
-    let mut head = [0u8; 88];
-    if input.read_exact(&mut head).is_err() {
-        return Ok(false);
-    }
-    if !is_as_recorded(input, &head) {
-        say(rt, number, " differs")?;
-    }
-    Ok(true)
+    Ok(MOST_RECORDS)
 }
 
 fn main(rt: HostRuntime) -> io::Result<()> {
-    let mut input = rt.stdin();
-    let mut done = 0u64;
-    while done < 1000000 && next_record(&rt, &mut input, done)? {
-        done += 1;
-    }
-    say(&rt, done, " records replayed")
+    let mut input = BufReader::new(rt.alloc(), rt.stdin())?;
+    let count = replay(&rt, &mut input)?;
+    println!(rt; "{count} records replayed")
 }

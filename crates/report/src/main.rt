@@ -20,51 +20,44 @@ fn at_end<R: Read>(input: &mut R) -> bool
     ensures { result ≡ true → IsAtEnd (R.remaining input.old) }
 {
     let mut more = [0u8; 1];
-    match input.read(&mut more) {
-        Ok(n) => n == 0,
-        Err(_) => false,
-    }
+    matches!(input.read(&mut more), Ok(0))
 }
 
-// Reads the input, or as much of it as the buffer holds: how many bytes that are. None where a read fails.
-fn read_front<R: Read>(input: &mut R, buffer: &mut [u8]) -> Option<usize>
-    ensures in_bounds { IfSome result (λ n. n ≤ length buffer.new) }
-    ensures bytes { IfSome result (λ n. IfSome (R.remaining input.old) (λ xs. take n buffer.new ≡ take (length buffer.new) xs)) }
+// Reads the input, or as much of it as the buffer holds: the bytes that were read. None where a read fails.
+fn read_front<'a, R: Read>(input: &mut R, buffer: &'a mut [u8]) -> Option<&'a [u8]>
+    ensures in_bounds { IfSome result (λ front. length front.now ≤ length buffer.old) }
+    ensures bytes { IfSome result (λ front. IfSome (R.remaining input.old) (λ xs. front.now ≡ take (length buffer.old) xs)) }
 {
     let got = read_full(input, buffer);
-    if got < buffer.len() {
-        if !at_end(input) {
-            return None;
-        }
+    if got < buffer.len() && !at_end(input) {
+        return None;
     }
-    Some(got)
+    Some(&buffer[..got])
 }
 
 // Prints the report of an image.
 fn print_report<W: Write>(image: &[u8], to: &mut W) -> io::Result<()>
     ensures { OnOk result (Appends (W.contents to.old) (W.contents to.new) (report_bytes image.now)) }
 {
+    // fixed memory, as the report takes no heap: so the size stands beside it
     let mut out = [0u8; lines::LONGEST];
     let size = lines::report(image, &mut out);
     to.write_all(&out[..size])
 }
 
-// Prints the report of the whole input, or `unread` where a read fails; whether it was the report.
+// Prints the report of the whole input, or `unread` where a read fails; whether it was the report, by which the clauses tell the two.
 fn run<R: Read, W: Write>(input: &mut R, to: &mut W) -> io::Result<bool>
     ensures whole { IfOk result (λ whole. whole ≡ true → IfSome (R.remaining input.old) (λ xs. Appends (W.contents to.old) (W.contents to.new) (report_bytes xs))) }
     ensures unread { IfOk result (λ whole. whole ≡ false → Appends (W.contents to.old) (W.contents to.new) unread_line) }
 {
+    // fixed memory: the report takes no heap
     let mut buffer = [0u8; TOO_MANY];
-    match read_front(input, &mut buffer) {
-        Some(got) => {
-            print_report(&buffer[..got], to)?;
-            Ok(true)
-        }
-        None => {
-            to.write_all(b"unread\n")?;
-            Ok(false)
-        }
-    }
+    let Some(image) = read_front(input, &mut buffer) else {
+        to.write_all(b"unread\n")?;
+        return Ok(false);
+    };
+    print_report(image, to)?;
+    Ok(true)
 }
 
 fn main(rt: HostRuntime) -> io::Result<()> {

@@ -1,13 +1,13 @@
 -- Laws of appended rows: none, one, some after others, and the whole.
 use mathlib.Core.Path.{◌≡◌, refl, sym, ap, ap₂, subst, ◌∙◌}
 use mathlib.Core.List.{List, [], ◌∷◌, ◌++◌, append_assoc, append-nil}
-use Prim.Native.Nat.{ℕ, zero, suc, ◌+◌, ◌*◌, ◌-◌, ◌<◌, ◌≤◌}
+use Prim.Native.Nat.{ℕ, zero, suc, ◌+◌, ◌*◌, ◌-◌, ◌≤◌}
 use native.Mathlib.Nat.{add-zero}
 use native.Mathlib.Omega.{arith}
 use lib.ListN.{length, set, drop, replicate, length-append, length-replicate, length-drop, length-set, replicate-append-replicate}
 use lib.Seq.{drop_at}
-use borrow.Author.Fill.{fill_none, fill_more}
-use Rattle.rows.specs.Rows.{Row, lefts, rights, rows_length, filled, written, cleared, put_rows, Appended, Wrote}
+use Rattle.rows.specs.declared.Rows.{Rows}
+use Rattle.rows.specs.Rows.{Row, lefts, rights, rows_length, filled, written, cleared, put_rows, Appended, Appends, Starts, Ends, Wrote}
 
 pub lefts-length : (l : List Row) → length (lefts l) ≡ length l
 unfolding lefts
@@ -35,15 +35,6 @@ appended-next {N} {c} {r} {q} {l} {k} {ws} {vs} {us} f g =
       count = (let a = f.count in let b = g.count in let h = length-append l k in omega arith);
       words = g.words ∙ ap₂ (λ (d : ℕ) (z : List ℕ). put_rows N d k z) f.count f.words ∙ sym (put-append N c l k ws);
     }
-
-pub clear_none : (ws : List ℕ) → ws ≡ cleared 0 ws
-unfolding cleared
-clear_none ws = fill_none ws 0
-
--- one word more cleared
-pub clear_next : (n : ℕ) (ws : List ℕ) → n < length ws → set (cleared n ws) n 0 ≡ cleared (n + 1) ws
-unfolding cleared
-clear_next n ws h = fill_more n 0 ws h
 
 pub clear-length : (n : ℕ) (ws : List ℕ) → n ≤ length ws → length (cleared n ws) ≡ length ws
 unfolding cleared
@@ -132,14 +123,16 @@ written_is N l old k = sym (ap (λ (ws : List ℕ). set (put_rows N 0 l ws) 0 (l
         ∙ ap (λ (ws : List ℕ). length l ∷ ws) (simp append_assoc)
 
 -- so a call writes its rows, of an image of n nodes: words cleared, the rows put in, the count in front
-pub wrote : {N n r k : ℕ} {l : List Row} {old us vs ws : List ℕ} → length l ≤ N → n ≡ N → us ≡ cleared (rows_length n) old → Appended N l 0 us r vs → (k ≡ r) × (ws ≡ set vs 0 r) → Wrote N l old k ws
-wrote {N} {n} {r} {k} {l} {old} few same begins puts ends =
-    let c : r ≡ length l = (let z = puts.count in omega arith) in
+pub wrote : {N n name k : ℕ} {l : List Row} {old ws : List ℕ} {start end : Rows} → length l ≤ N → n ≡ N → Starts name n (cleared (rows_length n) old) start → Appends l start end → Ends end k ws
+    → Wrote N l old k ws
+wrote {N} {n} {l = l} {old} {start = start} {end} few same begins puts ends =
+    let z : end.count ≡ length l = (let a = puts.appended.count in let b = begins.count in omega arith) in
     record {
-      count = ends.0 ∙ c;
+      count = ends.count ∙ z;
       words =
-          ends.1
-          ∙ ap₂ (λ (xs : List ℕ) (x : ℕ). set xs 0 x) (puts.words ∙ ap (put_rows N 0 l) (begins ∙ ap (λ (m : ℕ). cleared (rows_length m) old) same)) c
+          ends.words
+          ∙ ap₂ (λ (xs : List ℕ) (x : ℕ). set xs 0 x)
+          (puts.appended.words ∙ ap₂ (λ (m c : ℕ). put_rows m c l start.words.now) (begins.nodes ∙ same) begins.count ∙ ap (put_rows N 0 l) (begins.words ∙ ap (λ (m : ℕ). cleared (rows_length m) old) same)) z
           ∙ sym (written_is N l old few);
     }
 

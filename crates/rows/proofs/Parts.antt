@@ -1,45 +1,55 @@
 -- Rows that are appended part by part: what is left to append, and that the whole follows from it.
-use mathlib.Core.Path.{◌≡◌, refl, sym, subst, ◌∙◌}
+use mathlib.Core.Path.{◌≡◌, refl, sym, subst, ◌∙◌, ap}
 use mathlib.Core.List.{List, [], ◌++◌}
 use Prim.Native.Nat.{ℕ, ◌+◌, ◌<◌, ◌^◌}
 use native.Mathlib.Omega.{arith}
 use lib.ListN.{length, length-append}
-use Rattle.rows.specs.Rows.{Row, Appended}
-use Rattle.rows.proofs.Appends.{appended-none, appended-next}
+use Rattle.rows.specs.declared.Rows.{Rows}
+use Rattle.rows.specs.Rows.{Row, Appended, Appends}
+use Rattle.rows.proofs.Appends.{appended-none, appended-next, put-length}
 
--- equal rows are appended alike, and so are rows for equal numbers of nodes
-pub appended-as : {N c r : ℕ} {l k : List Row} {ws vs : List ℕ} → l ≡ k → Appended N l c ws r vs → Appended N k c ws r vs
-appended-as {N} {c} {r} {ws = ws} {vs} e h = subst (λ (l : List Row). Appended N l c ws r vs) e h
+pub appends-none : (rows : Rows) → Appends [] rows rows
+appends-none rows = record { appended = appended-none rows.nodes rows.count rows.words.now; nodes = refl; lent = refl }
 
-pub appended-at : {N M c r : ℕ} {l : List Row} {ws vs : List ℕ} → N ≡ M → Appended N l c ws r vs → Appended M l c ws r vs
-appended-at {c = c} {r} {l} {ws} {vs} e h = subst (λ (n : ℕ). Appended n l c ws r vs) e h
+-- equal rows are appended alike
+pub appends-as : {l k : List Row} {a b : Rows} → l ≡ k → Appends l a b → Appends k a b
+appends-as {a = a} {b} e h = subst (λ (l : List Row). Appends l a b) e h
 
-pub appended-no : {N : ℕ} {l : List Row} (c : ℕ) (ws : List ℕ) → l ≡ [] → Appended N l c ws c ws
-appended-no {N} c ws e = appended-as (sym e) (appended-none N c ws)
+pub appends-no : {l : List Row} (rows : Rows) → l ≡ [] → Appends l rows rows
+appends-no rows e = appends-as (sym e) (appends-none rows)
 
--- from the count c and the words ws a loop came to r and vs; the rows `rest` are left, and with them the whole is appended
-pub record Left (N : ℕ) (whole rest : List Row) (c : ℕ) (ws : List ℕ) (r : ℕ) (vs : List ℕ) : Type 0 where
-  pub long : length vs ≡ length ws
-  pub fits : r + length rest < 2 ^ 32
-  pub so : (q : ℕ) (us : List ℕ) → Appended N rest r vs q us → Appended N whole c ws q us
+-- some after others
+pub appends-next : {l k : List Row} {a b c : Rows} → Appends l a b → Appends k b c → Appends (l ++ k) a c
+appends-next {l} {k} {a} {b} {c} f g =
+    record {
+      appended = appended-next f.appended (subst (λ (n : ℕ). Appended n k b.count b.words.now c.count c.words.now) f.nodes g.appended);
+      nodes = g.nodes ∙ f.nodes;
+      lent = g.lent ∙ f.lent;
+    }
 
-pub left-start : {N : ℕ} {whole rest : List Row} (c : ℕ) (ws : List ℕ) → whole ≡ rest → c + length whole < 2 ^ 32 → Left N whole rest c ws c ws
-left-start {N} {whole} c ws e h =
-    subst (λ (l : List Row). Left N whole l c ws c ws) e (record { long = refl; fits = h; so = λ q us g. g })
+pub appends-long : {l : List Row} {a b : Rows} → Appends l a b → length b.words.now ≡ length a.words.now
+appends-long {l} {a} h = ap length h.appended.words ∙ put-length a.nodes a.count l a.words.now
+
+-- a loop came from `start` to `now`; the rows `rest` are left, and with them the whole is appended
+pub record Left (whole rest : List Row) (start now : Rows) : Type 0 where
+  pub fits : now.count + length rest < 2 ^ 32
+  pub so : (end : Rows) → Appends rest now end → Appends whole start end
+
+pub left-start : {whole rest : List Row} (rows : Rows) → whole ≡ rest → rows.count + length whole < 2 ^ 32 → Left whole rest rows rows
+left-start {whole} rows e h =
+    subst (λ (l : List Row). Left whole l rows rows) e (record { fits = h; so = λ end g. g })
 
 -- one part more
-pub left-next : {N : ℕ} {whole rest l more : List Row} {c r q : ℕ} {ws vs us : List ℕ} → Left N whole rest c ws r vs → rest ≡ l ++ more → Appended N l r vs q us → length us ≡ length vs
-    → Left N whole more c ws q us
-left-next {l = l} {more} {r = r} h e g k =
+pub left-next : {whole rest l more : List Row} {start now next : Rows} → Left whole rest start now → rest ≡ l ++ more → Appends l now next → Left whole more start next
+left-next {l = l} {more} {now = now} h e g =
     record {
-      long = k ∙ h.long;
-      fits = (let a = subst (λ (m : List Row). r + length m < 2 ^ 32) e h.fits in let b = length-append l more in let d = g.count in omega arith);
-      so = λ p xs f. h.so p xs (appended-as (sym e) (appended-next g f));
+      fits = (let a = subst (λ (m : List Row). now.count + length m < 2 ^ 32) e h.fits in let b = length-append l more in let d = g.appended.count in omega arith);
+      so = λ end f. h.so end (appends-as (sym e) (appends-next g f));
     }
 
 -- room for a part
-pub left-room : {N : ℕ} {whole rest : List Row} {c r : ℕ} {ws vs : List ℕ} (l more : List Row) → Left N whole rest c ws r vs → rest ≡ l ++ more → r + length l < 2 ^ 32
-left-room {r = r} l more h e = let a = subst (λ (m : List Row). r + length m < 2 ^ 32) e h.fits in let b = length-append l more in omega arith
+pub left-room : {whole rest : List Row} {start now : Rows} (l more : List Row) → Left whole rest start now → rest ≡ l ++ more → now.count + length l < 2 ^ 32
+left-room {now = now} l more h e = let a = subst (λ (m : List Row). now.count + length m < 2 ^ 32) e h.fits in let b = length-append l more in omega arith
 
-pub left_end : {N : ℕ} {whole rest : List Row} {c r : ℕ} {ws vs : List ℕ} → Left N whole rest c ws r vs → rest ≡ [] → Appended N whole c ws r vs
-left_end {r = r} {vs = vs} h e = h.so r vs (appended-no r vs e)
+pub left_end : {whole rest : List Row} {start now : Rows} → Left whole rest start now → rest ≡ [] → Appends whole start now
+left_end {now = now} h e = h.so now (appends-no now e)

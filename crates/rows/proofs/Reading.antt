@@ -6,7 +6,9 @@ use native.Mathlib.Nat.{sub-zero}
 use native.Mathlib.Omega.{arith}
 use lib.ListN.{length, get_or, set, length-set}
 use lib.Seq.{get_or-set_same, get_or-set_other}
-use Rattle.rows.specs.Rows.{Row, row, rows_length, written, put_rows, Appended, read_rows, held}
+use Rattle.rows.specs.declared.Rows.{Rows}
+use Rattle.rows.specs.declared.Written.{Written}
+use Rattle.rows.specs.Rows.{Row, row, rows_length, written, put_rows, Appends, read_rows, held, Shows, shown}
 use Rattle.rows.proofs.Appends.{clear-long, written_is}
 
 -- a place that no row takes
@@ -43,9 +45,13 @@ read_back N c (w ∷ l) ws f g =
         put_keeps N (c + 1) l us (1 + N + c) (λ d a b. (λ q. omega arith, λ q. omega arith))
         ∙ get_or-set_same vs (1 + N + c) w.right 0 (let a = length-set ws (1 + c) w.left in omega arith)
 
-pub read-appended : {N r : ℕ} {l : List Row} {ws vs : List ℕ} → Appended N l 0 ws r vs → length l ≤ N → rows_length N ≤ length ws → read_rows N vs r 0 ≡ l
-read-appended {N} {r} {l} {ws} {vs} a f g =
-    ap₂ (λ (us : List ℕ) (c : ℕ). read_rows N us c 0) a.words (a.count ∙ (let z : 0 + length l ≡ length l = omega arith in z)) ∙ read_back N 0 l ws (omega arith) g
+-- rows that were appended to none are the rows that are read
+pub shown-appends : {l : List Row} {start end : Rows} {w : Written} → start.count ≡ 0 → Appends l start end → Shows end w → length l ≤ start.nodes → rows_length start.nodes ≤ length start.words.now
+    → shown w ≡ l
+shown-appends {l} {start} {end} {w} e a s f g =
+    ap₂ (λ (n : ℕ) (us : List ℕ). read_rows n us w.count 0) (s.nodes ∙ a.nodes) (s.words ∙ a.appended.words ∙ ap (λ (c : ℕ). put_rows start.nodes c l start.words.now) e)
+    ∙ ap (λ (c : ℕ). read_rows start.nodes (put_rows start.nodes 0 l start.words.now) c 0) (s.count ∙ a.appended.count ∙ (let z : start.count + length l ≡ length l = omega arith in z))
+    ∙ read_back start.nodes 0 l start.words.now (omega arith) g
 
 pub read_length : (N : ℕ) (ws : List ℕ) (c i : ℕ) → length (read_rows N ws c i) ≡ c
 unfolding read_rows

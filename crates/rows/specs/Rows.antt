@@ -1,5 +1,7 @@
 -- The rows of Errors and of Occurrences: a count, then two parallel arrays of N words.
 use Rattle.std.specs.Prelude.{◌≡◌, Bool, true, false, List, [], ◌∷◌, ◌++◌, ℕ, zero, suc, ◌+◌, ◌*◌, ◌-◌, length, get_or, set, drop, replicate}
+use Rattle.rows.specs.declared.Rows.{Rows}
+use Rattle.rows.specs.declared.Written.{Written}
 
 -- an error number and its node, or an occurrence's node and its binding
 pub record Row : Type 0 where
@@ -49,7 +51,25 @@ pub record Appended (N : ℕ) (l : List Row) (c : ℕ) (ws : List ℕ) (r : ℕ)
   pub count : r ≡ c + length l
   pub words : vs ≡ put_rows N c l ws
 
--- what a call does to them: the rows l are written, and their count is handed back
+-- the same of the code's rows, which stay in the words that were lent
+pub record Appends (l : List Row) (old new : Rows) : Type 0 where
+  pub appended : Appended old.nodes l old.count old.words.now new.count new.words.now
+  pub nodes : new.nodes ≡ old.nodes
+  pub lent : new.words.ghost_name ≡ old.words.ghost_name
+
+-- where they start: none, of an image of N nodes, in the lent words of that name, which are ws
+pub record Starts (name N : ℕ) (ws : List ℕ) (rows : Rows) : Type 0 where
+  pub words : rows.words.now ≡ ws
+  pub nodes : rows.nodes ≡ N
+  pub count : rows.count ≡ 0
+  pub lent : rows.words.ghost_name ≡ name
+
+-- where they end: their count is handed back, and stands in front in the words ws that they leave
+pub record Ends (rows : Rows) (r : ℕ) (ws : List ℕ) : Type 0 where
+  pub count : r ≡ rows.count
+  pub words : ws ≡ set rows.words.now 0 rows.count
+
+-- what a call does to lent words: the rows l are written, and their count is handed back
 pub record Wrote (N : ℕ) (l : List Row) (old : List ℕ) (r : ℕ) (new : List ℕ) : Type 0 where
   pub count : r ≡ length l
   pub words : new ≡ written N l old
@@ -62,3 +82,13 @@ read_rows N ws (suc c) i = row (get_or ws (1 + i) 0) (get_or ws (1 + N + i) 0) �
 -- the rows that lent words hold: as many as the count in front says
 abbrev pub held : ℕ → List ℕ → List Row
 held N ws = read_rows N ws (get_or ws 0 0) 0
+
+-- what is read is the rows so far
+pub record Shows (rows : Rows) (w : Written) : Type 0 where
+  pub words : w.words.now ≡ rows.words.now
+  pub nodes : w.nodes ≡ rows.nodes
+  pub count : w.count ≡ rows.count
+
+-- the rows that are read
+abbrev pub shown : Written → List Row
+shown w = read_rows w.nodes w.words.now w.count 0

@@ -1,63 +1,107 @@
-// Rows that a check appends to lent words: a count, then two parallel arrays of N words.
+// Rows that a check appends to lent words: a count, then two parallel arrays of N words. Nothing prints or compares them, so they
+// derive no more than they need.
 #![tactic(auto)]
 
 ghost use Rattle.std.specs.Prelude.{◌≡◌, [], ◌∷◌, ◌+◌, ◌<◌, ◌≤◌, ◌^◌, length, get_or, set};
-ghost use Rattle.rows.specs.Rows.{row, rows_length, cleared, Appended};
+ghost use Rattle.rows.specs.Rows.{row, rows_length, cleared, Appends, Starts, Ends, Shows};
 
 // The first n words set to 0.
 pub fn clear(words: &mut [u32], n: usize)
     requires { n ≤ length words.old }
     ensures { words.new ≡ cleared n words.old }
 {
-    let mut i = 0;
-    while i < n {
-        words[i] = 0;
-        i += 1;
-    }
+    words[..n].fill(0);
 }
 
 // How many words the rows of an image of n nodes need.
 pub fn words_for(n: u32) -> usize
     ensures { result ≡ rows_length n }
 {
-    1 + 2 * ast::wide(n)
+    1 + 2 * n as usize
 }
 
-// Before the first row of an image of n nodes: all its words 0.
-pub fn begin(rows: &mut [u32], n: u32)
-    requires { rows_length n ≤ length rows.old }
-    ensures { rows.new ≡ cleared (rows_length n) rows.old }
-{
-    clear(rows, words_for(n));
+// Rows that a check appends to lent words: of an image of `nodes` nodes, `count` so far. A count and two arrays of words, since C
+// lends them so.
+#[derive(Drop)]
+pub struct Rows<'a> {
+    pub words: &'a mut [u32],
+    pub nodes: u32,
+    pub count: u32,
 }
 
-// After the last row: the count in front, which is handed back.
-pub fn finish(rows: &mut [u32], count: u32) -> u32
-    ensures { (result ≡ count) × (rows.new ≡ set rows.old 0 count) }
-{
-    table::put(rows, 0, count);
-    count
+impl<'a> Rows<'a> {
+    // No row yet, in words as they are.
+    pub fn empty(words: &'a mut [u32], nodes: u32) -> Rows<'a>
+        ensures { Starts words.entry.ghost_name nodes words.old result }
+    {
+        Rows {
+            words,
+            nodes,
+            count: 0,
+        }
+    }
+
+    // Before the first row: all words of the rows 0.
+    pub fn begin(words: &'a mut [u32], nodes: u32) -> Rows<'a>
+        requires { rows_length nodes ≤ length words.old }
+        ensures { Starts words.entry.ghost_name nodes (cleared (rows_length nodes) words.old) result }
+    {
+        clear(words, words_for(nodes));
+        Rows::empty(words, nodes)
+    }
+
+    // One row more.
+    pub fn put(&mut self, left: u32, right: u32)
+        requires { self.old.count + 1 < 2 ^ 32 }
+        ensures { Appends (row left right ∷ []) self.old self.new }
+    {
+        let count = self.count as usize;
+        table::put(self.words, 1 + count, left);
+        table::put(self.words, 1 + self.nodes as usize + count, right);
+        self.count += 1;
+    }
+
+    // After the last row: the count in front, which is handed back.
+    pub fn finish(self) -> u32
+        ensures { Ends self.entry result self.exit.0.now }
+    {
+        let Rows { words, count, .. } = self;
+        table::put(words, 0, count);
+        count
+    }
+
+    // The rows so far, to be read.
+    pub fn written(&self) -> Written<'_>
+        ensures { Shows self.entry.now result }
+    {
+        Written {
+            words: self.words,
+            nodes: self.nodes,
+            count: self.count,
+        }
+    }
 }
 
-// One row more after the first `count`, of an image of n nodes.
-pub fn put_row(rows: &mut [u32], n: u32, count: u32, left: u32, right: u32) -> u32
-    requires { count + 1 < 2 ^ 32 }
-    ensures { Appended n (row left right ∷ []) count rows.old result rows.new }
-{
-    table::put(rows, 1 + ast::wide(count), left);
-    table::put(rows, 1 + ast::wide(n) + ast::wide(count), right);
-    count + 1
+// Rows that words hold, to be read: `count` of them, of an image of `nodes` nodes.
+#[derive(Clone, Copy, Drop)]
+pub struct Written<'a> {
+    pub words: &'a [u32],
+    pub nodes: u32,
+    pub count: u32,
 }
 
-// The two words of row i, of an image of n nodes.
-pub fn left_at(rows: &[u32], i: u32) -> u32
-    ensures { result ≡ get_or rows.now (1 + i) 0 }
-{
-    table::get(rows, 1 + ast::wide(i))
-}
+impl<'a> Written<'a> {
+    // The first word of row i.
+    pub fn left(self, i: u32) -> u32
+        ensures { result ≡ get_or self.entry.words.now (1 + i) 0 }
+    {
+        table::get(self.words, 1 + i as usize)
+    }
 
-pub fn right_at(rows: &[u32], n: u32, i: u32) -> u32
-    ensures { result ≡ get_or rows.now (1 + n + i) 0 }
-{
-    table::get(rows, 1 + ast::wide(n) + ast::wide(i))
+    // Its second word.
+    pub fn right(self, i: u32) -> u32
+        ensures { result ≡ get_or self.entry.words.now (1 + self.entry.nodes + i) 0 }
+    {
+        table::get(self.words, 1 + self.nodes as usize + i as usize)
+    }
 }

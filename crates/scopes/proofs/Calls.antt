@@ -7,23 +7,25 @@ use native.Mathlib.Omega.{arith}
 use lib.Dec.{leb→le}
 use lib.ListN.{length}
 use borrow.Author.Tests.{le-leb, lt-leb}
+use Rattle.std.specs.Prelude.{Result, Ok, Err, IsErrAnd}
+use Rattle.error.specs.Refusals.{ByRefusal, ByTwice}
+use Rattle.error.specs.declared.Refusal.{Refusal}
+use Rattle.error.specs.declared.Unresolved.{Unresolved}
+use Rattle.error.specs.declared.Unresolved.TheVariants.{Refused, Twice}
+use Rattle.error.specs.declared.SymbolDeclaredTwice.{SymbolDeclaredTwice}
 use Rattle.ast.specs.Answer.{Answer, refused, twice as twice_answer, result}
 use Rattle.ast.specs.Image.{nodes}
 use Rattle.ast.specs.Tests.{need}
-use Rattle.ast.specs.declared.NodeId.{NodeId}
 use Rattle.ast.proofs.Accepted.{both, skip, stop, needed}
 use Rattle.table.specs.State.{Walked}
 use Rattle.table.specs.Table.{Table}
-use Rattle.table.specs.Values.{table_of}
-use Rattle.table.specs.declared.Walked.{Walked as InCode}
 use Rattle.rows.specs.Rows.{Row, rows_length, written, Wrote, held}
 use Rattle.rows.proofs.Reading.{held-written}
 use Rattle.scopes.specs.Walk.{Listed, done, twice}
 use Rattle.scopes.specs.Resolve.{test_table, zeroed, walked, headed, counted, Way, refuses, stops, fills, way_of, way, answer_by, table_by, table_call}
 use Rattle.scopes.specs.Calls.{test_rows, RowsOutcome, rows_by, rows_call}
-use Rattle.scopes.specs.Answers.{declared_way, Resolves}
-use Rattle.scopes.specs.declared.Declared.{Declared}
-use Rattle.scopes.specs.declared.Declared.TheVariants.{Done, Twice}
+use Rattle.scopes.specs.Answers.{table_of, resolved_way, Resolves}
+use Rattle.scopes.specs.declared.Resolved.{Resolved}
 
 -- 1 to 14 -------------------------------------------------------------------------------------------------------------
 module _ (img tab rows : List ℕ) where
@@ -81,11 +83,11 @@ module _ (img tab : List ℕ) where
       way_fills h = ap (way img tab) passes ∙ ap (way_of img) h
 
       -- by what resolving hands back
-      way_by : {d : Declared} {ws : List ℕ} → Resolves img tab d ws → {g : Declared} → d ≡ g → way img tab r ≡ declared_way g ws
-      way_by {d} {ws} h q = ap (way img tab) passes ∙ sym h.way_is ∙ ap (λ (x : Declared). declared_way x ws) q
+      way_by : {d : Result Resolved SymbolDeclaredTwice} {ws : List ℕ} → Resolves img tab d ws → {g : Result Resolved SymbolDeclaredTwice} → d ≡ g → way img tab r ≡ resolved_way g ws
+      way_by {d} {ws} h q = ap (way img tab) passes ∙ sym h.way_is ∙ ap (λ (x : Result Resolved SymbolDeclaredTwice). resolved_way x ws) q
 
-      table-by : {d : Declared} {ws : List ℕ} → Resolves img tab d ws → {g : Declared} → d ≡ g → table_by img tab (declared_way g ws) ≡ ws
-      table-by {d} {ws} h q = ap (λ (x : Declared). table_by img tab (declared_way x ws)) (sym q) ∙ ap (table_by img tab) h.way_is ∙ sym h.table_is
+      table-by : {d : Result Resolved SymbolDeclaredTwice} {ws : List ℕ} → Resolves img tab d ws → {g : Result Resolved SymbolDeclaredTwice} → d ≡ g → table_by img tab (resolved_way g ws) ≡ ws
+      table-by {d} {ws} h q = ap (λ (x : Result Resolved SymbolDeclaredTwice). table_by img tab (resolved_way x ws)) (sym q) ∙ ap (table_by img tab) h.way_is ∙ sym h.table_is
 
 -- a call that is lent a table -------------------------------------------------------------------------------------------
 module _ (img tab : List ℕ) {r : ℕ} (f : Table → Answer) where
@@ -93,18 +95,18 @@ module _ (img tab : List ℕ) {r : ℕ} (f : Table → Answer) where
   unfolding table_call answer_by table_by
   call-refused k q h = ap (λ (w : Way). record { answer = answer_by f w; table = table_by img tab w }) (way-refuses img tab k q h)
 
-  module _ (passes : r ≡ 0) {d : Declared} {ws : List ℕ} (h : Resolves img tab d ws) where
-    call_by : {g : Declared} → d ≡ g → table_call img tab r f ≡ record { answer = answer_by f (declared_way g ws); table = ws }
+  module _ (passes : r ≡ 0) {d : Result Resolved SymbolDeclaredTwice} {ws : List ℕ} (h : Resolves img tab d ws) where
+    call_by : {g : Result Resolved SymbolDeclaredTwice} → d ≡ g → table_call img tab r f ≡ record { answer = answer_by f (resolved_way g ws); table = ws }
     unfolding table_call
     call_by {g} q =
         ap (λ (w : Way). record { answer = answer_by f w; table = table_by img tab w }) (way_by img tab passes h q)
-        ∙ ap (λ (us : List ℕ). record { answer = answer_by f (declared_way g ws); table = us }) (table-by img tab passes h q)
+        ∙ ap (λ (us : List ℕ). record { answer = answer_by f (resolved_way g ws); table = us }) (table-by img tab passes h q)
 
-    pub call-stopped : {x : ℕ} {a b : NodeId} → d ≡ Twice x a b → table_call img tab r f ≡ record { answer = twice_answer x a.0 b.0; table = ws }
+    pub call-stopped : {t : SymbolDeclaredTwice} → d ≡ Err t → table_call img tab r f ≡ record { answer = twice_answer t.name t.first.0 t.second.0; table = ws }
     unfolding answer_by
     call-stopped q = call_by q
 
-    pub call-filled : {w : InCode} → d ≡ Done w → table_call img tab r f ≡ record { answer = f (table_of w ws); table = ws }
+    pub call-filled : {w : Resolved} → d ≡ Ok w → table_call img tab r f ≡ record { answer = f (table_of w ws); table = ws }
     unfolding answer_by
     call-filled q = call_by q
 
@@ -142,16 +144,26 @@ module _ (img tab rows : List ℕ) (f : Table → List Row) where
       rowed-count h few = ap (λ (o : RowsOutcome). o.answer) (rowed-done h) ∙ ap (λ (l : List Row). result 0 (length l)) (sym (rowed-held h few))
 
       -- by what resolving hands back, as the code has it
-      module _ {d : Declared} {ws : List ℕ} (h : Resolves img tab d ws) where
-        pub rowed-stopped : {x : ℕ} {a b : NodeId} → d ≡ Twice x a b → rows_call img tab rows r f ≡ record { answer = twice_answer x a.0 b.0; table = ws; rows = rows }
+      module _ {d : Result Resolved SymbolDeclaredTwice} {ws : List ℕ} (h : Resolves img tab d ws) where
+        pub rowed-stopped : {t : SymbolDeclaredTwice} → d ≡ Err t → rows_call img tab rows r f ≡ record { answer = twice_answer t.name t.first.0 t.second.0; table = ws; rows = rows }
         unfolding rows_call answer_by rows_by
-        rowed-stopped {x} {a} {b} q =
+        rowed-stopped {t} q =
             ap leaving (way_by img tab passes h q)
-            ∙ ap (λ (us : List ℕ). record { answer = twice_answer x a.0 b.0; table = us; rows = rows }) (table-by img tab passes h q)
+            ∙ ap (λ (us : List ℕ). record { answer = twice_answer t.name t.first.0 t.second.0; table = us; rows = rows }) (table-by img tab passes h q)
 
-        pub rowed-filled : {w : InCode} {k : ℕ} {vs : List ℕ} → d ≡ Done w → Wrote (nodes img) (f (table_of w ws)) rows k vs
+        pub rowed-filled : {w : Resolved} {k : ℕ} {vs : List ℕ} → d ≡ Ok w → Wrote (nodes img) (f (table_of w ws)) rows k vs
             → rows_call img tab rows r f ≡ record { answer = result 0 k; table = ws; rows = vs }
         unfolding rows_call answer_by table_by rows_by
         rowed-filled {w} q g =
             ap leaving (way_by img tab passes h q)
             ∙ ap₂ (λ (n : ℕ) (us : List ℕ). record { answer = result 0 n; table = ws; rows = us }) (sym g.count) (sym g.words)
+
+-- what `?` hands back ---------------------------------------------------------------------------------------------------
+module _ {A : Type 0} where
+  pub refused-is : (r : Result A Unresolved) (e : Refusal) → IsErrAnd r (ByRefusal e) → r ≡ Err (Refused e)
+  refused-is (Ok a) e h = absurd h
+  refused-is (Err u) e h = ap Err h
+
+  pub stopped-is : (r : Result A Unresolved) (t : SymbolDeclaredTwice) → IsErrAnd r (ByTwice t) → r ≡ Err (Twice t)
+  stopped-is (Ok a) t h = absurd h
+  stopped-is (Err u) t h = ap Err h

@@ -9,6 +9,8 @@ use native.Mathlib.Nat.{sub-zero, add-zero}
 use lib.Dec.{T, eqb}
 use lib.ListN.{length, get_or, set, drop, length-append}
 use lib.Seq.{get_or-set_same}
+use Rattle.std.specs.Prelude.{Ok, Err, IsErrAnd}
+use Rattle.error.specs.declared.SymbolDeclaredTwice.{SymbolDeclaredTwice}
 use Rattle.ast.specs.Declarations.{rule_node, declared, declared_all}
 use Rattle.ast.specs.Image.{nodes, kind_at, field, name_of}
 use Rattle.ast.specs.Is.{Is, kind_by}
@@ -34,21 +36,16 @@ use Rattle.typed.proofs.Lists.{at-list}
 use Rattle.table.specs.Layout.{table_length}
 use Rattle.table.specs.State.{Walked, own_symbol, marked}
 use Rattle.table.specs.Table.{find, find_from, mark}
-use Rattle.table.specs.Values.{walked_of}
-use Rattle.table.specs.declared.Walked.{Walked as InCode}
-use Rattle.ast.specs.declared.NodeId.{NodeId}
 use Rattle.table.proofs.Kept.{past, mark-past, mark-length, symbol-past}
 use Rattle.environment.specs.Asked.{asked}
 use Rattle.environment.specs.Stands.{Opens, Named}
 use Rattle.environment.proofs.Asking.{loud_fields, quiet, quiet_at}
 use Rattle.environment.proofs.Laws.{opens-left}
 use Rattle.scopes.specs.Walk.{Listed, done, twice, recorded, enter_name, and_then, enter_names, mark_all, enter_all, visit}
-use Rattle.scopes.specs.Promises.{listed_of, enter, ent, ents, vis, rest_enter, Seen, Entering, Enters, EnterRun, Signature, Stamped}
-use Rattle.scopes.specs.declared.Declared.{Declared}
-use Rattle.scopes.specs.declared.Declared.TheVariants.{Done, Twice}
+use Rattle.scopes.specs.Promises.{Declared, listed_of, enter, ent, ents, vis, rest_enter, Seen, Entering, Entered, EnterRun, Signature, Stamped}
 use Rattle.scopes.proofs.Adds.{named, Went, done-same, twice-done, name_in, enter-in}
 use Rattle.scopes.proofs.Entering.{and-nothing, enter-first, enter-own}
-use Rattle.scopes.proofs.Stamps.{seen_none, seen-stamp, seen-symbol, seen-marked}
+use Rattle.scopes.proofs.Stamping.{seen_none, seen-stamp, seen-symbol, seen-marked}
 
 -- fields that start with a name that is no option
 plainly : List Field → Bool
@@ -101,22 +98,27 @@ every-signing : (k : ℕ) → k ≤ 40 → T (signing k (kind_of k))
 unfolding signing signs plainly kinds
 every-signing k l = every-kind signing tt k l
 
+-- what `?` hands back
+pub handed-on : (o : Declared) (t : SymbolDeclaredTwice) → IsErrAnd o (λ y. y ≡ t) → o ≡ Err t
+handed-on (Ok a) t h = absurd h
+handed-on (Err u) t h = ap Err h
+
 module _ (img : List ℕ) where
   -- before a call --------------------------------------------------------------------------------------------------------
   pub entering-less : {seen env : List ℕ} {a m : ℕ} {e : Walked} → a ≤ m → Entering img seen env m e → Entering img seen env a e
   entering-less h p = record { accepted = p.accepted; live = p.live; room = (let r = p.room in omega arith); long = p.long; stamps = p.stamps; opens = p.opens }
 
-  pub entering-marked : {seen env : List ℕ} {n m : ℕ} {e f : Walked} → f ≡ marked img n e.scope e → n < nodes img → asked img n ≡ nothing → Entering img seen env m e → Entering img seen env m f
+  pub entering-marked : {seen env new : List ℕ} {n m : ℕ} {e f : Walked} → f ≡ marked img n e.scope e → n < nodes img → asked img n ≡ nothing → new ≡ env → Entering img seen env m e → Entering img seen new m f
   unfolding marked mark
-  entering-marked {seen} {env} {n} {m} {e} {f} q l a p =
-      subst (Entering img seen env m) (sym q)
+  entering-marked {seen} {env} {new} {n} {m} {e} {f} q l a v p =
+      subst (Entering img seen new m) (sym q)
       (record {
         accepted = p.accepted;
         live = p.live;
         room = p.room;
         long = (let y = mark-length img n e.scope e.scope e.table in let z = p.long in omega arith);
         stamps = seen-marked img e.scope e l p.stamps;
-        opens = opens-left img e.scope l a refl p.opens;
+        opens = opens-left img e.scope l a refl v p.opens;
       })
 
   pub entering-next : {Q : Walked → Type 0} {seen vs env en : List ℕ} {a m : ℕ} {e f : Walked} → Entering img seen env (a + m) e → Went img Q 0 a e f → Seen img vs f → Opens img f en → Entering img vs en m f
@@ -130,18 +132,14 @@ module _ (img : List ℕ) where
         opens = o;
       }
 
-  -- a word has room for what is counted
-  pub few_words : {seen env : List ℕ} {m : ℕ} {e : Walked} → Entering img seen env m e → nodes img ≤ 2048
-  few_words p = (sized img p.accepted).few_nodes
-
   -- after a call ---------------------------------------------------------------------------------------------------------
   pub past-marked : (n cur : ℕ) (e : Walked) {f : Walked} → f ≡ marked img n cur e → n < nodes img → past img f.table ≡ past img e.table
   unfolding marked
   past-marked n cur e q l = ap (λ (g : Walked). past img g.table) q ∙ mark-past img n cur e.scope e.table l
 
   -- the same, told of another list and from an earlier table
-  pub enters-as : {l k : Listed} {us ws seen env vs : List ℕ} {r : Declared} → l ≡ k → drop (table_length (nodes img)) us ≡ drop (table_length (nodes img)) ws
-      → Enters img l us r seen env vs → Enters img k ws r seen env vs
+  pub enters-as : {l k : Listed} {us ws seen env : List ℕ} {g : Walked} {r : Declared} → l ≡ k → drop (table_length (nodes img)) us ≡ drop (table_length (nodes img)) ws
+      → Entered img l us r seen env g → Entered img k ws r seen env g
   enters-as q h p = record { same = p.same ∙ q; stamps = λ f d. p.stamps f (q ∙ d); opens = λ f d. p.opens f (q ∙ d); passed = p.passed ∙ h }
 
   -- a name, as its row has it ------------------------------------------------------------------------------------------------
@@ -224,43 +222,48 @@ module _ (img : List ℕ) where
     pub few : e.table.symbols < nodes img
     few = let z = p.room in omega arith
 
-    entered : {us en vs : List ℕ} (w : InCode) → find img e.table e.scope x ≡ nothing → (walked_of w vs ≡ own_symbol img n e) × Opens img (walked_of w vs) en
-        → Seen img us (own_symbol img n e) → Enters img (enter_name img n e) e.table.words (Done w) us en vs
+    entered : {us en : List ℕ} {g : Walked} → find img e.table e.scope x ≡ nothing → g ≡ own_symbol img n e → Opens img g en
+        → Seen img us (own_symbol img n e) → Entered img (enter_name img n e) e.table.words (Ok tt) us en g
     unfolding own_symbol
-    entered {us} {en} {vs} w h (q, o) s =
-        let g = enter-new n e x name-is.is (unfold find in sym h) in
+    entered {us} {en} h q o s =
+        let d = enter-new n e x name-is.is (unfold find in sym h) in
         record {
-          same = ap done q ∙ sym g;
-          stamps = λ f d. subst (Seen img us) (done-same (own_symbol img n e) f (sym g ∙ d)) s;
-          opens = λ f d. subst (λ (k : Walked). Opens img k en) (q ∙ done-same (own_symbol img n e) f (sym g ∙ d)) o;
+          same = ap done q ∙ sym d;
+          stamps = λ f t. subst (Seen img us) (done-same (own_symbol img n e) f (sym d ∙ t)) s;
+          opens = λ f t. subst (λ (k : Walked). Opens img k en) (q ∙ done-same (own_symbol img n e) f (sym d ∙ t)) o;
           passed = ap (λ (f : Walked). past img f.table) q ∙ symbol-past img e.scope n e.table few;
         }
 
     -- its stamp was not there
-    pub enters-new : {us en vs : List ℕ} {b : Bool} (w : InCode) → Stamped seen x e.scope b us → b ≡ true → (walked_of w vs ≡ own_symbol img n e) × Opens img (walked_of w vs) en
-        → Enters img (enter_name img n e) e.table.words (Done w) us en vs
-    enters-new {us} {en} {vs} {b} w t q h =
-        let (a, l, d) = t.new q in
-        entered w (free_new t q) h
+    pub enters-new : {us en : List ℕ} {b : Bool} {g : Walked} → Stamped seen x e.scope b us → b ≡ true → g ≡ own_symbol img n e → Opens img g en
+        → Entered img (enter_name img n e) e.table.words (Ok tt) us en g
+    enters-new {us} {en} {b} t q h o =
+        let (z, l, d) = t.new q in
+        entered (free_new t q) h o
         (subst (λ (vs : List ℕ). Seen img vs (own_symbol img n e)) (sym d)
         (seen-symbol img n e few p.long (λ k. ap (λ (y : ℕ). get_or (set seen x (suc e.scope)) y 0) (sym name-is.is) ∙ get_or-set_same seen x (suc e.scope) 0 l) (seen-stamp img x p.stamps)))
 
     -- it was there, but the scope does not have the name
-    pub enters-old : {us en vs : List ℕ} {b : Bool} (w : InCode) → Stamped seen x e.scope b us → b ≡ false
-        → nothing ≡ find_from img e.table.symbols e.table.words 0 e.scope x → (walked_of w vs ≡ own_symbol img n e) × Opens img (walked_of w vs) en
-        → Enters img (enter_name img n e) e.table.words (Done w) us en vs
-    enters-old {us} {en} {vs} {b} w t q o h =
-        let (a, d) = t.old q in
-        entered w (free-old o) h
+    pub enters-old : {us en : List ℕ} {b : Bool} {g : Walked} → Stamped seen x e.scope b us → b ≡ false
+        → nothing ≡ find_from img e.table.symbols e.table.words 0 e.scope x → g ≡ own_symbol img n e → Opens img g en
+        → Entered img (enter_name img n e) e.table.words (Ok tt) us en g
+    enters-old {us} {en} {b} t q z h o =
+        let (y, d) = t.old q in
+        entered (free-old z) h o
         (subst (λ (vs : List ℕ). Seen img vs (own_symbol img n e)) (sym d)
-        (seen-symbol img n e few p.long (λ k. ap (λ (y : ℕ). get_or seen y 0) (sym name-is.is) ∙ a (subst (λ (y : ℕ). y < length seen) (sym name-is.is) k)) p.stamps))
+        (seen-symbol img n e few p.long (λ k. ap (λ (m : ℕ). get_or seen m 0) (sym name-is.is) ∙ y) p.stamps))
 
     -- the scope has it
-    pub enters-twice : {us en : List ℕ} (a b : NodeId) → some a.0 ≡ find_from img e.table.symbols e.table.words 0 e.scope x → b.0 ≡ n
-        → Enters img (enter_name img n e) e.table.words (Twice x a b) us en e.table.words
-    enters-twice a b o q =
-        let g = enter-twice n e x a.0 name-is.is o in
-        record { same = ap (twice x a.0) q ∙ sym g; stamps = λ f d. absurd (twice-done x a.0 n f (sym g ∙ d)); opens = λ f d. absurd (twice-done x a.0 n f (sym g ∙ d)); passed = refl }
+    pub enters-twice : {us en : List ℕ} (t : SymbolDeclaredTwice) → t.name ≡ x → some t.first.0 ≡ find_from img e.table.symbols e.table.words 0 e.scope x → t.second.0 ≡ n
+        → Entered img (enter_name img n e) e.table.words (Err t) us en e
+    enters-twice t m o q =
+        let g = enter-twice n e x t.first.0 name-is.is o in
+        record {
+          same = ap (λ (y : ℕ). twice y t.first.0 t.second.0) m ∙ ap (twice x t.first.0) q ∙ sym g;
+          stamps = λ f d. absurd (twice-done x t.first.0 n f (sym g ∙ d));
+          opens = λ f d. absurd (twice-done x t.first.0 n f (sym g ∙ d));
+          passed = refl;
+        }
 
   -- what follows a name, or a declaration -----------------------------------------------------------------------------------
   pub and-done : (f : Walked) (g : Walked → Listed) (l : Listed) → l ≡ done f → and_then img l g ≡ g f
@@ -270,6 +273,24 @@ module _ (img : List ℕ) where
   pub and-stop : (x a b : ℕ) (g : Walked → Listed) (l : Listed) → l ≡ twice x a b → and_then img l g ≡ twice x a b
   unfolding and_then
   and-stop x a b g l h = ap (λ (m : Listed). and_then img m g) h
+
+  -- what is entered, where the code went on, and where it stopped
+  pub entered-as : {l : Listed} {ws us en : List ℕ} {g : Walked} {r : Declared} {a : Unit {0}} → r ≡ Ok a → Entered img l ws r us en g → l ≡ done g
+  entered-as {g = g} d h = sym h.same ∙ ap (λ (o : Declared). listed_of o g) d
+
+  pub stopped-as : {l : Listed} {ws us en : List ℕ} {g : Walked} {r : Declared} (t : SymbolDeclaredTwice) → r ≡ Err t → Entered img l ws r us en g → l ≡ twice t.name t.first.0 t.second.0
+  stopped-as {g = g} t d h = sym h.same ∙ ap (λ (o : Declared). listed_of o g) d
+
+  -- a name declared twice: nothing is entered
+  stopped : {l : Listed} {ws us en : List ℕ} {g : Walked} {o : Declared} (t : SymbolDeclaredTwice) → l ≡ twice t.name t.first.0 t.second.0 → o ≡ Err t
+      → past img g.table ≡ drop (table_length (nodes img)) ws → Entered img l ws o us en g
+  stopped {g = g} t q z p =
+      record {
+        same = ap (λ (o : Declared). listed_of o g) z ∙ sym q;
+        stamps = λ k d. absurd (twice-done t.name t.first.0 t.second.0 k (sym q ∙ d));
+        opens = λ k d. absurd (twice-done t.name t.first.0 t.second.0 k (sym q ∙ d));
+        passed = p;
+      }
 
   -- a declaration by its kind ------------------------------------------------------------------------------------------------
   pub signed : {fs : List Field} {n : ℕ} → Is img (kind_by (outer signature) fs) n → Signature img n
@@ -281,8 +302,8 @@ module _ (img : List ℕ) where
       let is : Is img (kind_by (outer signature) (kind_of (kind_at img n)).fields) n = record { accepted = s.accepted; below = s.below; kind = ap (λ (c : Class). kind_by c (kind_of (kind_at img n)).fields) s.class } in
       subst (λ (u : Tree). (enter img u e ≡ enter_name img n (marked img n e.scope e)) × (ent u ≡ 1)) (sym (tree_of img is)) (and-nothing img (enter_name img n (marked img n e.scope e)), refl)
 
-  pub sig-enters : {n : ℕ} (e : Walked) {f : Walked} {us en vs : List ℕ} {r : Declared} → Signature img n → f ≡ marked img n e.scope e → Enters img (enter_name img n f) f.table.words r us en vs
-      → Enters img (enter img (tree_at img n) e) e.table.words r us en vs
+  pub sig-enters : {n : ℕ} (e : Walked) {f g : Walked} {us en : List ℕ} {r : Declared} → Signature img n → f ≡ marked img n e.scope e → Entered img (enter_name img n f) f.table.words r us en g
+      → Entered img (enter img (tree_at img n) e) e.table.words r us en g
   sig-enters {n} e s q h = enters-as (ap (enter_name img n) q ∙ sym (sig-enter e s).0) (past-marked n e.scope e q s.below) h
 
   pub model-enter : {n : ℕ} (e : Walked) → Is img (kind_of model_decl_kind) n → (enter img (tree_at img n) e ≡ enter_name img n e) × (ent (tree_at img n) ≡ 1)
@@ -312,8 +333,8 @@ module _ (img : List ℕ) where
         ap length (r.1 ∙ ap (λ (y : ℕ). rule_node (rule_shape n y) n) (sym q)),
       )
 
-  pub rule-enters : {n x : ℕ} (e : Walked) {f : Walked} {us en vs : List ℕ} {r : Declared} → Is img (kind_of rule_decl_kind) n → suc x ≡ field img n 0 → f ≡ marked img n e.scope e
-      → Enters img (enter_name img n f) f.table.words r us en vs → Enters img (enter img (tree_at img n) e) e.table.words r us en vs
+  pub rule-enters : {n x : ℕ} (e : Walked) {f g : Walked} {us en : List ℕ} {r : Declared} → Is img (kind_of rule_decl_kind) n → suc x ≡ field img n 0 → f ≡ marked img n e.scope e
+      → Entered img (enter_name img n f) f.table.words r us en g → Entered img (enter img (tree_at img n) e) e.table.words r us en g
   rule-enters {n} e is w q h = enters-as (ap (enter_name img n) q ∙ sym (rule-named e is w).0) (past-marked n e.scope e q is.below) h
 
   pub rule-entering : {seen env : List ℕ} {n x : ℕ} {e : Walked} → Is img (kind_of rule_decl_kind) n → suc x ≡ field img n 0 → Entering img seen env (ent (tree_at img n)) e → Entering img seen env 1 e
@@ -327,15 +348,15 @@ module _ (img : List ℕ) where
   model-ent is = (model-enter nowhere is).1
 
   -- an unnamed rule is only marked
-  pub rule-passes : {seen env : List ℕ} {m n : ℕ} {e : Walked} {vs : List ℕ} (w : InCode) → Is img (kind_of rule_decl_kind) n → Entering img seen env m e → field img n 0 ≡ 0
-      → walked_of w vs ≡ marked img n e.scope e → Enters img (enter img (tree_at img n) e) e.table.words (Done w) seen env vs
-  rule-passes {seen} {env} {m} {n} {e} w is p z q =
+  pub rule-passes : {seen env new : List ℕ} {m n : ℕ} {e f : Walked} → Is img (kind_of rule_decl_kind) n → Entering img seen env m e → field img n 0 ≡ 0
+      → f ≡ marked img n e.scope e → new ≡ env → Entered img (enter img (tree_at img n) e) e.table.words (Ok tt) seen new f
+  rule-passes {seen} {env} {new} {m} {n} {e} is p z q v =
       let g = rule-unnamed e is z in
-      let r = entering-marked refl is.below (rule-quiet is) p in
+      let r = entering-marked refl is.below (rule-quiet is) v p in
       record {
         same = ap done q ∙ sym g;
         stamps = λ f d. subst (Seen img seen) (done-same (marked img n e.scope e) f (sym g ∙ d)) r.stamps;
-        opens = λ f d. subst (λ (k : Walked). Opens img k env) (done-same (marked img n e.scope e) f (sym g ∙ d)) r.opens;
+        opens = λ f d. subst (λ (k : Walked). Opens img k new) (done-same (marked img n e.scope e) f (sym g ∙ d)) r.opens;
         passed = past-marked n e.scope e q is.below;
       }
 
@@ -364,61 +385,51 @@ module _ (img : List ℕ) where
   -- a loop over the items: after i of them it stands at f
   pub record EnterLeft (seen env : List ℕ) (n j count i : ℕ) (e f : Walked) : Type 0 where
     pub within : i ≤ count
-    pub long : length f.table.words ≡ length e.table.words
     pub entering : Entering img seen env (ents (items img n (count - i) (j + i))) f
     pub passed : past img f.table ≡ past img e.table
     pub left : rest_enter img n j count 0 e ≡ rest_enter img n j count i f
 
   pub enter-begin : {seen env : List ℕ} {n j count : ℕ} {e : Walked} → Entering img seen env (ents (items img n count j)) e → EnterLeft seen env n j count 0 e e
   enter-begin {seen} {env} {n} {j} {count} {e} p =
-      record { within = omega arith; long = refl; entering = subst (λ (us : Trees). Entering img seen env (ents us) e) (same-items n j count) p; passed = refl; left = refl }
+      record { within = omega arith; entering = subst (λ (us : Trees). Entering img seen env (ents us) e) (same-items n j count) p; passed = refl; left = refl }
 
   pub record EnterItem (seen env : List ℕ) (n j count i c : ℕ) (e f : Walked) : Type 0 where
     pub entering : Entering img seen env (ent (tree_at img c)) f
-    pub more : {us en : List ℕ} {r : Declared} {vs : List ℕ} (w : InCode) → r ≡ Done w → Enters img (enter img (tree_at img c) f) f.table.words r us en vs → EnterLeft us en n j count (i + 1) e (walked_of w vs)
-    pub stop : {us en : List ℕ} {r : Declared} {vs : List ℕ} (x : ℕ) (a b : NodeId) → r ≡ Twice x a b → Enters img (enter img (tree_at img c) f) f.table.words r us en vs
-        → Enters img (rest_enter img n j count 0 e) e.table.words (Twice x a b) us en vs
+    pub more : {us en : List ℕ} {g : Walked} {r : Declared} {a : Unit {0}} → r ≡ Ok a → Entered img (enter img (tree_at img c) f) f.table.words r us en g → EnterLeft us en n j count (i + 1) e g
+    pub stop : {us en : List ℕ} {g : Walked} {r : Declared} (t : SymbolDeclaredTwice) → r ≡ Err t → Entered img (enter img (tree_at img c) f) f.table.words r us en g
+        → {o : Declared} → o ≡ Err t → Entered img (rest_enter img n j count 0 e) e.table.words o us en g
 
   pub enter_item : {seen env : List ℕ} {n j count i c : ℕ} {e f : Walked} → EnterLeft seen env n j count i e f → i < count → c ≡ field img n (j + i) → EnterItem seen env n j count i c e f
   enter_item {seen} {env} {n} {j} {count} {i} {c} {e} {f} b l q =
       subst (λ (x : ℕ). EnterItem seen env n j count i x e f) (sym q)
       (record {
         entering = entering-less (let s = ents-more n j count i l in omega arith) b.entering;
-        more = λ {us} {en} {r} {vs} w d p. after w d p;
-        stop = λ {us} {en} {r} {vs} x a z d p.
-            let h : enter img (tree_at img m) f ≡ twice x a.0 z.0 = sym p.same ∙ ap (λ (o : Declared). listed_of o vs) d in
-            let g = b.left ∙ enter-more n j count i f l ∙ and-stop x a.0 z.0 (rest_enter img n j count (i + 1)) _ h in
-            record {
-              same = sym g;
-              stamps = λ k t. absurd (twice-done x a.0 z.0 k (sym g ∙ t));
-              opens = λ k t. absurd (twice-done x a.0 z.0 k (sym g ∙ t));
-              passed = p.passed ∙ b.passed;
-            };
+        more = λ d p. after d p;
+        stop = λ t d p z. stopped t (b.left ∙ enter-more n j count i f l ∙ and-stop t.name t.first.0 t.second.0 (rest_enter img n j count (i + 1)) _ (stopped-as t d p)) z (p.passed ∙ b.passed);
       })
     where
       m : ℕ
       m = field img n (j + i)
 
-      after : {us en : List ℕ} {r : Declared} {vs : List ℕ} (w : InCode) → r ≡ Done w → Enters img (enter img (tree_at img m) f) f.table.words r us en vs → EnterLeft us en n j count (i + 1) e (walked_of w vs)
-      after {us} {en} {r} {vs} w d p =
-          let h : enter img (tree_at img m) f ≡ done (walked_of w vs) = sym p.same ∙ ap (λ (o : Declared). listed_of o vs) d in
-          let t = (enter-in img (tree_at img m) (tree-small img m) f).went (walked_of w vs) h in
+      after : {us en : List ℕ} {g : Walked} {r : Declared} {a : Unit {0}} → r ≡ Ok a → Entered img (enter img (tree_at img m) f) f.table.words r us en g → EnterLeft us en n j count (i + 1) e g
+      after {us} {en} {g} d p =
+          let h = entered-as d p in
+          let t = (enter-in img (tree_at img m) (tree-small img m) f).went g h in
           record {
             within = omega arith;
-            long = t.long ∙ b.long;
-            entering = entering-next (subst (λ (y : ℕ). Entering img seen env y f) (ents-more n j count i l) b.entering) t (p.stamps (walked_of w vs) h) (p.opens (walked_of w vs) h);
+            entering = entering-next (subst (λ (y : ℕ). Entering img seen env y f) (ents-more n j count i l) b.entering) t (p.stamps g h) (p.opens g h);
             passed = p.passed ∙ b.passed;
-            left = b.left ∙ enter-more n j count i f l ∙ and-done (walked_of w vs) (rest_enter img n j count (i + 1)) _ h;
+            left = b.left ∙ enter-more n j count i f l ∙ and-done g (rest_enter img n j count (i + 1)) _ h;
           }
 
-  pub enter-ended : {seen env : List ℕ} {n j count i : ℕ} {e : Walked} {vs : List ℕ} (w : InCode) → EnterLeft seen env n j count i e (walked_of w vs) → count ≤ i
-      → Enters img (rest_enter img n j count 0 e) e.table.words (Done w) seen env vs
-  enter-ended {seen} {env} {n} {j} {count} {i} {e} {vs} w b l =
-      let g = b.left ∙ enter-end n j count i (walked_of w vs) l in
+  pub enter-ended : {seen env : List ℕ} {n j count i : ℕ} {e g : Walked} → EnterLeft seen env n j count i e g → count ≤ i
+      → Entered img (rest_enter img n j count 0 e) e.table.words (Ok tt) seen env g
+  enter-ended {seen} {env} {n} {j} {count} {i} {e} {g} b l =
+      let h = b.left ∙ enter-end n j count i g l in
       record {
-        same = sym g;
-        stamps = λ f d. subst (Seen img seen) (done-same (walked_of w vs) f (sym g ∙ d)) b.entering.stamps;
-        opens = λ f d. subst (λ (k : Walked). Opens img k env) (done-same (walked_of w vs) f (sym g ∙ d)) b.entering.opens;
+        same = sym h;
+        stamps = λ f d. subst (Seen img seen) (done-same g f (sym h ∙ d)) b.entering.stamps;
+        opens = λ f d. subst (λ (k : Walked). Opens img k env) (done-same g f (sym h ∙ d)) b.entering.opens;
         passed = b.passed;
       }
 
@@ -462,46 +473,36 @@ module _ (img : List ℕ) where
   -- its constructors are the count items from place j of m's row on
   pub record EnumEnter (seen env : List ℕ) (n : ℕ) (e f : Walked) (m j count : ℕ) : Type 0 where
     pub own : Entering img seen env 1 f
-    pub ctors : {us en vs : List ℕ} {r : Declared} (w : InCode) → r ≡ Done w → Enters img (enter_name img n f) f.table.words r us en vs → EnterRun img us en ctor_decl_kind m j count (walked_of w vs)
-    pub enters : {us en vs qs em ws : List ℕ} {r o : Declared} (w : InCode) → r ≡ Done w → Enters img (enter_name img n f) f.table.words r us en vs
-        → Enters img (rest_enter img m j count 0 (walked_of w vs)) vs o qs em ws → Enters img (enter img (tree_at img n) e) e.table.words o qs em ws
-    pub stop : {us en vs : List ℕ} {r : Declared} (x : ℕ) (a b : NodeId) → r ≡ Twice x a b → Enters img (enter_name img n f) f.table.words r us en vs
-        → Enters img (enter img (tree_at img n) e) e.table.words (Twice x a b) us en vs
+    pub ctors : {us en : List ℕ} {g : Walked} {r : Declared} {a : Unit {0}} → r ≡ Ok a → Entered img (enter_name img n f) f.table.words r us en g → EnterRun img us en ctor_decl_kind m j count g
+    pub enters : {us en qs em : List ℕ} {g h : Walked} {r : Declared} {a : Unit {0}} {o : Declared} → r ≡ Ok a → Entered img (enter_name img n f) f.table.words r us en g
+        → Entered img (rest_enter img m j count 0 g) g.table.words o qs em h → Entered img (enter img (tree_at img n) e) e.table.words o qs em h
+    pub stop : {us en : List ℕ} {g : Walked} {r : Declared} (t : SymbolDeclaredTwice) → r ≡ Err t → Entered img (enter_name img n f) f.table.words r us en g
+        → {o : Declared} → o ≡ Err t → Entered img (enter img (tree_at img n) e) e.table.words o us en g
 
-  pub enum_enter : {seen env : List ℕ} {n : ℕ} {e f : Walked} {l : NodeList} → Is img (kind_of enum_decl_kind) n → Entering img seen env (ent (tree_at img n)) e → f ≡ marked img n e.scope e → ListedAt img n 1 l
-      → EnumEnter seen env n e f l.node.0 l.first l.count
+  pub enum_enter : {seen env new : List ℕ} {n : ℕ} {e f : Walked} {l : NodeList} → Is img (kind_of enum_decl_kind) n → Entering img seen env (ent (tree_at img n)) e → f ≡ marked img n e.scope e → new ≡ env → ListedAt img n 1 l
+      → EnumEnter seen new n e f l.node.0 l.first l.count
   unfolding next kind_of
-  enum_enter {seen} {env} {n} {e} {f} is p q a =
-      at-list img (EnumEnter seen env n e f) a
+  enum_enter {seen} {env} {new} {n} {e} {f} is p q v a =
+      at-list img (EnumEnter seen new n e f) a
       (record {
         own = entering-less (omega arith) both;
-        ctors = λ {us} {en} {vs} {r} w d h.
-            let g = named-as w d h in
+        ctors = λ {us} {en} {g} d h.
+            let k = entered-as d h in
             record {
               run = run-tail img is refl refl;
-              entering = subst (λ (c : ℕ). Entering img us en c (walked_of w vs)) (sym (ctor-ents is)) (entering-next both ((name_in img n f).went (walked_of w vs) g) (h.stamps (walked_of w vs) g) (h.opens (walked_of w vs) g));
+              entering = subst (λ (c : ℕ). Entering img us en c g) (sym (ctor-ents is)) (entering-next both ((name_in img n f).went g k) (h.stamps g k) (h.opens g k));
             };
-        enters = λ {us} {en} {vs} {qs} {em} {ws} {r} {o} w d h k.
-            let z = whole ∙ and-done (walked_of w vs) (rest_enter img n 2 (field img n 1) 0) _ (named-as w d h) in
-            record { same = k.same ∙ sym z; stamps = λ g t. k.stamps g (sym z ∙ t); opens = λ g t. k.opens g (sym z ∙ t); passed = k.passed ∙ h.passed ∙ past-marked n e.scope e q is.below };
-        stop = λ {us} {en} {vs} {r} x a b d h.
-            let z = whole ∙ and-stop x a.0 b.0 (rest_enter img n 2 (field img n 1) 0) _ (sym h.same ∙ ap (λ (o : Declared). listed_of o vs) d) in
-            record {
-              same = sym z;
-              stamps = λ g t. absurd (twice-done x a.0 b.0 g (sym z ∙ t));
-              opens = λ g t. absurd (twice-done x a.0 b.0 g (sym z ∙ t));
-              passed = h.passed ∙ past-marked n e.scope e q is.below;
-            };
+        enters = λ {us} {en} {qs} {em} {g} d h k.
+            let z = whole ∙ and-done g (rest_enter img n 2 (field img n 1) 0) _ (entered-as d h) in
+            record { same = k.same ∙ sym z; stamps = λ o t. k.stamps o (sym z ∙ t); opens = λ o t. k.opens o (sym z ∙ t); passed = k.passed ∙ h.passed ∙ past-marked n e.scope e q is.below };
+        stop = λ t d h z. stopped t (whole ∙ and-stop t.name t.first.0 t.second.0 (rest_enter img n 2 (field img n 1) 0) _ (stopped-as t d h)) z (h.passed ∙ past-marked n e.scope e q is.below);
       })
     where
-      both : Entering img seen env (1 + field img n 1) f
-      both = entering-marked q is.below (enum-quiet is) (subst (λ (m : ℕ). Entering img seen env m e) (enum-ent is) p)
+      both : Entering img seen new (1 + field img n 1) f
+      both = entering-marked q is.below (enum-quiet is) v (subst (λ (m : ℕ). Entering img seen env m e) (enum-ent is) p)
 
       whole : enter img (tree_at img n) e ≡ and_then img (enter_name img n f) (rest_enter img n 2 (field img n 1) 0)
       whole = enum-whole e is ∙ ap (λ (g : Walked). and_then img (enter_name img n g) (rest_enter img n 2 (field img n 1) 0)) (sym q)
-
-      named-as : {us en vs : List ℕ} {r : Declared} (w : InCode) → r ≡ Done w → Enters img (enter_name img n f) f.table.words r us en vs → enter_name img n f ≡ done (walked_of w vs)
-      named-as {us} {en} {vs} {r} w d h = sym h.same ∙ ap (λ (o : Declared). listed_of o vs) d
 
   -- a Decl: what its declaration is -----------------------------------------------------------------------------------------
   abbrev pub decl_kinds : List ℕ
@@ -555,11 +556,11 @@ module _ (img : List ℕ) where
   -- the declaration entered, after its Decl is marked
   pub record DeclEnter (seen env : List ℕ) (n d : ℕ) (e f : Walked) : Type 0 where
     pub entering : Entering img seen env (ent (tree_at img d)) f
-    pub enters : {us en : List ℕ} {r : Declared} {vs : List ℕ} → Enters img (enter img (tree_at img d) f) f.table.words r us en vs → Enters img (enter img (tree_at img n) e) e.table.words r us en vs
+    pub enters : {us en : List ℕ} {g : Walked} {r : Declared} → Entered img (enter img (tree_at img d) f) f.table.words r us en g → Entered img (enter img (tree_at img n) e) e.table.words r us en g
 
-  pub decl_enter : {seen env : List ℕ} {k n d : ℕ} {e f : Walked} → DeclOf k n d → Is img (kind_of decl_kind) n → Entering img seen env (ent (tree_at img n)) e → f ≡ marked img n e.scope e → DeclEnter seen env n d e f
-  decl_enter {seen} {env} {k} {n} {d} {e} {f} o is p q =
+  pub decl_enter : {seen env new : List ℕ} {k n d : ℕ} {e f : Walked} → DeclOf k n d → Is img (kind_of decl_kind) n → Entering img seen env (ent (tree_at img n)) e → f ≡ marked img n e.scope e → new ≡ env → DeclEnter seen new n d e f
+  decl_enter {n = n} {d} {e} o is p q v =
       record {
-        entering = entering-marked q is.below (decl-quiet is) (entering-less (let z = decl-ent o in omega arith) p);
+        entering = entering-marked q is.below (decl-quiet is) v (entering-less (let z = decl-ent o in omega arith) p);
         enters = λ h. enters-as (ap (enter img (tree_at img d)) q ∙ sym (decl-entered o e)) (past-marked n e.scope e q is.below) h;
       }

@@ -5,22 +5,21 @@ use mathlib.Core.List.{List}
 use mathlib.Core.Option.{some}
 use Prim.Native.Nat.{ℕ, zero, suc, ◌<◌}
 use native.Mathlib.Omega.{arith}
+use Rattle.std.specs.Prelude.{Result, Ok}
+use Rattle.error.specs.declared.SymbolDeclaredTwice.{SymbolDeclaredTwice}
 use Rattle.ast.specs.Image.{nodes}
 use Rattle.ast.specs.Tests.{verdict}
 use Rattle.table.specs.Layout.{entry_place, exit_place, parent_place, scope_place, node_place}
 use Rattle.table.specs.Rising.{node_at}
 use Rattle.table.specs.State.{Walked}
 use Rattle.table.specs.Table.{Table, find, lookup, entry_at, exit_at}
-use Rattle.table.specs.Values.{table_of}
-use Rattle.table.specs.declared.Walked.{Walked as InCode}
 use Rattle.table.proofs.Frames.{from-same}
 use Rattle.environment.specs.Layout.{noted_entry, noted_exit}
 use Rattle.environment.specs.Stands.{told, Tells, Noted}
 use Rattle.scopes.specs.Walk.{done}
 use Rattle.scopes.specs.Resolve.{test_table, walked, headed, counted, Way, refuses, stops, fills, way}
-use Rattle.scopes.specs.Answers.{declared_way, Resolves}
-use Rattle.scopes.specs.declared.Declared.{Declared}
-use Rattle.scopes.specs.declared.Declared.TheVariants.{Done}
+use Rattle.scopes.specs.Answers.{table_of, resolved_way, Resolves}
+use Rattle.scopes.specs.declared.Resolved.{Resolved}
 use Rattle.scopes.proofs.Calls.{Went, went}
 use Rattle.scopes.proofs.Namings.{symbol-below}
 use Rattle.scopes.proofs.Resolving.{table-accepted, walked-ended, headed-word}
@@ -74,8 +73,8 @@ module _ (img tab : List ℕ) (passes : test_table img tab ≡ 0) where
         symbols = λ j l. let a = headed-word img e.table (node_place (nodes img) j) (omega arith) in let b = symbol-below img _ (d.good.symbols j l) in omega arith;
       }
 
-  pub resolved-filled : {d : Declared} {ws : List ℕ} → Resolves img tab d ws → {w : InCode} → d ≡ Done w → FilledTable img (table_of w ws)
-  resolved-filled {d} {ws} r {w} q = go (way img tab 0) (went img tab 0) (sym r.way_is ∙ ap (λ (x : Declared). declared_way x ws) q)
+  pub resolved-filled : {d : Result Resolved SymbolDeclaredTwice} {ws : List ℕ} → Resolves img tab d ws → {w : Resolved} → d ≡ Ok w → FilledTable img (table_of w ws)
+  resolved-filled {d} {ws} r {w} q = go (way img tab 0) (went img tab 0) (sym r.way_is ∙ ap (λ (x : Result Resolved SymbolDeclaredTwice). resolved_way x ws) q)
     where
       go : (v : Way) → Went img tab 0 v → v ≡ fills (table_of w ws) → FilledTable img (table_of w ws)
       go (refuses k) h z = absurd (let o : ◌≡◌ {A = ℕ} 0 1 = cc in omega arith)

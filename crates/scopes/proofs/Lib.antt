@@ -7,7 +7,7 @@ pub mod Namings
 pub mod Moves
 pub mod Resolving
 pub mod Declaring
-pub mod Stamps
+pub mod Stamping
 pub mod Entries
 pub mod Decls
 pub mod Visiting

@@ -1,68 +1,124 @@
 -- Laws of Lookup: its refusals in order, and the answer.
-use mathlib.Core.Path.{◌≡◌, refl, sym, ap, ◌∙◌}
+use mathlib.Core.Path.{◌≡◌, refl, sym, ap, subst, ◌∙◌}
+use mathlib.Core.Bool.{Bool, true, false, ◌&&◌, ◌||◌}
 use mathlib.Core.List.{List}
 use mathlib.Core.Option.{Option, none, some}
 use Prim.Native.Nat.{ℕ, zero, suc, ◌<◌, ◌≤◌}
 use native.Mathlib.Omega.{arith}
-use lib.Dec.{leb, ltb}
+use lib.Dec.{T, leb, ltb, eqb, ltb→lt}
+use native.Mathlib.Nat.{zero-add}
 use lib.ListN.{length}
 use borrow.Author.Tests.{lt-ltb, le-ltb, le-leb, lt-leb}
+use Rattle.std.specs.Prelude.{Option as Given, Result, Ok, Err, IsErrAnd}
 use Rattle.ast.specs.Image.{nodes, kind_at}
-use Rattle.ast.specs.Tests.{◌▸◌, need, verdict}
+use Rattle.ast.specs.Kinds.{Kind, kinds, kind_of}
+use Rattle.ast.specs.Tests.{verdict}
 use Rattle.ast.specs.Answer.{refused, result, other}
-use Rattle.ast.proofs.Accepted.{skip}
+use Rattle.ast.proofs.Accepted.{both, needed, ran, skip}
+use Rattle.ast.proofs.Bools.{true-is, false-true}
+use Rattle.ast.proofs.ByKind.{low-kind}
 use Rattle.ast.proofs.Scans.{need-in, need-out}
+use Rattle.ast.proofs.Vars.{every-kind}
+use Rattle.error.specs.Refusals.{refusal_number}
+use Rattle.error.specs.declared.Refusal.{Refusal}
 use Rattle.table.specs.Layout.{table_length}
-use Rattle.table.specs.Table.{lookup, climb, symbol_of}
-use Rattle.sound.specs.Sound.{scopes_in, symbols_in, test_sound}
+use Rattle.table.specs.Rising.{node_at}
+use Rattle.table.specs.Table.{lookup, climb, symbol_of, declares}
+use Rattle.table.proofs.Below.{climb-row}
+use Rattle.sound.specs.Sound.{has_name, is_symbol, scopes_in, symbols_in, row_sound, test_sound}
 use Rattle.sound.proofs.Sounds.{halt}
 use Rattle.scopes.specs.Resolve.{test_table}
 use Rattle.names.specs.Number.{number_of}
+use Rattle.scopes.specs.Answers.{looked_answer}
+use Rattle.scopes.specs.declared.Looked.{Looked}
 use Rattle.scopes.specs.Lookup.{test_lookup, symbol_answer, found_by, lookup_call}
 
 -- 1 to 13 -------------------------------------------------------------------------------------------------------------
-module _ (img tab : List ℕ) (k : ℕ) (verdict-is : k ≡ verdict img) where
-  pub table-refused : (k ≡ 0 → ⊥) → test_table img tab ≡ k
+module _ (img tab : List ℕ) where
+  pub table-refused : (k : ℕ) → k ≡ verdict img → (k ≡ 0 → ⊥) → k ≡ test_table img tab
   unfolding test_table
-  table-refused h = halt _ _ (λ e. h (verdict-is ∙ e)) ∙ sym verdict-is
+  table-refused k q h = q ∙ sym (halt _ _ (λ e. h (q ∙ e)))
 
-  module _ (accepted : k ≡ 0) where
-    pub table-short : length tab < table_length (nodes img) → test_table img tab ≡ 13
+  module _ (accepted : 0 ≡ verdict img) where
+    pub table_short : length tab < table_length (nodes img) → 13 ≡ test_table img tab
     unfolding test_table
-    table-short h = skip _ _ (sym verdict-is ∙ accepted) ∙ need-out 13 _ (lt-leb _ _ h)
+    table_short h = sym (skip _ _ (sym accepted) ∙ need-out 13 _ (lt-leb _ _ h))
 
-    pub table-long : table_length (nodes img) ≤ length tab → test_table img tab ≡ 0
+    pub table_long : table_length (nodes img) ≤ length tab → 0 ≡ test_table img tab
     unfolding test_table
-    table-long h = skip _ _ (sym verdict-is ∙ accepted) ∙ need-in 13 _ (le-leb _ _ h)
+    table_long h = sym (skip _ _ (sym accepted) ∙ need-in 13 _ (le-leb _ _ h))
 
 -- 1 to 13, 16, 17 -----------------------------------------------------------------------------------------------------
-module _ (img tab : List ℕ) (s k : ℕ) (table_is : k ≡ test_table img tab) where
-  pub lookup-refused : (k ≡ 0 → ⊥) → test_lookup img tab s ≡ k
+module _ (img tab : List ℕ) (s : ℕ) where
+  pub lookup-refused : (k : ℕ) → k ≡ test_table img tab → (k ≡ 0 → ⊥) → k ≡ test_lookup img tab s
   unfolding test_lookup
-  lookup-refused h = halt _ _ (λ e. h (table_is ∙ e)) ∙ sym table_is
+  lookup-refused k q h = q ∙ sym (halt _ _ (λ e. h (q ∙ e)))
 
-  module _ (passed : k ≡ 0) (r : ℕ) (sound-is : r ≡ test_sound img tab) where
-    pub lookup-unsound : (r ≡ 0 → ⊥) → test_lookup img tab s ≡ r
+  module _ (passed : 0 ≡ test_table img tab) where
+    pub lookup-unsound : (k : ℕ) → k ≡ test_sound img tab → (k ≡ 0 → ⊥) → k ≡ test_lookup img tab s
     unfolding test_lookup
-    lookup-unsound h = skip _ _ (sym table_is ∙ passed) ∙ halt _ _ (λ e. h (sound-is ∙ e)) ∙ sym sound-is
+    lookup-unsound k q h = q ∙ sym (skip _ _ (sym passed) ∙ halt _ _ (λ e. h (q ∙ e)))
 
-    module _ (sound : r ≡ 0) where
-      pub lookup-within : s < scopes_in img tab → test_lookup img tab s ≡ 0
+    module _ (sound : 0 ≡ test_sound img tab) where
+      pub lookup_within : s < scopes_in img tab → 0 ≡ test_lookup img tab s
       unfolding test_lookup
-      lookup-within h = skip _ _ (sym table_is ∙ passed) ∙ skip _ _ (sym sound-is ∙ sound) ∙ need-in 17 _ (lt-ltb _ _ h)
+      lookup_within h = sym (skip _ _ (sym passed) ∙ skip _ _ (sym sound) ∙ need-in 17 _ (lt-ltb _ _ h))
 
-      pub lookup-beyond : scopes_in img tab ≤ s → test_lookup img tab s ≡ 17
+      pub lookup_beyond : scopes_in img tab ≤ s → 17 ≡ test_lookup img tab s
       unfolding test_lookup
-      lookup-beyond h = skip _ _ (sym table_is ∙ passed) ∙ skip _ _ (sym sound-is ∙ sound) ∙ need-out 17 _ (le-ltb _ _ h)
+      lookup_beyond h = sym (skip _ _ (sym passed) ∙ skip _ _ (sym sound) ∙ need-out 17 _ (le-ltb _ _ h))
 
--- the image is accepted where these tests pass
-pub lookup-accepted : (img tab : List ℕ) (s : ℕ) → test_lookup img tab s ≡ 0 → verdict img ≡ 0
-unfolding test_lookup test_table ◌▸◌
-lookup-accepted img tab s e = go (verdict img) e
-  where
-    go : (v : ℕ) → (v ▸ need 13 (leb (table_length (nodes img)) (length tab))) ▸ (test_sound img tab ▸ need 17 (ltb s (scopes_in img tab))) ≡ 0 → v ≡ 0
-    go zero q = refl
-    go (suc v) q = absurd (omega arith)
+-- where these tests pass, the image is accepted and the table sound
+pub lookup-accepted : (img tab : List ℕ) (s : ℕ) → 0 ≡ test_lookup img tab s → verdict img ≡ 0
+unfolding test_lookup test_table
+lookup-accepted img tab s e = (both _ _ (both _ _ (sym e)).0).0
+
+lookup-sound : (img tab : List ℕ) (s : ℕ) → 0 ≡ test_lookup img tab s → test_sound img tab ≡ 0
+unfolding test_lookup
+lookup-sound img tab s e = (both _ _ (both _ _ (sym e)).1).0
+
+-- a symbol of a sound table is a declaration: its kind by the sound table's test, where b says that it has a name
+named : Bool → ℕ → Bool
+named b k = elim (eqb k 6) [ true ↦ b | false ↦ elim (eqb k 10) [ true ↦ b | false ↦ (leb 2 k && leb k 9) || eqb k 13 ] ]
+
+implies : Bool → Bool → Bool
+implies true c = c
+implies false c = true
+
+naming : Bool → ℕ → Kind → Bool
+naming b k kd = implies (named b k) (declares k)
+
+every-naming : (b : Bool) (k : ℕ) → k ≤ 40 → T (naming b k (kind_of k))
+unfolding naming implies named declares kinds
+every-naming true k l = every-kind (naming true) tt k l
+every-naming false k l = every-kind (naming false) tt k l
+
+named-declares : (b : Bool) (k : ℕ) → k ≤ 40 → named b k ≡ true → declares k ≡ true
+unfolding naming implies
+named-declares b k l h = true-is _ (subst (λ (c : Bool). T (implies c (declares k))) h (every-naming b k l))
+
+conj : (a b : Bool) → (a && b) ≡ true → (a ≡ true) × (b ≡ true)
+conj true b h = (refl, h)
+conj false b h = absurd (false-true h)
+
+module _ (img tab : List ℕ) (s : ℕ) (passed : 0 ≡ test_lookup img tab s) where
+  row-symbol : (j : ℕ) → j < symbols_in img tab → is_symbol img (node_at (nodes img) tab j) ≡ true
+  unfolding test_sound row_sound
+  row-symbol j l =
+      let a = (both _ _ (lookup-sound img tab s passed)).1 in
+      let b = (both _ _ (both _ _ (both _ _ (both _ _ (both _ _ a).1).1).1).1).1 in
+      true-is _ (needed 15 _ (both _ _ (subst (λ (i : ℕ). row_sound img tab i ≡ 0) (zero-add j) (ran (row_sound img tab) (symbols_in img tab) 0 b j l))).1)
+
+  symbol-declares : (n : ℕ) → is_symbol img n ≡ true → declares (kind_at img n) ≡ true
+  unfolding is_symbol named
+  symbol-declares n h =
+      let c = conj (ltb n (nodes img)) (named (has_name img n) (kind_at img n)) h in
+      named-declares (has_name img n) (kind_at img n) (low-kind img (lookup-accepted img tab s passed) n (ltb→lt n (nodes img) (subst T (sym c.0) tt))) c.1
+
+  pub looked-declares : {y n k : ℕ} (x : ℕ) → y ≡ symbols_in img tab → some n ≡ climb img (suc s) tab y s x → k ≡ kind_at img n → declares k ≡ true
+  looked-declares {y} {n} x q h e =
+      let r = climb-row img tab (suc s) y s x n (sym h) in
+      ap declares e ∙ symbol-declares n (subst (λ (m : ℕ). is_symbol img m ≡ true) r.node (row-symbol r.row (let z = r.within in omega arith)))
 
 -- the answer ----------------------------------------------------------------------------------------------------------
 module _ (img tab : List ℕ) (s : ℕ) where
@@ -91,3 +147,8 @@ module _ (img tab : List ℕ) (s : ℕ) where
     pub call_none : k ≡ 0 → none ≡ number_of img bs → other 0 0 ≡ lookup_call img tab s bs
     unfolding symbol_answer found_by
     call_none h e = call-answer h none e
+
+-- what `?` hands back
+pub looked-refused : (r : Result (Given Looked) Refusal) (e : Refusal) → IsErrAnd r (λ y. y ≡ e) → looked_answer r ≡ refused (refusal_number e)
+looked-refused (Ok l) e h = absurd h
+looked-refused (Err y) e h = ap (λ (k : Refusal). refused (refusal_number k)) h

@@ -3,18 +3,18 @@ use mathlib.Core.Path.{◌≡◌, refl, sym, ap, subst, ◌∙◌}
 use mathlib.Core.Logic.{⊎_elim}
 use mathlib.Core.List.{List}
 use mathlib.Core.Option.{none as nothing}
-use Prim.Native.Nat.{ℕ, suc, ◌+◌, ◌<◌, ◌≤◌, ◌^◌}
+use Prim.Native.Nat.{ℕ, suc, ◌+◌, ◌<◌, ◌≤◌}
 use native.Mathlib.Omega.{arith}
 use native.Mathlib.Nat.{eq-or-lt_of_le}
 use lib.ListN.{length, drop}
+use Rattle.std.specs.Prelude.{Ok, Err}
+use Rattle.error.specs.declared.SymbolDeclaredTwice.{SymbolDeclaredTwice}
 use Rattle.ast.specs.Image.{nodes, field}
 use Rattle.ast.specs.Is.{Is}
 use Rattle.ast.specs.Items.{items}
 use Rattle.ast.specs.Kinds.{kind_of}
 use Rattle.ast.specs.Named.{model_decl_kind}
 use Rattle.ast.specs.Tree.{Tree, Trees, tree_at, size, sizes}
-use Rattle.ast.specs.declared.NodeId.{NodeId}
-use Rattle.ast.proofs.Accepted.{sized}
 use Rattle.ast.proofs.Row.{append-none, next, node_of}
 use Rattle.ast.proofs.Shapes.{tree_of, run-tail}
 use Rattle.ast.proofs.Small.{items-small}
@@ -26,9 +26,7 @@ use Rattle.table.specs.Kept.{Kept}
 use Rattle.table.specs.Layout.{parent_place, table_length}
 use Rattle.table.specs.Rising.{scope_of, parent_at}
 use Rattle.table.specs.State.{Walked, child_scope, own_symbol, marked, back}
-use Rattle.table.specs.Table.{mark, new_scope, new_symbol}
-use Rattle.table.specs.Values.{walked_of}
-use Rattle.table.specs.declared.Walked.{Walked as InCode}
+use Rattle.table.specs.Table.{Table, mark, new_scope, new_symbol}
 use Rattle.table.proofs.Frame.{mark-parent, child-parent}
 use Rattle.table.proofs.Frames.{scope-word, symbol-word, symbol-scope}
 use Rattle.table.proofs.Kept.{mark-rows, scope-rows, symbol-rows, mark-length, scope-length, symbol-length}
@@ -37,15 +35,13 @@ use Rattle.environment.specs.Stands.{Stands, Opens, First, above}
 use Rattle.environment.proofs.Asking.{loud_fields, quiet}
 use Rattle.environment.proofs.Laws.{opens-left, opens-child}
 use Rattle.ordered.specs.Promises.{Few}
-use Rattle.scopes.specs.Walk.{Listed, done, twice, and_then, enter_all, visit, visit_all}
-use Rattle.scopes.specs.Promises.{listed_of, ents, vis, viss, over_list, Visits, Visit, ListRun}
-use Rattle.scopes.specs.declared.Declared.{Declared}
-use Rattle.scopes.specs.declared.Declared.TheVariants.{Done, Twice}
+use Rattle.scopes.specs.Walk.{Listed, done, and_then, enter_all, visit, visit_all}
+use Rattle.scopes.specs.Promises.{Declared, ents, vis, viss, over_list, Visited, Visit, ListRun}
 use Rattle.scopes.proofs.Adds.{Newest, opened, opened-counts, child-newest, child-past, child-empty, list-in}
 use Rattle.scopes.proofs.Entries.{and-done, and-stop}
 use Rattle.scopes.proofs.Moves.{Moves, stay, next as goes, marks, adds, opens, drops, rises, ends-and, enter_all-ends, visit_all-ends}
 use Rattle.scopes.proofs.Namings.{Fit, tree-fits}
-use Rattle.scopes.proofs.Visiting.{list_trees, over-start, stands-done, visits-twice}
+use Rattle.scopes.proofs.Visiting.{list_trees, over-start, stands-done, visited-as, halted-as, visits-twice}
 
 module _ (img : List ℕ) where
   -- a walk in the scope m, whose parent is p, or below it: the rows from r on are of such scopes, and those before are of lower ones
@@ -173,16 +169,13 @@ module _ (img : List ℕ) where
   pub record ModelVisit (n : ℕ) (e g : Walked) (m j count : ℕ) : Type 0 where
     pub own : m ≡ n
     pub list : ListRun img m j count g
-    pub opens : {env : List ℕ} → Stands img e env → Opens img g env
-    pub leaves : {r : Declared} {us env en vs : List ℕ} (w : InCode) → r ≡ Done w → Visits img (over_list img m j count g) us r en vs → Stands img e env
-        → Stands img (walked_of w vs) en × First img (walked_of w vs).table w.scope.0 e.table.symbols
-    pub back_in : {r : Declared} {us env en em vs : List ℕ} (v w : InCode) → r ≡ Done w → Visits img (over_list img m j count g) us r en vs → us ≡ g.table.words → Stands img e env
-        → Stands img (above img (walked_of w vs)) em → walked_of v vs ≡ back img e.scope (walked_of w vs) → Visits img (visit img (tree_at img n) e) e.table.words (Done v) em vs
-    pub stop : {r : Declared} {us en vs : List ℕ} (x : ℕ) (a b : NodeId) → r ≡ Twice x a b → Visits img (over_list img m j count g) us r en vs → us ≡ g.table.words
-        → Visits img (visit img (tree_at img n) e) e.table.words (Twice x a b) en vs
-
-  pub model-room : {n : ℕ} {e : Walked} → Visit img (kind_of model_decl_kind) n e → e.table.scopes + 1 < 2 ^ 32
-  model-room {n} {e} p = let z = (model-visit e p.is).1 in let f = p.fits.scopes in let w = (sized img p.is.accepted).few_nodes in omega arith
+    pub opens : {env new : List ℕ} → new ≡ env → Stands img e env → Opens img g new
+    pub leaves : {us env en : List ℕ} {h : Walked} {r : Declared} {a : Unit {0}} → r ≡ Ok a → Visited img (over_list img m j count g) us r en h → Stands img e env
+        → Stands img h en × First img h.table h.scope e.table.symbols
+    pub back_in : {us env en em : List ℕ} {h : Walked} {r : Declared} {a : Unit {0}} → r ≡ Ok a → Visited img (over_list img m j count g) us r en h → us ≡ g.table.words → Stands img e env
+        → Stands img (above img h) em → {t : Table} → t ≡ h.table → Visited img (visit img (tree_at img n) e) e.table.words (Ok tt) em (record { scope = e.scope; table = t })
+    pub stop : {us en : List ℕ} {h : Walked} {r : Declared} (t : SymbolDeclaredTwice) → r ≡ Err t → Visited img (over_list img m j count g) us r en h → us ≡ g.table.words
+        → {o : Declared} → o ≡ Err t → Visited img (visit img (tree_at img n) e) e.table.words o en (back img e.scope h)
 
   pub model_visit : {n : ℕ} {e g : Walked} {l : NodeList} → Visit img (kind_of model_decl_kind) n e → ListedAt img n 1 l → g ≡ opened img n e → ModelVisit n e g l.node.0 l.first l.count
   unfolding next kind_of
@@ -196,18 +189,18 @@ module _ (img : List ℕ) where
           newest = new.last;
           fresh = child-empty img e p.is.below small p.fits.kept;
         };
-        opens = λ s. opens-left img e.table.scopes p.is.below (model-quiet p.is) refl (opens-child img small s);
-        leaves = λ {r} {us} {env} {en} {vs} w d h s.
-            let t = done-as w d h in
-            (h.stands (walked_of w vs) t, first_of (walked_of w vs) t s.live);
-        back_in = λ {r} {us} {env} {en} {em} {vs} v w d h u s a k.
-            let t = done-as w d h in
-            let q = ap done k ∙ sym (whole ∙ and-done img (walked_of w vs) (λ f. done (back img e.scope f)) _ t) in
-            let b = subst (λ (f : Walked). Stands img f em) (above-is (walked_of w vs) t s.live ∙ sym k) a in
-            record { same = q; stands = stands-done img b q; passed = h.passed ∙ ap (drop (table_length (nodes img))) u ∙ child-past img e p.is.below small };
-        stop = λ {r} {us} {en} {vs} x a b d h u.
-            let t : over_list img n 2 (field img n 1) m ≡ twice x a.0 b.0 = sym h.same ∙ ap (λ (y : Declared). listed_of y vs) d in
-            visits-twice img x a b (whole ∙ and-stop img x a.0 b.0 (λ f. done (back img e.scope f)) _ t) (h.passed ∙ ap (drop (table_length (nodes img))) u ∙ child-past img e p.is.below small);
+        opens = λ v s. opens-left img e.table.scopes p.is.below (model-quiet p.is) refl v (opens-child img small s);
+        leaves = λ {us} {env} {en} {h} d v s.
+            let t = visited-as img d v in
+            (v.stands h t, first_of h t s.live);
+        back_in = λ {us} {env} {en} {em} {h} d v u s a y.
+            let t = visited-as img d v in
+            let q = sym (whole ∙ and-done img h (λ f. done (back img e.scope f)) _ t) in
+            let k = subst (λ (f : Walked). Stands img f em) (above-is h t s.live) a in
+            subst (λ (o : Table). Visited img (visit img (tree_at img n) e) e.table.words (Ok tt) em (record { scope = e.scope; table = o })) (sym y)
+            (record { same = q; stands = stands-done img k q; passed = v.passed ∙ ap (drop (table_length (nodes img))) u ∙ child-past img e p.is.below small });
+        stop = λ t d v u z.
+            visits-twice img t (whole ∙ and-stop img t.name t.first.0 t.second.0 (λ f. done (back img e.scope f)) _ (halted-as img t d v)) z (v.passed ∙ ap (drop (table_length (nodes img))) u ∙ child-past img e p.is.below small);
       }))
     where
       ts : Trees
@@ -235,9 +228,6 @@ module _ (img : List ℕ) where
       whole = (model-visit e p.is).0
           ∙ ap (λ (us : Trees). and_then img (and_then img (enter_all img us m) (λ f. visit_all img us f)) (λ f. done (back img e.scope f))) a
           ∙ ap (λ (l : Listed). and_then img l (λ f. done (back img e.scope f))) (over-start img n 2 (field img n 1) m)
-
-      done-as : {r : Declared} {us en vs : List ℕ} (w : InCode) → r ≡ Done w → Visits img (over_list img n 2 (field img n 1) m) us r en vs → over_list img n 2 (field img n 1) m ≡ done (walked_of w vs)
-      done-as {r} {us} {en} {vs} w d h = sym h.same ∙ ap (λ (x : Declared). listed_of x vs) d
 
       -- where the list ends
       ended : (f : Walked) → over_list img n 2 (field img n 1) m ≡ done f → e.scope < e.table.scopes → (f.scope ≡ e.table.scopes) × Within e.table.scopes e.scope e.table.symbols f

@@ -145,7 +145,7 @@ module _ (img : List ℕ) (n : ℕ) (below : n < nodes img) where
   class-symbol (outer model) t e = decl-symbol t
   class-symbol (inner plain) t e = absurd (false-true e)
   class-symbol (inner term) t e = absurd (false-true e)
-  class-symbol (inner ident) t e = let k = eqb→eq (kind_at img n) 13 t in symbol-var img n below (λ q. omega arith) (λ q. omega arith) k
+  class-symbol (inner ident) t e = let k = eqb→eq (kind_at img n) 13 t in symbol-var img n below k
   class-symbol (inner head) t e = absurd (false-true e)
   class-symbol (inner head_member) t e = absurd (false-true e)
   class-symbol (inner member) t e = absurd (false-true e)

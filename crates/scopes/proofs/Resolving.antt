@@ -25,7 +25,7 @@ use Rattle.table.specs.Layout.{all_ones, nodes_place, scopes_place, symbols_plac
 use Rattle.sound.specs.Sound.{is_symbol, scopes_in, symbols_in, test_sound}
 use Rattle.table.specs.State.{Walked, marked}
 use Rattle.table.specs.Table.{Table, mark, new_scope}
-use Rattle.sound.proofs.Sounds.{parent-low, row-yes, sound-rest}
+use Rattle.sound.proofs.Sounds.{Read, parent-low, row-yes, sound-rest}
 use Rattle.ordered.specs.Promises.{Few}
 use Rattle.table.specs.Kept.{Kept}
 use Rattle.table.proofs.Kept.{past, mark-kept, scope_kept, mark-past, scope-past, mark-length, scope-length}
@@ -238,7 +238,8 @@ headed-sound img ws e long d =
     let k = headed-scopes img t l in
     let y = headed-symbols img t l in
     let g = d.good in
-    sound-rest img vs (nodes img) (nodes img) t.scopes t.symbols refl (sym (headed-nodes img t l)) (sym k) (sym y) refl (λ q. let s = d.some in omega arith) d.scopes d.symbols
+    let r : Read img vs (nodes img) (nodes img) t.scopes t.symbols = record { nodes_are = refl; first-is = sym (headed-nodes img t l); scopes-are = sym k; symbols-are = sym y } in
+    sound-rest img vs r refl (λ q. let s = d.some in omega arith) d.scopes d.symbols
     (headed-word img t (parent_place (nodes img) 0) (omega arith) ∙ g.root)
     ∙ skip _ _ (run-all _ (t.scopes - 1) 1 (λ s a b. parent-low img vs s _ refl (let z = headed-word img t (parent_place (nodes img) s) (omega arith) in let p = g.parents s a (omega arith) in omega arith)))
     ∙ run-all _ t.symbols 0 (λ j a b.

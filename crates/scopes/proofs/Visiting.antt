@@ -3,7 +3,9 @@ use mathlib.Core.Path.{◌≡◌, refl, sym, ap, subst, ◌∙◌, fun_ext}
 use mathlib.Core.List.{List, [], ◌∷◌}
 use Prim.Native.Nat.{ℕ, suc, ◌+◌, ◌-◌, ◌<◌, ◌≤◌}
 use native.Mathlib.Omega.{arith}
-use lib.ListN.{length, drop}
+use lib.ListN.{drop}
+use Rattle.std.specs.Prelude.{Ok, Err}
+use Rattle.error.specs.declared.SymbolDeclaredTwice.{SymbolDeclaredTwice}
 use Rattle.ast.specs.Image.{nodes, field}
 use Rattle.ast.specs.Is.{Is, kind_by}
 use Rattle.ast.specs.Items.{items, below}
@@ -19,9 +21,6 @@ use Rattle.typed.specs.declared.nodes.NodeList.{NodeList}
 use Rattle.typed.proofs.Lists.{at-list}
 use Rattle.table.specs.Layout.{table_length}
 use Rattle.table.specs.State.{Walked, back}
-use Rattle.table.specs.Values.{walked_of}
-use Rattle.table.specs.declared.Walked.{Walked as InCode}
-use Rattle.ast.specs.declared.NodeId.{NodeId}
 use Rattle.environment.specs.Stands.{Stands, Opens, Path}
 use Rattle.ordered.specs.Walk.{occurs, walk, walk_seq}
 use Rattle.ordered.specs.Promises.{over, inside, rest, Ends, Room, Ready, ReadyRun}
@@ -31,12 +30,10 @@ use Rattle.ordered.proofs.Lists.{rest-start}
 use Rattle.ordered.proofs.Size.{seq-within}
 use Rattle.ordered.proofs.Steps.{room-below, tree-grows}
 use Rattle.scopes.specs.Walk.{Listed, done, twice, and_then, enter_all, visit, visit_all}
-use Rattle.scopes.specs.Promises.{listed_of, vis, viss, rest_enter, rest_visit, over_list, Enters, Visits, Inside, Fits, Visit, EnterRun, VisitRun, ListRun}
-use Rattle.scopes.specs.declared.Declared.{Declared}
-use Rattle.scopes.specs.declared.Declared.TheVariants.{Done, Twice}
+use Rattle.scopes.specs.Promises.{Declared, listed_of, vis, viss, rest_enter, rest_visit, over_list, dropped, Entered, Visited, Inside, Fits, Visit, EnterRun, VisitRun, ListRun}
 use Rattle.scopes.proofs.Adds.{done-same, twice-done, enter_all-in, visit-in, fits_next}
-use Rattle.scopes.proofs.Entries.{DeclOf, decl-size, decl-vis, and-done, and-stop, same-items, enter-start}
-use Rattle.scopes.proofs.Stamps.{seen_start}
+use Rattle.scopes.proofs.Entries.{DeclOf, decl-size, decl-vis, and-done, and-stop, entered-as, stopped-as, same-items, enter-start}
+use Rattle.scopes.proofs.Stamping.{seen_start}
 
 module _ (img : List ℕ) where
   -- a signature, and a rule: what is walked is dropped -----------------------------------------------------------------------
@@ -150,46 +147,49 @@ module _ (img : List ℕ) where
       at-list img (RuleRun n e) a
       (record { run = record { run = run-tail img p.is refl refl; room = subst (Room img) w p.room }; inner = w })
 
-  -- what was walked and put back
-  pub put-ends : (n : ℕ) (e : Walked) {f g : Walked} {env : List ℕ} → (g ≡ back img e.scope f) × Stands img g env → f ≡ inside img occurs n e → Ends img (back img e.scope (inside img occurs n e)) g env
-  put-ends n e (q, s) h = record { same = q ∙ ap (back img e.scope) h; stands = s }
-
-  -- the walk back in the scope of `current`
-  pub dropped-is : (r current after : InCode) (ws : List ℕ) → (r.scope ≡ current.scope) × (r.scopes ≡ after.scopes) × (r.symbols ≡ after.symbols)
-      → walked_of r ws ≡ back img current.scope.0 (walked_of after ws)
-  dropped-is r current after ws h = λ i. record { scope = (h.0 i).0; table = record { words = ws; scopes = h.1 i; symbols = h.2 i } }
+  -- what was walked and put back: the walk stands where it started
+  pub put-ends : (n : ℕ) (e : Walked) {f g : Walked} {env : List ℕ} → g ≡ back img e.scope f → Stands img g env → f ≡ inside img occurs n e → Ends img (dropped img n e) (back img e.scope g) env
+  put-ends n e {env = env} q s h = record { same = ap (back img e.scope) (q ∙ ap (back img e.scope) h); stands = subst (λ (k : Walked). Stands img k env) (q ∙ sym (ap (back img e.scope) q)) s }
 
   -- what stands at the end, told of a list that is done there
   pub stands-done : {e : Walked} {l : Listed} {env : List ℕ} → Stands img e env → done e ≡ l → (f : Walked) → l ≡ done f → Stands img f env
   stands-done {e} {l} {env} s q f d = subst (λ (k : Walked). Stands img k env) (done-same e f (q ∙ d)) s
 
   -- a walk that is done hands this back
-  pub done-visits : (n : ℕ) {e : Walked} {env vs : List ℕ} (w : InCode) → Fits img (size (tree_at img n)) (vis (tree_at img n)) e → done (walked_of w vs) ≡ visit img (tree_at img n) e
-      → Stands img (walked_of w vs) env → Visits img (visit img (tree_at img n) e) e.table.words (Done w) env vs
-  done-visits n {e} {env} {vs} w p q s =
-      let t = (visit-in img (tree_at img n) (tree-small img n) e).went (walked_of w vs) (sym q) in
+  pub done-visits : (n : ℕ) {e f : Walked} {env : List ℕ} → Fits img (size (tree_at img n)) (vis (tree_at img n)) e → done f ≡ visit img (tree_at img n) e
+      → Stands img f env → Visited img (visit img (tree_at img n) e) e.table.words (Ok tt) env f
+  done-visits n {e} {f} {env} p q s =
+      let t = (visit-in img (tree_at img n) (tree-small img n) e).went f (sym q) in
       let x = t.scopes in
       let y = t.symbols in
       let u = p.scopes in
       let v = p.symbols in
       record { same = q; stands = stands-done s q; passed = t.passed (record { scopes = omega arith; symbols = omega arith }) }
 
-  pub ended-visits : (n : ℕ) {e f : Walked} {env vs : List ℕ} (w : InCode) → Fits img (size (tree_at img n)) (vis (tree_at img n)) e → visit img (tree_at img n) e ≡ done f → Ends img f (walked_of w vs) env
-      → Visits img (visit img (tree_at img n) e) e.table.words (Done w) env vs
-  ended-visits n w p q h = done-visits n w p (ap done h.same ∙ sym q) h.stands
+  pub ended-visits : (n : ℕ) {e f g : Walked} {env : List ℕ} → Fits img (size (tree_at img n)) (vis (tree_at img n)) e → visit img (tree_at img n) e ≡ done f → Ends img f g env
+      → Visited img (visit img (tree_at img n) e) e.table.words (Ok tt) env g
+  ended-visits n p q h = done-visits n p (ap done h.same ∙ sym q) h.stands
 
   -- the same, told of another declaration, and from an earlier table
-  pub visits-from : {l k : Listed} {us ws env vs : List ℕ} {r : Declared} → l ≡ k → drop (table_length (nodes img)) us ≡ drop (table_length (nodes img)) ws
-      → Visits img l us r env vs → Visits img k ws r env vs
+  pub visits-from : {l k : Listed} {us ws env : List ℕ} {g : Walked} {r : Declared} → l ≡ k → drop (table_length (nodes img)) us ≡ drop (table_length (nodes img)) ws
+      → Visited img l us r env g → Visited img k ws r env g
   visits-from q p h = record { same = h.same ∙ q; stands = λ f d. h.stands f (q ∙ d); passed = h.passed ∙ p }
 
-  pub visits-as : {l k : Listed} {ws env vs : List ℕ} {r : Declared} → l ≡ k → Visits img l ws r env vs → Visits img k ws r env vs
+  pub visits-as : {l k : Listed} {ws env : List ℕ} {g : Walked} {r : Declared} → l ≡ k → Visited img l ws r env g → Visited img k ws r env g
   visits-as q h = visits-from q refl h
 
+  -- where a list went on, and where it stopped
+  pub visited-as : {l : Listed} {ws env : List ℕ} {g : Walked} {r : Declared} {a : Unit {0}} → r ≡ Ok a → Visited img l ws r env g → l ≡ done g
+  visited-as {g = g} d h = sym h.same ∙ ap (λ (o : Declared). listed_of o g) d
+
+  pub halted-as : {l : Listed} {ws env : List ℕ} {g : Walked} {r : Declared} (t : SymbolDeclaredTwice) → r ≡ Err t → Visited img l ws r env g → l ≡ twice t.name t.first.0 t.second.0
+  halted-as {g = g} t d h = sym h.same ∙ ap (λ (o : Declared). listed_of o g) d
+
   -- a name declared twice: nothing stands
-  pub visits-twice : {l : Listed} {ws env vs : List ℕ} (x : ℕ) (a b : NodeId) → l ≡ twice x a.0 b.0 → drop (table_length (nodes img)) vs ≡ drop (table_length (nodes img)) ws
-      → Visits img l ws (Twice x a b) env vs
-  visits-twice x a b q p = record { same = sym q; stands = λ f d. absurd (twice-done x a.0 b.0 f (sym q ∙ d)); passed = p }
+  pub visits-twice : {l : Listed} {ws env : List ℕ} {g : Walked} {o : Declared} (t : SymbolDeclaredTwice) → l ≡ twice t.name t.first.0 t.second.0 → o ≡ Err t
+      → drop (table_length (nodes img)) g.table.words ≡ drop (table_length (nodes img)) ws → Visited img l ws o env g
+  visits-twice {g = g} t q z p =
+      record { same = ap (λ (o : Declared). listed_of o g) z ∙ sym q; stands = λ f d. absurd (twice-done t.name t.first.0 t.second.0 f (sym q ∙ d)); passed = p }
 
   -- what is left of a list ---------------------------------------------------------------------------------------------------
   pub visit-start : (n j count : ℕ) (e : Walked) → visit_all img (items img n count j) e ≡ rest_visit img n j count 0 e
@@ -212,7 +212,6 @@ module _ (img : List ℕ) where
 
   pub record VisitLeft (env : List ℕ) (n j count i : ℕ) (e f : Walked) : Type 0 where
     pub within : i ≤ count
-    pub long : length f.table.words ≡ length e.table.words
     pub fits : Fits img (sizes (items img n (count - i) (j + i))) (viss (items img n (count - i) (j + i))) f
     pub passed : past img f.table ≡ past img e.table
     pub left : rest_visit img n j count 0 e ≡ rest_visit img n j count i f
@@ -220,14 +219,14 @@ module _ (img : List ℕ) where
 
   pub visit-begin : {env : List ℕ} {k n j count : ℕ} {e : Walked} → VisitRun img k n j count e → Stands img e env → VisitLeft env n j count 0 e e
   visit-begin {n = n} {j} {count} {e} p s =
-      record { within = omega arith; long = refl; fits = subst (λ (us : Trees). Fits img (sizes us) (viss us) e) (same-items img n j count) p.fits; passed = refl; left = refl; stands = s }
+      record { within = omega arith; fits = subst (λ (us : Trees). Fits img (sizes us) (viss us) e) (same-items img n j count) p.fits; passed = refl; left = refl; stands = s }
 
   pub record VisitItem (k n j count i c : ℕ) (e f : Walked) : Type 0 where
     pub low : c < n
     pub ready : Visit img (kind_of k) c f
-    pub more : {r : Declared} {en vs : List ℕ} (w : InCode) → r ≡ Done w → Visits img (visit img (tree_at img c) f) f.table.words r en vs → VisitLeft en n j count (i + 1) e (walked_of w vs)
-    pub stop : {r : Declared} {en vs : List ℕ} (x : ℕ) (a b : NodeId) → r ≡ Twice x a b → Visits img (visit img (tree_at img c) f) f.table.words r en vs
-        → Visits img (rest_visit img n j count 0 e) e.table.words (Twice x a b) en vs
+    pub more : {en : List ℕ} {g : Walked} {r : Declared} {a : Unit {0}} → r ≡ Ok a → Visited img (visit img (tree_at img c) f) f.table.words r en g → VisitLeft en n j count (i + 1) e g
+    pub stop : {en : List ℕ} {g : Walked} {r : Declared} (t : SymbolDeclaredTwice) → r ≡ Err t → Visited img (visit img (tree_at img c) f) f.table.words r en g
+        → {o : Declared} → o ≡ Err t → Visited img (rest_visit img n j count 0 e) e.table.words o en g
 
   pub visit_item : {env : List ℕ} {k n j count i c : ℕ} {e f : Walked} → VisitRun img k n j count e → VisitLeft env n j count i e f → i < count → c ≡ field img n (j + i) → VisitItem k n j count i c e f
   visit_item {k = k} {n} {j} {count} {i} {c} {e} {f} p b l q = subst (λ (x : ℕ). VisitItem k n j count i x e f) (sym q) item
@@ -240,17 +239,16 @@ module _ (img : List ℕ) where
           let s = sizes-more n j count i l in
           record { scopes = (let r = b.fits.scopes in omega arith); symbols = (let r = b.fits.symbols in omega arith); kept = b.fits.kept }
 
-      after : {r : Declared} {en vs : List ℕ} (w : InCode) → r ≡ Done w → Visits img (visit img (tree_at img m) f) f.table.words r en vs → VisitLeft en n j count (i + 1) e (walked_of w vs)
-      after {r} {en} {vs} w d h =
-          let g : visit img (tree_at img m) f ≡ done (walked_of w vs) = sym h.same ∙ ap (λ (o : Declared). listed_of o vs) d in
-          let t = (visit-in img (tree_at img m) (tree-small img m) f).went (walked_of w vs) g in
+      after : {en : List ℕ} {g : Walked} {r : Declared} {a : Unit {0}} → r ≡ Ok a → Visited img (visit img (tree_at img m) f) f.table.words r en g → VisitLeft en n j count (i + 1) e g
+      after {en} {g} d h =
+          let k = visited-as d h in
+          let t = (visit-in img (tree_at img m) (tree-small img m) f).went g k in
           record {
             within = omega arith;
-            long = t.long ∙ b.long;
             fits = fits_next img more-fits t;
             passed = h.passed ∙ b.passed;
-            left = b.left ∙ visit-more n j count i f l ∙ and-done img (walked_of w vs) (rest_visit img n j count (i + 1)) _ g;
-            stands = h.stands (walked_of w vs) g;
+            left = b.left ∙ visit-more n j count i f l ∙ and-done img g (rest_visit img n j count (i + 1)) _ k;
+            stands = h.stands g k;
           }
 
       h : Child img n k m × Is img (kind_of k) m
@@ -264,17 +262,15 @@ module _ (img : List ℕ) where
               is = h.1;
               fits = record { scopes = (let r = more-fits.scopes in omega arith); symbols = (let r = more-fits.symbols in omega arith); kept = b.fits.kept };
             };
-            more = λ {r} {en} {vs} w d h. after w d h;
-            stop = λ {r} {en} {vs} x a z d h.
-                let g : visit img (tree_at img m) f ≡ twice x a.0 z.0 = sym h.same ∙ ap (λ (o : Declared). listed_of o vs) d in
-                visits-twice x a z (b.left ∙ visit-more n j count i f l ∙ and-stop img x a.0 z.0 (rest_visit img n j count (i + 1)) _ g) (h.passed ∙ b.passed);
+            more = λ d h. after d h;
+            stop = λ t d h z. visits-twice t (b.left ∙ visit-more n j count i f l ∙ and-stop img t.name t.first.0 t.second.0 (rest_visit img n j count (i + 1)) _ (halted-as t d h)) z (h.passed ∙ b.passed);
           }
 
-  pub visit-ended : {env : List ℕ} {n j count i : ℕ} {e : Walked} {vs : List ℕ} (w : InCode) → VisitLeft env n j count i e (walked_of w vs) → count ≤ i
-      → Visits img (rest_visit img n j count 0 e) e.table.words (Done w) env vs
-  visit-ended {n = n} {j} {count} {i} {e} {vs} w b l =
-      let g = sym (b.left ∙ visit-end n j count i (walked_of w vs) l) in
-      record { same = g; stands = stands-done b.stands g; passed = b.passed }
+  pub visit-ended : {env : List ℕ} {n j count i : ℕ} {e g : Walked} → VisitLeft env n j count i e g → count ≤ i
+      → Visited img (rest_visit img n j count 0 e) e.table.words (Ok tt) env g
+  visit-ended {n = n} {j} {count} {i} {e} {g} b l =
+      let h = sym (b.left ∙ visit-end n j count i g l) in
+      record { same = h; stands = stands-done b.stands h; passed = b.passed }
 
   -- the list of an enum -----------------------------------------------------------------------------------------------------
   abbrev pub list_trees : ℕ → Trees
@@ -327,16 +323,16 @@ module _ (img : List ℕ) where
       }
 
   -- then its declarations
-  pub record ListVisit (env : List ℕ) (n j count : ℕ) (e : Walked) (us : List ℕ) (w : InCode) (ws : List ℕ) : Type 0 where
-    pub run : VisitRun img decl_kind n j count (walked_of w ws)
-    pub stands : Stands img (walked_of w ws) env
-    pub visits : {r : Declared} {en vs : List ℕ} → Visits img (rest_visit img n j count 0 (walked_of w ws)) ws r en vs → Visits img (over_list img n j count e) us r en vs
+  pub record ListVisit (env : List ℕ) (n j count : ℕ) (e : Walked) (us : List ℕ) (g : Walked) : Type 0 where
+    pub run : VisitRun img decl_kind n j count g
+    pub stands : Stands img g env
+    pub visits : {en : List ℕ} {h : Walked} {r : Declared} → Visited img (rest_visit img n j count 0 g) g.table.words r en h → Visited img (over_list img n j count e) us r en h
 
-  pub list_visit : {n j count : ℕ} {e : Walked} {seen env ws : List ℕ} {r : Declared} (w : InCode) → ListRun img n j count e → r ≡ Done w → Enters img (rest_enter img n j count 0 e) e.table.words r seen env ws
-      → ListVisit env n j count e e.table.words w ws
-  list_visit {n} {j} {count} {e} {seen} {env} {ws} {r} w p d h =
-      let g : rest_enter img n j count 0 e ≡ done (walked_of w ws) = sym h.same ∙ ap (λ (o : Declared). listed_of o ws) d in
-      let t = (enter_all-in img (items img n count j) (items-small img n count j) e).went (walked_of w ws) (enter-start img n j count e ∙ g) in
+  pub list_visit : {n j count : ℕ} {e g : Walked} {seen env : List ℕ} {r : Declared} {a : Unit {0}} → ListRun img n j count e → r ≡ Ok a → Entered img (rest_enter img n j count 0 e) e.table.words r seen env g
+      → ListVisit env n j count e e.table.words g
+  list_visit {n} {j} {count} {e} {g} p d h =
+      let k = entered-as img d h in
+      let t = (enter_all-in img (items img n count j) (items-small img n count j) e).went g (enter-start img n j count e ∙ k) in
       let x = t.scopes in
       let y = t.symbols in
       let u = p.fits.scopes in
@@ -346,15 +342,13 @@ module _ (img : List ℕ) where
           run = p.run;
           fits = record { scopes = omega arith; symbols = omega arith; kept = (t.keeps (record { scopes = omega arith; symbols = omega arith }) (record { kept = p.fits.kept; last = p.newest })).kept };
         };
-        stands = (h.opens (walked_of w ws) g).stands;
-        visits = λ k. visits-from (sym (and-done img (walked_of w ws) (rest_visit img n j count 0) _ g)) h.passed k;
+        stands = (h.opens g k).stands;
+        visits = λ v. visits-from (sym (and-done img g (rest_visit img n j count 0) _ k)) h.passed v;
       }
 
-  pub list-stop : (n j count : ℕ) (e : Walked) {us seen env ws : List ℕ} {r : Declared} (x : ℕ) (a b : NodeId) → r ≡ Twice x a b → Enters img (rest_enter img n j count 0 e) us r seen env ws
-      → Visits img (over_list img n j count e) us (Twice x a b) env ws
-  list-stop n j count e {us} {seen} {env} {ws} {r} x a b d h =
-      let g : rest_enter img n j count 0 e ≡ twice x a.0 b.0 = sym h.same ∙ ap (λ (o : Declared). listed_of o ws) d in
-      visits-twice x a b (and-stop img x a.0 b.0 (rest_visit img n j count 0) _ g) h.passed
+  pub list-stop : (n j count : ℕ) (e : Walked) {us seen env : List ℕ} {g : Walked} {r : Declared} (t : SymbolDeclaredTwice) → r ≡ Err t → Entered img (rest_enter img n j count 0 e) us r seen env g
+      → {o : Declared} → o ≡ Err t → Visited img (over_list img n j count e) us o env g
+  list-stop n j count e t d h z = visits-twice t (and-stop img t.name t.first.0 t.second.0 (rest_visit img n j count 0) _ (stopped-as img t d h)) z h.passed
 
   -- a Decl that is visited: what is asked of its declaration
   pub decl-fits : {k n d : ℕ} {e : Walked} → DeclOf img k n d → Fits img (size (tree_at img n)) (vis (tree_at img n)) e → Fits img (size (tree_at img d)) (vis (tree_at img d)) e

@@ -1,41 +1,42 @@
--- What the calls hand back: document 01's numbers and values for every case of the code's enums.
-use Rattle.std.specs.Prelude.{◌≡◌, List, ℕ}
-use Rattle.ast.specs.Answer.{Answer, refused, twice, result, other}
-use Rattle.table.specs.Values.{table_of}
+-- What the calls hand back: document 01's numbers and values for every case of the code's results.
+use Rattle.std.specs.Prelude.{◌≡◌, List, ℕ, Option, Some, None, Result, Ok, Err}
+use Rattle.ast.specs.Answer.{Answer, refused, result, other}
+use Rattle.error.specs.Refusals.{refusal_number, unresolved_answer}
+use Rattle.error.specs.declared.Refusal.{Refusal}
+use Rattle.error.specs.declared.SymbolDeclaredTwice.{SymbolDeclaredTwice}
+use Rattle.error.specs.declared.Unresolved.{Unresolved}
+use Rattle.table.specs.Table.{Table}
+use Rattle.table.specs.Values.{number_of}
 use Rattle.scopes.specs.Resolve.{Way, stops, fills, way, table_by}
-use Rattle.scopes.specs.declared.Declared.{Declared}
-use Rattle.scopes.specs.declared.Declared.TheVariants as declared
-use Rattle.scopes.specs.declared.Rowed.{Rowed}
-use Rattle.scopes.specs.declared.Rowed.TheVariants as rowed
 use Rattle.scopes.specs.declared.Looked.{Looked}
-use Rattle.scopes.specs.declared.Looked.TheVariants as looked
 use Rattle.scopes.specs.declared.Resolved.{Resolved}
-use Rattle.scopes.specs.declared.Resolved.TheVariants as resolved
 
--- Resolve: K and Y, or a name that is declared twice with its two nodes
-abbrev pub resolved_answer : Resolved → Answer
-resolved_answer (resolved.Refused number) = refused number
-resolved_answer (resolved.Twice name first second) = twice name first.0 second.0
-resolved_answer (resolved.Scopes k y) = result k y
+-- Resolve: K and Y, or why not
+abbrev pub resolved_answer : Result Resolved Unresolved → Answer
+resolved_answer (Ok r) = result r.scopes r.symbols
+resolved_answer (Err u) = unresolved_answer u
 
 -- Errors and Occurrences: the count of rows
-abbrev pub rowed_answer : Rowed → Answer
-rowed_answer (rowed.Refused number) = refused number
-rowed_answer (rowed.Twice name first second) = twice name first.0 second.0
-rowed_answer (rowed.Rows count) = result 0 count
+abbrev pub rowed_answer : Result ℕ Unresolved → Answer
+rowed_answer (Ok count) = result 0 count
+rowed_answer (Err u) = unresolved_answer u
+
+-- the table that resolving filled, by the words that it left
+abbrev pub table_of : Resolved → List ℕ → Table
+table_of r ws = record { words = ws; scopes = r.scopes; symbols = r.symbols }
 
 -- the way that a call goes where nothing refuses, by what resolving hands back to it and the words ws that it leaves
-abbrev pub declared_way : Declared → List ℕ → Way
-declared_way (declared.Done w) ws = fills (table_of w ws)
-declared_way (declared.Twice name first second) ws = stops name first.0 second.0
+abbrev pub resolved_way : Result Resolved SymbolDeclaredTwice → List ℕ → Way
+resolved_way (Ok r) ws = fills (table_of r ws)
+resolved_way (Err t) ws = stops t.name t.first.0 t.second.0
 
 -- what resolving hands back and leaves there
-pub record Resolves (img tab : List ℕ) (r : Declared) (ws : List ℕ) : Type 0 where
-  pub way_is : declared_way r ws ≡ way img tab 0
+pub record Resolves (img tab : List ℕ) (r : Result Resolved SymbolDeclaredTwice) (ws : List ℕ) : Type 0 where
+  pub way_is : resolved_way r ws ≡ way img tab 0
   pub table_is : ws ≡ table_by img tab (way img tab 0)
 
 -- Lookup: a symbol number with its node, or none
-abbrev pub looked_answer : Looked → Answer
-looked_answer (looked.Refused number) = refused number
-looked_answer (looked.At symbol node) = result symbol node.0
-looked_answer looked.Nothing = other 0 0
+abbrev pub looked_answer : Result (Option Looked) Refusal → Answer
+looked_answer (Ok (Some l)) = result (number_of l.symbol) l.node.0
+looked_answer (Ok None) = other 0 0
+looked_answer (Err r) = refused (refusal_number r)

@@ -1,6 +1,6 @@
 -- What the contracts of the functions over declaration lists say: what is left of a list, how many names it may add, the stamps
 -- of the names that a scope has, and what each function asks before it starts.
-use Rattle.std.specs.Prelude.{◌≡◌, Bool, true, false, List, ℕ, suc, ◌+◌, ◌-◌, ◌<◌, ◌≤◌, length, get_or, set, drop, replicate}
+use Rattle.std.specs.Prelude.{◌≡◌, Bool, true, false, List, ℕ, suc, ◌+◌, ◌-◌, ◌<◌, ◌≤◌, length, get_or, set, drop, replicate, Result, Ok, Err}
 use Rattle.ast.specs.Declarations.{declared, declared_all}
 use Rattle.ast.specs.Image.{nodes, kind_at, name_of}
 use Rattle.ast.specs.Is.{Is, Run}
@@ -10,28 +10,36 @@ use Rattle.ast.specs.Kinds.{outer, inner, root, decl, signature, rule, enum, mod
 use Rattle.ast.specs.Tests.{verdict}
 use Rattle.ast.specs.Tree.{Tree, node, block, Trees, none, ◌◂◌, tree_at, size, sizes}
 use Rattle.typed.specs.declared.nodes.NodeList.{NodeList}
+use Rattle.error.specs.declared.SymbolDeclaredTwice.{SymbolDeclaredTwice}
+use Rattle.table.specs.Kept.{Kept}
 use Rattle.table.specs.Layout.{table_length}
 use Rattle.table.specs.Rising.{scope_of, node_at}
-use Rattle.table.specs.State.{Walked}
-use Rattle.table.specs.Values.{table_of, walked_of}
+use Rattle.table.specs.State.{Walked, back}
+use Rattle.table.specs.declared.ScopeId.{ScopeId}
+use Rattle.environment.specs.Builder as Builder
+use Rattle.environment.specs.Builder.{walked_of}
 use Rattle.environment.specs.Layout.{environment_length}
 use Rattle.environment.specs.Stands.{Stands, Opens, Named, Noted}
+use Rattle.environment.specs.declared.ScopeBuilder.{ScopeBuilder}
 use Rattle.ordered.specs.Walk.{occurs}
 use Rattle.ordered.specs.Promises.{inside, Room}
-use Rattle.table.specs.Kept.{Kept}
+use Rattle.scopes.specs.Answers.{table_of}
 use Rattle.scopes.specs.Walk.{Listed, done, twice, recorded, and_then, enter_names, mark_all, enter_all, visit_all}
-use Rattle.scopes.specs.declared.Declared.{Declared}
-use Rattle.scopes.specs.declared.Declared.TheVariants.{Done, Twice}
+use Rattle.scopes.specs.declared.Resolved.{Resolved}
 
--- the code's value as the definition's; what stands in the table after a clash is not told
-abbrev pub listed_of : Declared → List ℕ → Listed
-listed_of (Done w) ws = done (walked_of w ws)
-listed_of (Twice x a b) ws = twice x a.0 b.0
+-- what a function over declarations hands back: nothing, or a name that is declared twice
+abbrev pub Declared : Type 0
+Declared = Result (Unit {0}) SymbolDeclaredTwice
+
+-- that as the definition's, with where the walk stands then; what stands in the table after a clash is not told
+abbrev pub listed_of : Declared → Walked → Listed
+listed_of (Ok _) e = done e
+listed_of (Err t) e = twice t.name t.first.0 t.second.0
 
 -- what was noted, where the module is done
-abbrev pub NotedBy : List ℕ → Declared → List ℕ → List ℕ → Type 0
-NotedBy img (Done w) ws env = Noted img (table_of w ws) env
-NotedBy img (Twice x a b) ws env = Unit {0}
+abbrev pub NotedBy : List ℕ → Result Resolved SymbolDeclaredTwice → List ℕ → List ℕ → Type 0
+NotedBy img (Ok r) ws env = Noted img (table_of r ws) env
+NotedBy img (Err t) ws env = Unit {0}
 
 -- how many symbols entering a declaration, or a list of them, may add
 abbrev pub ent : Tree → ℕ
@@ -77,12 +85,6 @@ module _ (img : List ℕ) where
   over_list n j count e = and_then img (rest_enter n j count 0 e) (rest_visit n j count 0)
 
   -- the same of the nodes of a list
-  abbrev pub enter_list : NodeList → Walked → Listed
-  enter_list l e = rest_enter l.node.0 l.first l.count 0 e
-
-  abbrev pub visit_list : NodeList → Walked → Listed
-  visit_list l e = rest_visit l.node.0 l.first l.count 0 e
-
   abbrev pub whole_list : NodeList → Walked → Listed
   whole_list l e = over_list l.node.0 l.first l.count e
 
@@ -101,24 +103,35 @@ module _ (img : List ℕ) where
     pub stamps : Seen seen e
     pub opens : Opens img e env
 
-  -- the name x of node n may be entered
-  pub record Naming (seen env : List ℕ) (x n : ℕ) (e : Walked) : Type 0 where
+  -- the name x of node n may be entered in the scope s
+  pub record Naming (seen : List ℕ) (x n : ℕ) (b : ScopeBuilder) (s : ScopeId) : Type 0 where
     pub name : Named img n x
-    pub entering : Entering seen env 1 e
+    pub entering : Entering seen b.env.now 1 (walked_of b s)
 
   -- what entering hands back: the definition's, with the stamps of what was entered and what names stand for then, and the words
   -- past the table as they were
-  pub record Enters (l : Listed) (ws : List ℕ) (r : Declared) (seen env vs : List ℕ) : Type 0 where
-    pub same : listed_of r vs ≡ l
+  pub record Entered (l : Listed) (ws : List ℕ) (r : Declared) (seen env : List ℕ) (e : Walked) : Type 0 where
+    pub same : listed_of r e ≡ l
     pub stamps : (f : Walked) → l ≡ done f → Seen seen f
     pub opens : (f : Walked) → l ≡ done f → Opens img f env
-    pub passed : drop (table_length (nodes img)) vs ≡ drop (table_length (nodes img)) ws
+    pub passed : drop (table_length (nodes img)) e.table.words ≡ drop (table_length (nodes img)) ws
 
   -- what visiting hands back
-  pub record Visits (l : Listed) (ws : List ℕ) (r : Declared) (env vs : List ℕ) : Type 0 where
-    pub same : listed_of r vs ≡ l
+  pub record Visited (l : Listed) (ws : List ℕ) (r : Declared) (env : List ℕ) (e : Walked) : Type 0 where
+    pub same : listed_of r e ≡ l
     pub stands : (f : Walked) → l ≡ done f → Stands img f env
-    pub passed : drop (table_length (nodes img)) vs ≡ drop (table_length (nodes img)) ws
+    pub passed : drop (table_length (nodes img)) e.table.words ≡ drop (table_length (nodes img)) ws
+
+  -- the same of the builder, from before to after: the walk stands in the scope s
+  abbrev pub Enters : (Walked → Listed) → ScopeBuilder → ScopeId → Declared → List ℕ → ScopeBuilder → Type 0
+  Enters f old s r seen new = Entered (f (walked_of old s)) old.table.now r seen new.env.now (walked_of new s)
+
+  abbrev pub Visits : (Walked → Listed) → ScopeBuilder → ScopeId → Declared → ScopeBuilder → Type 0
+  Visits f old s r new = Visited (f (walked_of old s)) old.table.now r new.env.now (walked_of new s)
+
+  -- what a declaration's trees add, dropped again
+  abbrev pub dropped : ℕ → Walked → Walked
+  dropped n e = back img e.scope (inside img occurs n e)
 
   -- a type, pred, func, const or constructor
   pub record Signature (n : ℕ) : Type 0 where
@@ -159,24 +172,30 @@ module _ (img : List ℕ) where
     pub newest : suc e.scope ≡ e.table.scopes
     pub fresh : (j : ℕ) → j < e.table.symbols → scope_of (nodes img) e.table.words j < e.scope
 
-  -- the same of the nodes of a list
-  abbrev pub EnterAll : List ℕ → List ℕ → ℕ → NodeList → Walked → Type 0
-  EnterAll seen env k l e = EnterRun seen env k l.node.0 l.first l.count e
+  -- what each function asks of the builder, where the walk stands in the scope s: one that enters a declaration
+  abbrev pub MayEnter : Kind → ℕ → List ℕ → ScopeBuilder → ScopeId → Type 0
+  MayEnter kd n seen b s = Is img kd n × Entering seen b.env.now (ent (tree_at img n)) (walked_of b s)
 
-  abbrev pub VisitAll : ℕ → NodeList → Walked → Type 0
-  VisitAll k l e = VisitRun k l.node.0 l.first l.count e
+  -- one that visits it, and one that walks the trees inside it
+  abbrev pub MayVisit : Kind → ℕ → ScopeBuilder → ScopeId → Type 0
+  MayVisit kd n b s = Visit kd n (walked_of b s) × Stands img (walked_of b s) b.env.now
 
-  abbrev pub WholeAll : NodeList → Walked → Type 0
-  WholeAll l e = ListRun l.node.0 l.first l.count e
+  abbrev pub MayWalkInside : Kind → ℕ → ScopeBuilder → ScopeId → Type 0
+  MayWalkInside kd n b s = Inside kd n (walked_of b s) × Stands img (walked_of b s) b.env.now
 
--- an accepted image, a table of enough words, all 0, and an environment of zeros
-pub record Lent (img ws env : List ℕ) : Type 0 where
+  -- and one that walks a whole list
+  abbrev pub MayWalkAll : NodeList → ScopeBuilder → ScopeId → Type 0
+  MayWalkAll l b s = ListRun l.node.0 l.first l.count (walked_of b s) × Opens img (walked_of b s) b.env.now
+
+-- an accepted image, and a builder with no scope and no symbol, of enough words, all 0, and an environment of zeros
+pub record Lent (img : List ℕ) (b : ScopeBuilder) : Type 0 where
   pub accepted : verdict img ≡ 0
-  pub long : table_length (nodes img) ≤ length ws
-  pub zeros : (i : ℕ) → i < table_length (nodes img) → get_or ws i 0 ≡ 0
-  pub blank : env ≡ replicate environment_length 0
+  pub long : table_length (nodes img) ≤ length b.table.now
+  pub zeros : (i : ℕ) → i < table_length (nodes img) → get_or b.table.now i 0 ≡ 0
+  pub blank : b.env.now ≡ replicate environment_length 0
+  pub starts : Builder.table_of b ≡ record { words = b.table.now; scopes = 0; symbols = 0 }
 
 -- a name stamped for a scope: whether it was not yet
 pub record Stamped (seen : List ℕ) (x s : ℕ) (r : Bool) (vs : List ℕ) : Type 0 where
   pub new : r ≡ true → (get_or seen x 0 ≡ suc s → ⊥) × (x < length seen) × (vs ≡ set seen x (suc s))
-  pub old : r ≡ false → (x < length seen → get_or seen x 0 ≡ suc s) × (vs ≡ seen)
+  pub old : r ≡ false → (get_or seen x 0 ≡ suc s) × (vs ≡ seen)

@@ -1,4 +1,4 @@
 pub mod Sorts
-pub mod Merges
+pub mod Placing
 pub mod Calls
 pub mod Fitting

@@ -1,38 +1,41 @@
 -- Laws of the test whether a table is sound, as code goes through it.
 use mathlib.Core.Path.{◌≡◌, refl, sym, ap, ap₂, ◌∙◌}
 use mathlib.Core.Bool.{Bool, true, false, ◌&&◌, ◌||◌}
+use mathlib.Core.Logic.{◌⊎◌, inl, inr}
 use mathlib.Core.List.{List}
 use Prim.Native.Nat.{ℕ, zero, suc, ◌+◌, ◌-◌, ◌<◌, ◌≤◌}
 use native.Mathlib.Omega.{arith}
+use native.Mathlib.Decide.{dec_lt}
 use lib.Dec.{leb, eqb}
 use lib.ListN.{get_or}
 use borrow.Author.Tests.{lt-ltb, le-ltb, le-leb, lt-leb, eq-eqb, ne_eqb}
+use Rattle.std.specs.List.{list_all, range_with_len}
 use Rattle.ast.specs.Image.{nodes, kind_at, field}
+use Rattle.ast.specs.KindNumbers.{kind_number}
+use Rattle.ast.specs.declared.kind.Kind.{Kind}
+use Rattle.ast.specs.declared.kind.Kind.TheVariants as kind
 use Rattle.ast.specs.Tests.{◌▸◌, need, run}
 use Rattle.ast.proofs.Accepted.{skip, stop}
 use Rattle.ast.proofs.Scans.{need-in, need-out}
 use Rattle.table.specs.Layout.{all_ones, nodes_place, parent_place, scope_place, node_place}
 use Rattle.sound.specs.Sound.{has_name, is_symbol, scopes_in, symbols_in, parent_below, row_sound, test_sound}
 
--- a run from b on: the whole is what is left of it after i tests
-module _ (f : ℕ → ℕ) (c b : ℕ) where
-  abbrev pub RunFrom : ℕ → Type 0
-  RunFrom i = run f c b ≡ run f (c - (i - b)) i
+-- tests that all give 16 where they fail, as one
+pub needs-run : (f : ℕ → ℕ) (test : ℕ → Bool) → ((i : ℕ) → f i ≡ need 16 (test i)) → (c i : ℕ) → need 16 (list_all test (range_with_len i c)) ≡ run f c i
+unfolding run need
+needs-run f test e zero i = refl
+needs-run f test e (suc c) i = go (test i) (e i) (needs-run f test e c (i + 1))
+  where
+    go : (b : Bool) → f i ≡ need 16 b → need 16 (list_all test (range_with_len (i + 1) c)) ≡ run f c (i + 1)
+        → need 16 (b && list_all test (range_with_len (i + 1) c)) ≡ f i ▸ run f c (i + 1)
+    go true q r = r ∙ sym (skip _ _ q)
+    go false q r = sym (stop _ _ 15 q)
 
-  pub from-begin : RunFrom b
-  from-begin = let z : c - (b - b) ≡ c = omega arith in rw z
-
-  pub from_next : (i : ℕ) → RunFrom i → b ≤ i → i < b + c → f i ≡ 0 → RunFrom (i + 1)
-  unfolding run
-  from_next i l k h e = let z : c - (i - b) ≡ suc (c - (i + 1 - b)) = omega arith in l ∙ rw (z, run) (skip _ _ e)
-
-  pub from-stop : (i k : ℕ) → RunFrom i → b ≤ i → i < b + c → f i ≡ suc k → run f c b ≡ suc k
-  unfolding run
-  from-stop i k l j h e = let z : c - (i - b) ≡ suc (c - (i + 1 - b)) = omega arith in l ∙ rw (z, run) (stop _ _ k e)
-
-  pub from_end : (i : ℕ) → RunFrom i → b + c ≤ i → run f c b ≡ 0
-  unfolding run
-  from_end i l h = let z : c - (i - b) ≡ 0 = omega arith in l ∙ rw (z, run)
+-- what a test says of a code that is 0 or 16
+pub needed : (b : Bool) (k : ℕ) → need 16 b ≡ k → b ≡ eqb k 0
+unfolding need
+needed true k e = rw (sym e) refl
+needed false k e = rw (sym e) refl
 
 module _ (img : List ℕ) where
   pub named-no : (n : ℕ) → field img n 0 ≡ 0 → has_name img n ≡ false
@@ -47,66 +50,164 @@ module _ (img : List ℕ) where
   unfolding is_symbol
   symbol-out n h = rw (le-ltb _ _ h, is_symbol)
 
+  -- what a kind's number says
+  abbrev by-number : ℕ → ℕ → Bool
+  by-number n k = elim (eqb k 6) [
+    | true ↦ has_name img n
+    | false ↦ elim (eqb k 10) [
+      | true ↦ has_name img n
+      | false ↦ (leb 2 k && leb k 9) || eqb k 13
+    ]
+  ]
+
   module _ (n : ℕ) (below : n < nodes img) where
-    pub symbol-rule : kind_at img n ≡ 6 → is_symbol img n ≡ has_name img n
+    by-kind : (k : ℕ) → k ≡ kind_at img n → is_symbol img n ≡ by-number n k
     unfolding is_symbol
-    symbol-rule h = rw (lt-ltb _ _ below, eq-eqb _ _ h, is_symbol)
+    by-kind k e = rw (lt-ltb _ _ below, e, is_symbol)
+
+    pub symbol-rule : kind_at img n ≡ 6 → is_symbol img n ≡ has_name img n
+    symbol-rule h = by-kind 6 (sym h)
 
     pub symbol-arg : kind_at img n ≡ 10 → is_symbol img n ≡ has_name img n
-    unfolding is_symbol
-    symbol-arg h = rw (lt-ltb _ _ below, h, is_symbol) (rw (eq-eqb _ _ h))
+    symbol-arg h = by-kind 10 (sym h)
 
-    module _ (not-rule : kind_at img n ≡ 6 → ⊥) (not-arg : kind_at img n ≡ 10 → ⊥) where
-      others : is_symbol img n ≡ ((leb 2 (kind_at img n) && leb (kind_at img n) 9) || eqb (kind_at img n) 13)
-      unfolding is_symbol
-      others = rw (lt-ltb _ _ below, ne_eqb _ _ not-rule, ne_eqb _ _ not-arg, is_symbol)
+    pub symbol-var : kind_at img n ≡ 13 → is_symbol img n ≡ true
+    symbol-var h = by-kind 13 (sym h)
 
-      pub symbol-var : kind_at img n ≡ 13 → is_symbol img n ≡ true
-      symbol-var h = others ∙ rw h
+    module _ (not-rule : kind_at img n ≡ 6 → ⊥) (not-arg : kind_at img n ≡ 10 → ⊥) (not-var : kind_at img n ≡ 13 → ⊥) where
+      others : is_symbol img n ≡ ((leb 2 (kind_at img n) && leb (kind_at img n) 9) || false)
+      others = by-kind _ refl ∙ rw (ne_eqb _ _ not-rule, by-number) (rw (ne_eqb _ _ not-arg) (rw (ne_eqb _ _ not-var)))
 
-      pub symbol_low : (kind_at img n ≡ 13 → ⊥) → kind_at img n < 2 → is_symbol img n ≡ false
-      symbol_low v h = others ∙ rw (ne_eqb _ _ v, lt-leb _ _ h)
+      pub symbol_low : kind_at img n < 2 → is_symbol img n ≡ false
+      symbol_low h = others ∙ rw (lt-leb _ _ h)
 
-      pub symbol-decl : (kind_at img n ≡ 13 → ⊥) → 2 ≤ kind_at img n → is_symbol img n ≡ leb (kind_at img n) 9
-      symbol-decl v h = others ∙ rw (ne_eqb _ _ v, le-leb _ _ h) (go (leb (kind_at img n) 9))
+      pub symbol-decl : 2 ≤ kind_at img n → is_symbol img n ≡ leb (kind_at img n) 9
+      symbol-decl h = others ∙ rw (le-leb _ _ h) (go (leb (kind_at img n) 9))
         where
           go : (b : Bool) → (b || false) ≡ b
           go true = refl
           go false = refl
 
-module _ (img ws : List ℕ) where
-  pub parent-high : (s p : ℕ) → p ≡ get_or ws (parent_place (nodes img) s) 0 → s ≤ p → parent_below img ws s ≡ 16
-  unfolding parent_below
-  parent-high s p e h = need-out 16 _ (le-ltb _ _ (let z : s ≤ get_or ws (parent_place (nodes img) s) 0 = omega arith in z))
+    module _ (k : Kind) (e : kind_number k ≡ kind_at img n) where
+      pub symbol-named : (k ≡ kind.RuleDecl) ⊎ (k ≡ kind.ArgDecl) → is_symbol img n ≡ has_name img n
+      symbol-named (inl h) = by-kind _ e ∙ rw h
+      symbol-named (inr h) = by-kind _ e ∙ rw h
 
+      pub symbol-yes : (k ≡ kind.TypeDecl) ⊎ (k ≡ kind.PredDecl) ⊎ (k ≡ kind.FuncDecl) ⊎ (k ≡ kind.ConstDecl) ⊎ (k ≡ kind.EnumDecl) ⊎ (k ≡ kind.ModelDecl) ⊎ (k ≡ kind.CtorDecl) ⊎ (k ≡ kind.IdentTerm)
+          → is_symbol img n ≡ true
+      symbol-yes (inl h) = by-kind _ e ∙ rw h
+      symbol-yes (inr (inl h)) = by-kind _ e ∙ rw h
+      symbol-yes (inr (inr (inl h))) = by-kind _ e ∙ rw h
+      symbol-yes (inr (inr (inr (inl h)))) = by-kind _ e ∙ rw h
+      symbol-yes (inr (inr (inr (inr (inl h))))) = by-kind _ e ∙ rw h
+      symbol-yes (inr (inr (inr (inr (inr (inl h)))))) = by-kind _ e ∙ rw h
+      symbol-yes (inr (inr (inr (inr (inr (inr (inl h))))))) = by-kind _ e ∙ rw h
+      symbol-yes (inr (inr (inr (inr (inr (inr (inr h))))))) = by-kind _ e ∙ rw h
+
+    -- a kind that is none of them
+    pub record Other (k : Kind) : Type 0 where
+      pub not-TypeDecl : k ≡ kind.TypeDecl → ⊥
+      pub not-PredDecl : k ≡ kind.PredDecl → ⊥
+      pub not-FuncDecl : k ≡ kind.FuncDecl → ⊥
+      pub not-ConstDecl : k ≡ kind.ConstDecl → ⊥
+      pub not-RuleDecl : k ≡ kind.RuleDecl → ⊥
+      pub not-EnumDecl : k ≡ kind.EnumDecl → ⊥
+      pub not-ModelDecl : k ≡ kind.ModelDecl → ⊥
+      pub not-CtorDecl : k ≡ kind.CtorDecl → ⊥
+      pub not-ArgDecl : k ≡ kind.ArgDecl → ⊥
+      pub not-IdentTerm : k ≡ kind.IdentTerm → ⊥
+
+    other : (k : Kind) → Other k → by-number n (kind_number k) ≡ false
+    other kind.Module o = refl
+    other kind.Decl o = refl
+    other kind.TypeDecl o = absurd (o.not-TypeDecl refl)
+    other kind.PredDecl o = absurd (o.not-PredDecl refl)
+    other kind.FuncDecl o = absurd (o.not-FuncDecl refl)
+    other kind.ConstDecl o = absurd (o.not-ConstDecl refl)
+    other kind.RuleDecl o = absurd (o.not-RuleDecl refl)
+    other kind.EnumDecl o = absurd (o.not-EnumDecl refl)
+    other kind.ModelDecl o = absurd (o.not-ModelDecl refl)
+    other kind.CtorDecl o = absurd (o.not-CtorDecl refl)
+    other kind.ArgDecl o = absurd (o.not-ArgDecl refl)
+    other kind.ArgDeclList o = refl
+    other kind.Term o = refl
+    other kind.IdentTerm o = absurd (o.not-IdentTerm refl)
+    other kind.AppTerm o = refl
+    other kind.AppHead o = refl
+    other kind.AppHeadMember o = refl
+    other kind.TermMember o = refl
+    other kind.DomTerm o = refl
+    other kind.CodTerm o = refl
+    other kind.IdTerm o = refl
+    other kind.CompTerm o = refl
+    other kind.TermList o = refl
+    other kind.TypeExpr o = refl
+    other kind.AmbientTypeExpr o = refl
+    other kind.MorTypeExpr o = refl
+    other kind.PredExpr o = refl
+    other kind.AmbientPredExpr o = refl
+    other kind.IfAtom o = refl
+    other kind.ThenAtom o = refl
+    other kind.EqualAtom o = refl
+    other kind.PredAtom o = refl
+    other kind.DefinedIfAtom o = refl
+    other kind.VarIfAtom o = refl
+    other kind.DefinedThenAtom o = refl
+    other kind.MatchCase o = refl
+    other kind.Stmt o = refl
+    other kind.IfStmt o = refl
+    other kind.ThenStmt o = refl
+    other kind.BranchStmt o = refl
+    other kind.MatchStmt o = refl
+
+    pub symbol-no : (k : Kind) → kind_number k ≡ kind_at img n → Other k → is_symbol img n ≡ false
+    symbol-no k e o = by-kind _ e ∙ other k o
+
+    pub symbol-unknown : (k : ℕ) → k ≡ kind_at img n → 40 < k → is_symbol img n ≡ false
+    symbol-unknown k e h = symbol-decl (λ z. omega arith) (λ z. omega arith) (λ z. omega arith) (omega arith) ∙ lt-leb _ _ (omega arith)
+
+module _ (img ws : List ℕ) where
   pub parent-low : (s p : ℕ) → p ≡ get_or ws (parent_place (nodes img) s) 0 → p < s → parent_below img ws s ≡ 0
   unfolding parent_below
   parent-low s p e h = need-in 16 _ (lt-ltb _ _ (let z : get_or ws (parent_place (nodes img) s) 0 < s = omega arith in z))
 
-  module _ (j s k : ℕ) (scope : s ≡ get_or ws (scope_place (nodes img) j) 0) (count : k ≡ scopes_in img ws) where
-    pub row-high : k ≤ s → row_sound img ws j ≡ 16
-    unfolding row_sound
-    row-high h = stop _ _ 15 (need-out 16 _ (le-ltb _ _ (let z : scopes_in img ws ≤ get_or ws (scope_place (nodes img) j) 0 = omega arith in z)))
+  pub row_out : (j : ℕ) → scopes_in img ws ≤ get_or ws (scope_place (nodes img) j) 0 → row_sound img ws j ≡ 16
+  unfolding row_sound
+  row_out j h = stop _ _ 15 (need-out 16 _ (le-ltb _ _ h))
 
-    row_low : s < k → row_sound img ws j ≡ need 16 (is_symbol img (get_or ws (node_place (nodes img) j) 0))
-    unfolding row_sound
-    row_low h = skip _ _ (need-in 16 _ (lt-ltb _ _ (let z : get_or ws (scope_place (nodes img) j) 0 < scopes_in img ws = omega arith in z)))
+  pub row_in : (j : ℕ) → get_or ws (scope_place (nodes img) j) 0 < scopes_in img ws → row_sound img ws j ≡ need 16 (is_symbol img (get_or ws (node_place (nodes img) j) 0))
+  unfolding row_sound
+  row_in j h = skip _ _ (need-in 16 _ (lt-ltb _ _ h))
 
-    pub row-yes : (n : ℕ) → n ≡ get_or ws (node_place (nodes img) j) 0 → s < k → is_symbol img n ≡ true → row_sound img ws j ≡ 0
-    row-yes n e h q = row_low h ∙ need-in 16 _ (ap (is_symbol img) (sym e) ∙ q)
+  pub row-yes : (j s k : ℕ) → s ≡ get_or ws (scope_place (nodes img) j) 0 → k ≡ scopes_in img ws → (n : ℕ) → n ≡ get_or ws (node_place (nodes img) j) 0 → s < k → is_symbol img n ≡ true → row_sound img ws j ≡ 0
+  row-yes j s k scope count n e h q = row_in j (omega arith) ∙ need-in 16 _ (ap (is_symbol img) (sym e) ∙ q)
 
-    pub row-no : (n : ℕ) → n ≡ get_or ws (node_place (nodes img) j) 0 → s < k → is_symbol img n ≡ false → row_sound img ws j ≡ 16
-    row-no n e h q = row_low h ∙ need-out 16 _ (ap (is_symbol img) (sym e) ∙ q)
+  pub row-need : (j : ℕ) → row_sound img ws j ≡ need 16 (eqb (row_sound img ws j) 0)
+  unfolding need
+  row-need j = go (dec_lt (get_or ws (scope_place (nodes img) j) 0) (scopes_in img ws)) (is_symbol img (get_or ws (node_place (nodes img) j) 0)) refl
+    where
+      go : Dec (get_or ws (scope_place (nodes img) j) 0 < scopes_in img ws) → (b : Bool) → is_symbol img (get_or ws (node_place (nodes img) j) 0) ≡ b
+          → row_sound img ws j ≡ need 16 (eqb (row_sound img ws j) 0)
+      go (no h) b e = rw (row_out j (omega arith))
+      go (yes h) true e = rw (row_in j h, e)
+      go (yes h) false e = rw (row_in j h, e)
 
-  -- the whole test, stage by stage, by what the code has read: N, the first word, K and Y
-  module _ (n f k y : ℕ) (nodes_are : n ≡ nodes img) (first-is : f ≡ get_or ws nodes_place 0) (scopes-are : k ≡ scopes_in img ws) (symbols-are : y ≡ symbols_in img ws) where
+  -- what the code has read: N, the first word, K and Y
+  pub record Read (n f k y : ℕ) : Type 0 where
+    pub nodes_are : n ≡ nodes img
+    pub first-is : f ≡ get_or ws nodes_place 0
+    pub scopes-are : k ≡ scopes_in img ws
+    pub symbols-are : y ≡ symbols_in img ws
+
+  -- the whole test, stage by stage
+  module _ {n f k y : ℕ} (r : Read n f k y) where
     pub sound-nodes : (f ≡ n → ⊥) → test_sound img ws ≡ 16
     unfolding test_sound
-    sound-nodes h = stop _ _ 15 (need-out 16 _ (ne_eqb _ _ (λ e. h (first-is ∙ e ∙ sym nodes_are))))
+    sound-nodes h = stop _ _ 15 (need-out 16 _ (ne_eqb _ _ (λ e. h (r.first-is ∙ e ∙ sym r.nodes_are))))
 
     module _ (first : f ≡ n) where
       as_first : need 16 (eqb (get_or ws nodes_place 0) (nodes img)) ≡ 0
-      as_first = need-in 16 _ (eq-eqb _ _ (sym first-is ∙ first ∙ nodes_are))
+      as_first = need-in 16 _ (eq-eqb _ _ (sym r.first-is ∙ first ∙ r.nodes_are))
 
       pub sound_none : k ≡ 0 → test_sound img ws ≡ 16
       unfolding test_sound
@@ -134,15 +235,26 @@ module _ (img ws : List ℕ) where
             as-fewer : need 16 (leb (symbols_in img ws) (nodes img)) ≡ 0
             as-fewer = need-in 16 _ (le-leb _ _ (let z : symbols_in img ws ≤ nodes img = omega arith in z))
 
-            pub sound-root : (get_or ws (parent_place (nodes img) 0) 0 ≡ all_ones → ⊥) → test_sound img ws ≡ 16
-            unfolding test_sound
-            sound-root h = skip _ _ as_first ∙ skip _ _ as_some ∙ skip _ _ as-few ∙ skip _ _ as-fewer ∙ stop _ _ 15 (need-out 16 _ (ne_eqb _ _ h))
-
             pub sound-rest : get_or ws (parent_place (nodes img) 0) 0 ≡ all_ones → test_sound img ws ≡ (run (parent_below img ws) (k - 1) 1 ▸ run (row_sound img ws) y 0)
             unfolding test_sound
             sound-rest h =
                 skip _ _ as_first ∙ skip _ _ as_some ∙ skip _ _ as-few ∙ skip _ _ as-fewer ∙ skip _ _ (need-in 16 _ (eq-eqb _ _ h))
-                ∙ ap₂ (λ a b. run (parent_below img ws) (a - 1) 1 ▸ run (row_sound img ws) b 0) (sym scopes-are) (sym symbols-are)
+                ∙ ap₂ (λ a b. run (parent_below img ws) (a - 1) 1 ▸ run (row_sound img ws) b 0) (sym r.scopes-are) (sym r.symbols-are)
+
+            module _ (p : ℕ) (parent-is : p ≡ get_or ws (parent_place (nodes img) 0) 0) where
+              pub sound-root : (p ≡ all_ones → ⊥) → test_sound img ws ≡ 16
+              unfolding test_sound
+              sound-root h = skip _ _ as_first ∙ skip _ _ as_some ∙ skip _ _ as-few ∙ skip _ _ as-fewer ∙ stop _ _ 15 (need-out 16 _ (ne_eqb _ _ (λ e. h (parent-is ∙ e))))
+
+              module _ (root : p ≡ all_ones) (b : Bool) (parents-are : need 16 b ≡ run (parent_below img ws) (k - 1) 1) where
+                rest : test_sound img ws ≡ (need 16 b ▸ run (row_sound img ws) y 0)
+                rest = sound-rest (sym parent-is ∙ root) ∙ ap (λ a. a ▸ run (row_sound img ws) y 0) (sym parents-are)
+
+                pub sound-parents : b ≡ false → test_sound img ws ≡ 16
+                sound-parents h = rest ∙ stop _ _ 15 (need-out 16 b h)
+
+                pub sound-rows : b ≡ true → (c : Bool) → need 16 c ≡ run (row_sound img ws) y 0 → test_sound img ws ≡ need 16 c
+                sound-rows h c e = rest ∙ skip _ _ (need-in 16 b h) ∙ sym e
 
 pub halt : (a b : ℕ) → (a ≡ 0 → ⊥) → a ▸ b ≡ a
 unfolding ◌▸◌

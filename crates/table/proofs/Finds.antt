@@ -9,10 +9,11 @@ use native.Mathlib.Omega.{arith}
 use lib.Dec.{ltb, eqb}
 use borrow.Author.Tests.{ltb-true, lt-ltb, le-ltb, eq-eqb, ne_eqb}
 use Rattle.ast.specs.Declarations.{or_else}
-use Rattle.ast.specs.Image.{nodes, kind_at, name_of}
+use Rattle.ast.specs.Image.{nodes, name_of}
+use Rattle.ast.specs.Named.{const_decl_kind}
 use Rattle.ast.proofs.Shapes.{one_more}
 use Rattle.table.specs.Rising.{scope_of, node_at, parent_at}
-use Rattle.table.specs.Table.{row_is, find_from, climb, is_kind, is_value}
+use Rattle.table.specs.Table.{row_is, find_from, climb, is_kind, is_var, is_value}
 
 -- o, or else what climbing on gives, where b
 unfoldable pub or_climb : Option ℕ → Bool → Option ℕ → Option ℕ
@@ -25,17 +26,13 @@ or_climb-same none true u v h = h refl
 or_climb-same none false u v h = refl
 
 module _ (img : List ℕ) where
-  pub value-var : (n : ℕ) → kind_at img n ≡ 13 → is_value img (some n) ≡ true
-  unfolding is_value is_kind
-  value-var n h = rw (h, is_value)
+  pub value-var : (o : Option ℕ) → is_var img o ≡ true → is_value img o ≡ true
+  unfolding is_value
+  value-var o h = rw (h, is_value)
 
-  pub value-other : (n : ℕ) → (kind_at img n ≡ 13 → ⊥) → is_value img (some n) ≡ eqb (kind_at img n) 5
-  unfolding is_value is_kind
-  value-other n h = rw (ne_eqb _ _ h, is_value)
-
-  pub value_none : is_value img none ≡ false
-  unfolding is_value is_kind
-  value_none = refl
+  pub value-other : (o : Option ℕ) → is_var img o ≡ false → is_value img o ≡ is_kind img const_decl_kind o
+  unfolding is_value
+  value-other o h = rw (h, is_value)
 
 module _ (img ws : List ℕ) where
   -- row j, if it is of the scope and the name

@@ -18,6 +18,10 @@ pub record Table : Type 0 where
 unfoldable pub symbol_of : ℕ → ℕ
 symbol_of k = get_or (0 ∷ 0 ∷ 0 ∷ 1 ∷ 2 ∷ 3 ∷ 7 ∷ 4 ∷ 6 ∷ 5 ∷ 8 ∷ 0 ∷ 0 ∷ 9 ∷ []) k 0
 
+-- a kind whose nodes are symbols
+unfoldable pub declares : ℕ → Bool
+declares k = get_or (false ∷ false ∷ true ∷ true ∷ true ∷ true ∷ true ∷ true ∷ true ∷ true ∷ true ∷ false ∷ false ∷ true ∷ []) k false
+
 module _ (img : List ℕ) where
   abbrev pub N : ℕ
   N = nodes img

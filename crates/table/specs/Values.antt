@@ -1,22 +1,43 @@
 -- The code's values as those of the definitions.
-use Rattle.std.specs.Prelude.{List, ℕ}
+use Rattle.std.specs.Prelude.{Bool, ℕ, Option as Given, Some, None}
+use Rattle.std.proofs.Math.Bool.{true, false}
 use Rattle.std.proofs.Math.Option.{Option, none, some}
-use Rattle.table.specs.Table.{Table}
-use Rattle.table.specs.State.{Walked}
-use Rattle.table.specs.declared.Walked.{Walked as InCode}
-use Rattle.table.specs.declared.Found.{Found}
-use Rattle.table.specs.declared.Found.TheVariants.{At, Nothing}
+use Rattle.ast.specs.declared.NodeId.{NodeId}
+use Rattle.table.specs.Layout.{entries, exits, parents, symbol_scopes, symbol_nodes}
+use Rattle.table.specs.declared.Array.{Array}
+use Rattle.table.specs.declared.Array.TheVariants.{Entries, Exits, Parents, SymbolScopes, SymbolNodes}
+use Rattle.table.specs.declared.Symbol.{Symbol}
+use Rattle.table.specs.declared.Symbol.TheVariants as case
 
-abbrev pub table_of : InCode → List ℕ → Table
-table_of w ws = record { words = ws; scopes = w.scopes; symbols = w.symbols }
+abbrev pub option_of : Given NodeId → Option ℕ
+option_of (Some n) = some n.0
+option_of None = none
 
--- a table as lookup reads it: the words and the count of symbols
-abbrev pub sought : List ℕ → ℕ → Table
-sought ws y = record { words = ws; scopes = 0; symbols = y }
+-- an array's rank
+abbrev pub rank_of : Array → ℕ
+rank_of Entries = entries
+rank_of Exits = exits
+rank_of Parents = parents
+rank_of SymbolScopes = symbol_scopes
+rank_of SymbolNodes = symbol_nodes
 
-abbrev pub walked_of : InCode → List ℕ → Walked
-walked_of w ws = record { scope = w.scope.0; table = table_of w ws }
+-- a symbol's number, as the cases go
+abbrev pub number_of : Symbol → ℕ
+number_of case.Type = 0
+number_of case.Pred = 1
+number_of case.Func = 2
+number_of case.Const = 3
+number_of case.Enum = 4
+number_of case.Ctor = 5
+number_of case.Model = 6
+number_of case.Rule = 7
+number_of case.Arg = 8
+number_of case.Var = 9
 
-abbrev pub option_of : Found → Option ℕ
-option_of (At n) = some n.0
-option_of Nothing = none
+abbrev pub number_or_zero : Given Symbol → ℕ
+number_or_zero (Some s) = number_of s
+number_or_zero None = 0
+
+abbrev pub is_symbol : Given Symbol → Bool
+is_symbol (Some s) = true
+is_symbol None = false

@@ -1,4 +1,4 @@
-// The lent table: its words, the steps that a walk makes on it, find in one scope, and lookup by climbing.
+// The lent table: its words, find in one scope, and lookup by climbing. Image and table go as two, since C lends them so.
 #![tactic(auto)]
 
 ghost use Rattle.std.specs.Prelude.{◌≡◌, suc, ◌+◌, ◌<◌, ◌^◌, get_or, set};
@@ -6,26 +6,31 @@ ghost use Rattle.ast.specs.Image as ImageSpec;
 ghost use Rattle.table.specs.Layout as LayoutSpec;
 ghost use Rattle.table.specs.Layout.{parent_place, scope_place, node_place, arrays, table_length};
 ghost use Rattle.table.specs.Table as TableSpec;
-ghost use Rattle.table.specs.State.{child_scope, own_symbol, introduce, marked, unmarked};
-ghost use Rattle.table.specs.Values.{walked_of, option_of};
+ghost use Rattle.table.specs.Values.{option_of, rank_of, number_of, number_or_zero, is_symbol};
 
-use ast::{NodeId, kinds};
+use ast::NodeId;
+use ast::kind::Kind;
 
-#[derive(Clone, Copy, Drop)]
+#[derive(Clone, Copy, Debug, PartialEq, Eq)]
 pub struct ScopeId(pub u32);
 
-// Where a walk stands: its scope, and how many scopes and symbols the table has.
-#[derive(Clone, Copy, Drop)]
-pub struct Walked {
-    pub scopes: u32,
-    pub symbols: u32,
-    pub scope: ScopeId,
-}
+// The word for no scope, as the parent of the first has it, and the places of an AppHeadMember: C reads it so, since the table's words
+// have room for no Option.
+pub const NO_SCOPE: ScopeId = ScopeId(4294967295);
 
-#[derive(Clone, Copy, Drop)]
-pub enum Found {
-    At(NodeId),
-    Nothing,
+// What a symbol declares: the cases of the Rust's Symbol, without the nodes that they carry there.
+#[derive(Clone, Copy, Debug, PartialEq, Eq)]
+pub enum Symbol {
+    Type,
+    Pred,
+    Func,
+    Const,
+    Enum,
+    Ctor,
+    Model,
+    Rule,
+    Arg,
+    Var,
 }
 
 // The layout, as specs/Layout has it: the places of N, K and Y, and how many such counts there are.
@@ -37,34 +42,43 @@ pub const SYMBOLS_PLACE: usize = 2;
 
 pub const COUNTS: usize = 3;
 
-// The arrays by their ranks, and how many there are.
-const ENTRIES: usize = 0;
-
-const EXITS: usize = 1;
-
-const PARENTS: usize = 2;
-
-const SYMBOL_SCOPES: usize = 3;
-
-const SYMBOL_NODES: usize = 4;
-
 pub const ARRAYS: usize = 5;
 
+// The arrays: a node's entry and exit, a scope's parent, a symbol's scope and node.
+#[derive(Clone, Copy, Debug, PartialEq, Eq)]
+pub enum Array {
+    Entries,
+    Exits,
+    Parents,
+    SymbolScopes,
+    SymbolNodes,
+}
+
+impl Array {
+    // How many arrays stand before it.
+    fn rank(self) -> usize
+        ensures is { result ≡ rank_of self }
+        ensures few { result < arrays }
+    {
+        self as usize
+    }
+}
+
 // The place of the i-th word of an array, in the table of an image of n nodes.
-fn place(array: usize, n: u32, i: u32) -> usize
-    requires { array < arrays }
-    ensures { result ≡ LayoutSpec.place array n i }
+pub fn place(array: Array, n: u32, i: u32) -> usize
+    ensures { result ≡ LayoutSpec.place (rank_of array) n i }
 {
-    COUNTS + array * ast::wide(n) + ast::wide(i)
+    COUNTS + array.rank() * n as usize + i as usize
 }
 
 // How many words a table needs for an image of n nodes.
 pub fn words_for(n: u32) -> usize
     ensures { result ≡ table_length n }
 {
-    COUNTS + ARRAYS * ast::wide(n)
+    COUNTS + ARRAYS * n as usize
 }
 
+// The word at a place; 0 where there is none, as ast::word.
 pub fn get(table: &[u32], i: usize) -> u32
     ensures { result ≡ get_or table.now i 0 }
 {
@@ -79,74 +93,9 @@ pub fn put(table: &mut [u32], i: usize, value: u32)
     }
 }
 
-pub fn insert_ordered(image: &[u8], table: &mut [u32], node: NodeId, entry: ScopeId, exit: ScopeId)
-    ensures { table.new ≡ TableSpec.mark_words image.now node.0 entry.0 exit.0 table.old }
-{
-    let n = ast::node_count(image);
-    put(table, place(ENTRIES, n, node.0), entry.0);
-    put(table, place(EXITS, n, node.0), exit.0);
-}
-
-// A new scope, whose parent is the one that the walk stands in.
-pub fn new_scope(image: &[u8], table: &mut [u32], at: Walked) -> Walked
-    requires { at.scopes + 1 < 2 ^ 32 }
-    ensures { walked_of result table.new ≡ child_scope image.now (walked_of at table.old) }
-{
-    let n = ast::node_count(image);
-    put(table, place(PARENTS, n, at.scopes), at.scope.0);
-    Walked {
-        scope: ScopeId(at.scopes),
-        scopes: at.scopes + 1,
-        symbols: at.symbols,
-    }
-}
-
-// The node as a symbol of the scope that the walk stands in.
-pub fn insert_symbol(image: &[u8], table: &mut [u32], at: Walked, node: NodeId) -> Walked
-    requires { at.symbols + 1 < 2 ^ 32 }
-    ensures { walked_of result table.new ≡ own_symbol image.now node.0 (walked_of at table.old) }
-{
-    let n = ast::node_count(image);
-    put(table, place(SYMBOL_SCOPES, n, at.symbols), at.scope.0);
-    put(table, place(SYMBOL_NODES, n, at.symbols), node.0);
-    let scope = at.scope;
-    Walked {
-        scope,
-        scopes: at.scopes,
-        symbols: at.symbols + 1,
-    }
-}
-
-pub fn insert_var_symbol(image: &[u8], table: &mut [u32], at: Walked, ident: NodeId) -> Walked
-    requires { (at.scopes + 1 < 2 ^ 32) × (at.symbols + 1 < 2 ^ 32) }
-    ensures { walked_of result table.new ≡ introduce image.now ident.0 (walked_of at table.old) }
-{
-    let inner = new_scope(image, table, at);
-    insert_symbol(image, table, inner, ident)
-}
-
-// The node left: its entry scope is the one of `at`, its exit the one of `w`.
-pub fn leave(image: &[u8], table: &mut [u32], node: NodeId, at: Walked, w: Walked) -> Walked
-    ensures { walked_of result table.new ≡ marked image.now node.0 at.scope.0 (walked_of w table.old) }
-{
-    let entry = at.scope;
-    let exit = w.scope;
-    insert_ordered(image, table, node, entry, exit);
-    w
-}
-
-// The node left as an AppHeadMember is: all ones in both places.
-pub fn leave_bare(image: &[u8], table: &mut [u32], node: NodeId, w: Walked) -> Walked
-    ensures { walked_of result table.new ≡ unmarked image.now node.0 (walked_of w table.old) }
-{
-    insert_ordered(image, table, node, ScopeId(4294967295), ScopeId(4294967295));
-    w
-}
-
-// The i-th word of an array of the table.
-fn word_of(image: &[u8], table: &[u32], array: usize, i: u32) -> u32
-    requires { array < arrays }
-    ensures { result ≡ get_or table.now (LayoutSpec.place array (ImageSpec.nodes image.now) i) 0 }
+// The i-th word of an array of the table. Each reader below names its array and what it holds, which says more than the rank.
+fn word_of(image: &[u8], table: &[u32], array: Array, i: u32) -> u32
+    ensures { result ≡ get_or table.now (LayoutSpec.place (rank_of array) (ImageSpec.nodes image.now) i) 0 }
 {
     get(table, place(array, ast::node_count(image), i))
 }
@@ -154,19 +103,19 @@ fn word_of(image: &[u8], table: &[u32], array: usize, i: u32) -> u32
 pub fn parent_of(image: &[u8], table: &[u32], scope: ScopeId) -> u32
     ensures { result ≡ get_or table.now (parent_place (ImageSpec.nodes image.now) scope.0) 0 }
 {
-    word_of(image, table, PARENTS, scope.0)
+    word_of(image, table, Array::Parents, scope.0)
 }
 
 pub fn symbol_scope(image: &[u8], table: &[u32], j: u32) -> u32
     ensures { result ≡ get_or table.now (scope_place (ImageSpec.nodes image.now) j) 0 }
 {
-    word_of(image, table, SYMBOL_SCOPES, j)
+    word_of(image, table, Array::SymbolScopes, j)
 }
 
 pub fn symbol_node(image: &[u8], table: &[u32], j: u32) -> u32
     ensures { result ≡ get_or table.now (node_place (ImageSpec.nodes image.now) j) 0 }
 {
-    word_of(image, table, SYMBOL_NODES, j)
+    word_of(image, table, Array::SymbolNodes, j)
 }
 
 // Row j is a symbol of the scope with the name.
@@ -180,90 +129,103 @@ pub fn row_is(image: &[u8], table: &[u32], j: u32, scope: ScopeId, name: u32) ->
 }
 
 // The first symbol of the name in the scope.
-pub fn find(image: &[u8], table: &[u32], symbols: u32, scope: ScopeId, name: u32) -> Found
+pub fn find(image: &[u8], table: &[u32], symbols: u32, scope: ScopeId, name: u32) -> Option<NodeId>
     ensures { option_of result ≡ TableSpec.find_from image.now symbols table.now 0 scope.0 name }
 {
-    let mut j = 0u32;
-    while j < symbols {
+    for j in 0..symbols {
         if row_is(image, table, j, scope, name) {
-            return Found::At(NodeId(symbol_node(image, table, j)));
+            return Some(NodeId(symbol_node(image, table, j)));
         }
-        j += 1;
     }
-    Found::Nothing
+    None
 }
 
 // The symbol of the name in the scope, or in the nearest scope above it that has one.
-pub fn lookup(image: &[u8], table: &[u32], symbols: u32, scope: ScopeId, name: u32) -> Found
+pub fn lookup(
+    image: &[u8],
+    table: &[u32],
+    symbols: u32,
+    scope: ScopeId,
+    name: u32,
+) -> Option<NodeId>
     ensures { option_of result ≡ TableSpec.climb image.now (suc scope.0) table.now symbols scope.0 name }
 {
     match find(image, table, symbols, scope, name) {
-        Found::At(node) => Found::At(node),
-        Found::Nothing => {
+        Some(node) => Some(node),
+        None => {
             let parent = parent_of(image, table, scope);
             if parent < scope.0 {
                 lookup(image, table, symbols, ScopeId(parent), name)
             } else {
-                Found::Nothing
+                None
             }
         }
     }
 }
 
-// Of a kind.
-pub fn is_kind(image: &[u8], found: Found, kind: u32) -> bool
+// Of a kind, by the kind's number: any may be asked for.
+pub fn is_kind(image: &[u8], found: Option<NodeId>, kind: u32) -> bool
     ensures { result ≡ TableSpec.is_kind image.now kind (option_of found) }
 {
     match found {
-        Found::At(node) => ast::kind_at(image, node) == kind,
-        Found::Nothing => false,
+        Some(node) => ast::kind_at(image, node) == kind,
+        None => false,
     }
 }
 
 // A Var.
-pub fn is_var(image: &[u8], found: Found) -> bool
+pub fn is_var(image: &[u8], found: Option<NodeId>) -> bool
     ensures { result ≡ TableSpec.is_var image.now (option_of found) }
 {
-    is_kind(image, found, kinds::IDENT_TERM)
+    is_kind(image, found, Kind::IdentTerm.number())
 }
 
 // A Var or a Const.
-pub fn is_value(image: &[u8], found: Found) -> bool
+pub fn is_value(image: &[u8], found: Option<NodeId>) -> bool
     ensures { result ≡ TableSpec.is_value image.now (option_of found) }
 {
-    match found {
-        Found::At(node) => {
-            let kind = ast::kind_at(image, node);
-            if kind == kinds::IDENT_TERM {
-                return true;
-            }
-            kind == kinds::CONST_DECL
-        }
-        Found::Nothing => false,
-    }
+    is_var(image, found) || is_kind(image, found, Kind::ConstDecl.number())
 }
 
 // The scope that a node is entered at, and the one that it is left at.
 pub fn entry_of(image: &[u8], table: &[u32], node: NodeId) -> ScopeId
     ensures { result.0 ≡ TableSpec.entry_at image.now table.now node.0 }
 {
-    ScopeId(word_of(image, table, ENTRIES, node.0))
+    ScopeId(word_of(image, table, Array::Entries, node.0))
 }
 
 pub fn exit_of(image: &[u8], table: &[u32], node: NodeId) -> ScopeId
     ensures { result.0 ≡ TableSpec.exit_at image.now table.now node.0 }
 {
-    ScopeId(word_of(image, table, EXITS, node.0))
+    ScopeId(word_of(image, table, Array::Exits, node.0))
 }
 
-// The symbol number of each kind, as the cases of `Symbol` go; 0 for a kind that is no symbol's.
-const SYMBOLS: [u32; 14] = [0, 0, 0, 1, 2, 3, 7, 4, 6, 5, 8, 0, 0, 9];
-
-pub fn symbol_of(kind: u32) -> u32
-    ensures { result ≡ TableSpec.symbol_of kind }
+// What a node of the kind declares, if it is a symbol's. The kind as its number: an image may hold any.
+#[tactic(auto, unfolding(crate::specs::Table::symbol_of, crate::specs::Table::declares))]
+pub fn symbol_of(kind: u32) -> Option<Symbol>
+    ensures number { number_or_zero result ≡ TableSpec.symbol_of kind }
+    ensures some { is_symbol result ≡ TableSpec.declares kind }
 {
-    if kind < 14 {
-        return SYMBOLS[kind as usize];
+    match Kind::try_from(kind) {
+        Ok(Kind::TypeDecl) => Some(Symbol::Type),
+        Ok(Kind::PredDecl) => Some(Symbol::Pred),
+        Ok(Kind::FuncDecl) => Some(Symbol::Func),
+        Ok(Kind::ConstDecl) => Some(Symbol::Const),
+        Ok(Kind::RuleDecl) => Some(Symbol::Rule),
+        Ok(Kind::EnumDecl) => Some(Symbol::Enum),
+        Ok(Kind::ModelDecl) => Some(Symbol::Model),
+        Ok(Kind::CtorDecl) => Some(Symbol::Ctor),
+        Ok(Kind::ArgDecl) => Some(Symbol::Arg),
+        Ok(Kind::IdentTerm) => Some(Symbol::Var),
+        _ => None,
     }
-    0
+}
+
+impl Symbol {
+    // The symbol's number, as the cases go.
+    pub fn number(self) -> u32
+        ensures { result ≡ number_of self }
+    {
+        self as u32
+    }
 }

@@ -1,17 +1,88 @@
--- The answers of the field tests, from what the code reads.
+-- The answers of the tests of fields, from what the code reads.
 use mathlib.Core.Path.{◌≡◌, refl, sym, ap, ◌∙◌}
+use mathlib.Core.Bool.{true, false, not, true≢false}
+use denote.Enum.Bare.{sameb}
+use Rattle.tests.specs.contracts.Claim.{the_type}
 use mathlib.Core.List.{List, [], ◌∷◌}
-use Prim.Native.Nat.{ℕ, zero, suc, ◌+◌, ◌-◌, ◌<◌, ◌≤◌}
+use Prim.Native.Nat.{ℕ, suc, ◌+◌, ◌-◌, ◌<◌, ◌≤◌}
 use native.Mathlib.Omega.{arith}
-use lib.ListN.{length, get_or}
-use borrow.Author.Tests.{lt-ltb, le-ltb, le-leb, lt-leb, eq-eqb, ne_eqb}
+use lib.Dec.{leb, ltb, leb-suc-suc}
+use lib.ListN.{length, get_or, set, drop}
+use borrow.Author.Tests.{lt-ltb, le-ltb, eq-eqb, ne_eqb}
+use Rattle.std.proofs.lemmas.List.{length-map, map-set}
+use Rattle.std.proofs.Math.ListN.{get_or-map}
+use Rattle.std.specs.Prelude.{Result, Ok, Err, Option, None}
 use Rattle.ast.specs.Image.{kind_at, op_at, operands, names}
+use Rattle.ast.specs.KindNumbers.{kind_number}
 use Rattle.ast.specs.Kinds.{Field, name, opt_name, child, opt_child, list, lists, cases, no_child}
+use Rattle.ast.specs.Promises.{bump, claim_all}
 use Rattle.ast.specs.Rows.{numbers, ops_from, after_blocks, block_kids, after, after_fields, field_kids, fields_kids}
-use Rattle.ast.specs.Promises.{code, claim_all, Step, FieldTested, FieldsTested}
 use Rattle.ast.specs.Tests.{◌▸◌, need, run, in_row, is_child, child_word, test_blocks, test_field, test_fields}
-use Rattle.ast.proofs.Scans.{need-in, need-out, passes, refuses, restep, skips, stops, halts, follows, ▸-assoc}
+use Rattle.ast.specs.declared.kind.Kind.{Kind}
+use Rattle.ast.specs.declared.kind.Kind.TheVariants as kind
+use Rattle.ast.proofs.Scans.{need-in, need-out, claim-append, ▸-assoc, ▸-zero}
+use Rattle.ast.proofs.Shapes.{one_more}
 use Rattle.ast.proofs.Unfold.{numbers-ones, numbers-append}
+use Rattle.error.specs.Refusals.{refusal_number}
+use Rattle.error.specs.declared.Refusal.{Refusal}
+use Rattle.tests.specs.Claims.{claim_number, counts, Counted}
+use Rattle.tests.specs.Rows.{case_number, case_kinds, Went, FieldStep, FieldsStep}
+use Rattle.tests.specs.Steps.{Answered}
+use Rattle.tests.specs.declared.Claim.{Claim}
+use Rattle.tests.specs.declared.Claim.TheVariants as claim
+use Rattle.tests.specs.declared.Row.{Row}
+use Rattle.tests.proofs.Steps.{passes, refuses, skips, stops, retests, maps}
+
+-- no kind has a number over 40
+pub kind-low : (k : Kind) → kind_number k ≤ 40
+kind-low kind.Module = omega arith
+kind-low kind.Decl = omega arith
+kind-low kind.TypeDecl = omega arith
+kind-low kind.PredDecl = omega arith
+kind-low kind.FuncDecl = omega arith
+kind-low kind.ConstDecl = omega arith
+kind-low kind.RuleDecl = omega arith
+kind-low kind.EnumDecl = omega arith
+kind-low kind.ModelDecl = omega arith
+kind-low kind.CtorDecl = omega arith
+kind-low kind.ArgDecl = omega arith
+kind-low kind.ArgDeclList = omega arith
+kind-low kind.Term = omega arith
+kind-low kind.IdentTerm = omega arith
+kind-low kind.AppTerm = omega arith
+kind-low kind.AppHead = omega arith
+kind-low kind.AppHeadMember = omega arith
+kind-low kind.TermMember = omega arith
+kind-low kind.DomTerm = omega arith
+kind-low kind.CodTerm = omega arith
+kind-low kind.IdTerm = omega arith
+kind-low kind.CompTerm = omega arith
+kind-low kind.TermList = omega arith
+kind-low kind.TypeExpr = omega arith
+kind-low kind.AmbientTypeExpr = omega arith
+kind-low kind.MorTypeExpr = omega arith
+kind-low kind.PredExpr = omega arith
+kind-low kind.AmbientPredExpr = omega arith
+kind-low kind.IfAtom = omega arith
+kind-low kind.ThenAtom = omega arith
+kind-low kind.EqualAtom = omega arith
+kind-low kind.PredAtom = omega arith
+kind-low kind.DefinedIfAtom = omega arith
+kind-low kind.VarIfAtom = omega arith
+kind-low kind.DefinedThenAtom = omega arith
+kind-low kind.MatchCase = omega arith
+kind-low kind.Stmt = omega arith
+kind-low kind.IfStmt = omega arith
+kind-low kind.ThenStmt = omega arith
+kind-low kind.BranchStmt = omega arith
+kind-low kind.MatchStmt = omega arith
+
+-- the kinds of an enum's cases, as numbers
+pub case_count : (ks : List (Option Kind)) → length ks ≡ length (case_kinds ks)
+case_count ks = sym (length-map ks case_number)
+
+pub case_at : (ks : List (Option Kind)) (w v : ℕ) (k : Option Kind) → w ≡ v → w < length ks → get_or ks w None ≡ k → get_or (case_kinds ks) v no_child ≡ case_number k
+case_at ks w v k e h q = rw (← e) (get_or-map case_number ks w None ∙ ap case_number q)
 
 module _ (img : List ℕ) where
   pub in-row : (p : ℕ) → p < operands img → in_row img p ≡ 0
@@ -36,145 +107,200 @@ module _ (img : List ℕ) where
     unfolding is_child need ◌▸◌
     child-other k c h e = rw (lt-ltb _ _ h, ne_eqb _ _ e)
 
-    module _ {us vs : List ℕ} (r : ℕ) where
-      -- a row that ends before the field
-      pub field_out : (g : Field) (p : ℕ) → operands img ≤ p → code r ≡ 7 → FieldTested img n g p us r vs
+    -- a row that ends before the field
+    pub row-out : (g : Field) (p : ℕ) (e : Refusal) {us vs : List ℕ} → refusal_number e ≡ in_row img p → FieldStep img n g p us vs (Err e)
+    unfolding test_field child_word
+    row-out name p e h = stops e _ _ (sym h)
+    row-out opt_name p e h = stops e _ _ (sym h)
+    row-out (child k) p e h = stops e _ _ (sym h)
+    row-out (opt_child k) p e h = stops e _ _ (sym h)
+    row-out (list k) p e h = stops e _ _ (sym h)
+    row-out (lists k) p e h = stops e _ _ (sym h)
+    row-out (cases ks) p e h = stops e _ _ (sym h)
+
+    -- the test of a number
+    number_test : ℕ → ℕ → ℕ
+    number_test count p = in_row img p ▸ need 8 (ltb (op_at img p) count)
+
+    number_opt : (p : ℕ) → number_test (names img + 1) p ≡ in_row img p ▸ need 8 (leb (op_at img p) (names img))
+    unfolding number_test
+    number_opt p = ap (λ b. in_row img p ▸ need 8 b) (ap (leb (suc (op_at img p))) (omega arith) ∙ leb-suc-suc (op_at img p) (names img))
+
+    module _ (p count : ℕ) (e : Refusal) {us vs : List ℕ} (h : refusal_number e ≡ in_row img p ▸ need 8 (ltb (op_at img p) count)) where
+      pub name-out : count ≡ names img → FieldStep img n name p us vs (Err e)
+      unfolding test_field
+      name-out c = refuses e _ (sym (rw c at h))
+
+      pub opt_name-out : count ≡ names img + 1 → FieldStep img n opt_name p us vs (Err e)
+      unfolding test_field number_test
+      opt_name-out c = refuses e _ (sym (number_opt p) ∙ sym (rw c at h))
+
+      pub cases-out : (ks : List ℕ) → count ≡ length ks → FieldStep img n (cases ks) p us vs (Err e)
+      unfolding test_field
+      cases-out ks c = retests _ _ (▸-assoc _ _ _) (stops e _ _ (sym (rw c at h)))
+
+    module _ (p count : ℕ) (b : Row) {us : List ℕ} (h : 0 ≡ in_row img p ▸ need 8 (ltb (op_at img p) count)) (i : b.image.now.image.now ≡ img) (m : b.node.0 ≡ n) (q : b.place ≡ p + 1) where
+      pub name_in : count ≡ names img → FieldStep img n name p us us (Ok b)
+      unfolding test_field after field_kids numbers claim_all
+      name_in c = passes b _ (sym (rw c at h)) (record { image = i; node = m; place = q; claimed = refl })
+
+      pub opt_name-in : count ≡ names img + 1 → FieldStep img n opt_name p us us (Ok b)
+      unfolding test_field after field_kids numbers claim_all number_test
+      opt_name-in c = passes b _ (sym (number_opt p) ∙ sym (rw c at h)) (record { image = i; node = m; place = q; claimed = refl })
+
+      pub case-none : (ks : List ℕ) → count ≡ length ks → get_or ks (op_at img p) no_child ≡ no_child → FieldStep img n (cases ks) p us us (Ok b)
+      unfolding test_field after field_kids numbers claim_all
+      case-none ks c f = rw (f, test_field, after, field_kids) (retests _ _ (▸-assoc _ _ _) (skips _ _ (sym (rw c at h)) (passes b _ refl (record { image = i; node = m; place = q; claimed = refl }))))
+
+      pub case-in : (ks : List ℕ) (k : ℕ) {vs : List ℕ} (r : Result Row Refusal) → count ≡ length ks → get_or ks (op_at img p) no_child ≡ k → (k ≡ no_child → ⊥)
+          → FieldStep (b.image.now.image.now) b.node.0 (child k) b.place us vs r → FieldStep img n (cases ks) p us vs r
+      unfolding test_field after field_kids numbers
+      case-in ks k r c f z t =
+          rw (f, ne_eqb _ _ z, test_field, after, field_kids)
+          (retests _ _ (▸-assoc _ _ _) (skips _ _ (sym (rw c at h)) (retests _ _ (ap (λ x. child_word img n x (p + 1)) (sym f)) (maps _ r (λ x w. record { image = w.image; node = w.node; place = w.place ∙ omega arith; claimed = w.claimed }) (rw (i, m, q) at t)))))
+
+    -- a child, read and tested
+    module _ (p w : ℕ) (e : w ≡ op_at img p) (h : 0 ≡ in_row img p) where
+      pub child-out : (k : ℕ) (f : Refusal) {us vs : List ℕ} → refusal_number f ≡ is_child img n k w → FieldStep img n (child k) p us vs (Err f)
       unfolding test_field child_word
-      field_out name p h c = stops _ _ _ 6 _ (out-row p h) c
-      field_out opt_name p h c = stops _ _ _ 6 _ (out-row p h) c
-      field_out (child k) p h c = stops _ _ _ 6 _ (out-row p h) c
-      field_out (opt_child k) p h c = stops _ _ _ 6 _ (out-row p h) c
-      field_out (list k) p h c = stops _ _ _ 6 _ (out-row p h) c
-      field_out (lists k) p h c = stops _ _ _ 6 _ (out-row p h) c
-      field_out (cases ks) p h c = stops _ _ _ 6 _ (out-row p h) c
+      child-out k f t = skips _ _ (sym h) (refuses f _ (sym (rw e at t)))
 
-      module _ (p w : ℕ) (h : p < operands img) (e : w ≡ op_at img p) where
-        pub name-bad : names img ≤ w → code r ≡ 8 → FieldTested img n name p us r vs
-        unfolding test_field
-        name-bad l c = skips _ _ _ _ (in-row p h) (refuses _ _ 7 r (rw e at (need-out 8 _ (le-ltb w (names img) l))) c)
+      pub opt_child-out : (k : ℕ) (f : Refusal) {us vs : List ℕ} (c : ℕ) → w ≡ suc c → refusal_number f ≡ is_child img n k c → FieldStep img n (opt_child k) p us vs (Err f)
+      unfolding test_field
+      opt_child-out k f c q t = let g : op_at img p ≡ suc c = sym e ∙ q in rw (g, test_field) (skips _ _ (sym h) (refuses f _ (sym t)))
 
-        pub opt_name-bad : names img < w → code r ≡ 8 → FieldTested img n opt_name p us r vs
-        unfolding test_field
-        opt_name-bad l c = skips _ _ _ _ (in-row p h) (refuses _ _ 7 r (rw e at (need-out 8 _ (lt-leb w (names img) l))) c)
+      module _ (b : Row) (i : b.image.now.image.now ≡ img) (m : b.node.0 ≡ n) (q : b.place ≡ p + 1) where
+        pub child-read : (k : ℕ) (us vs : List Claim) → 0 ≡ is_child img n k w → Counted w us vs → FieldStep img n (child k) p (counts us) (counts vs) (Ok b)
+        unfolding test_field child_word after field_kids numbers claim_all
+        child-read k us vs t d = skips _ _ (sym h) (passes b _ (sym (rw e at t)) (record { image = i; node = m; place = q; claimed = rw e at d }))
 
-        pub child-word : (k : ℕ) → Step (is_child img n k w) (p + 1) (w ∷ []) us r vs → FieldTested img n (child k) p us r vs
-        unfolding test_field child_word after field_kids numbers
-        child-word k t = skips _ _ _ _ (in-row p h) (rw e at t)
+        pub opt_child-none : (k : ℕ) {us : List ℕ} → w ≡ 0 → FieldStep img n (opt_child k) p us us (Ok b)
+        unfolding test_field after field_kids numbers claim_all
+        opt_child-none k z = let g : op_at img p ≡ 0 = sym e ∙ z in rw (g, test_field, field_kids) (skips _ _ (sym h) (passes b _ refl (record { image = i; node = m; place = q; claimed = refl })))
 
-        pub list-in : (k : ℕ) → Step (run (child_word img n k) w (p + 1)) (p + 1 + w) (ops_from img w (p + 1)) us r vs → FieldTested img n (list k) p us r vs
-        unfolding test_field after field_kids numbers
-        list-in k t = skips _ _ _ _ (in-row p h) (rw numbers-ones (rw e at t))
+        pub opt_child-read : (k c : ℕ) (us vs : List Claim) → w ≡ suc c → 0 ≡ is_child img n k c → Counted c us vs → FieldStep img n (opt_child k) p (counts us) (counts vs) (Ok b)
+        unfolding test_field after field_kids numbers claim_all
+        opt_child-read k c us vs z t d = let g : op_at img p ≡ suc c = sym e ∙ z in rw (g, test_field, field_kids) (skips _ _ (sym h) (passes b _ (sym t) (record { image = i; node = m; place = q; claimed = d })))
 
-        pub lists-in : (k : ℕ) → Step (test_blocks img n k w (p + 1)) (after_blocks img w (p + 1)) (numbers (block_kids img w (p + 1))) us r vs → FieldTested img n (lists k) p us r vs
-        unfolding test_field after field_kids
-        lists-in k t = skips _ _ _ _ (in-row p h) (rw e at t)
+    -- the items of a list, and the blocks of a branch
+    abbrev pub ItemsStep : ℕ → ℕ → ℕ → List ℕ → List ℕ → Result Row Refusal → Type 0
+    ItemsStep k c p us vs r = Answered (run (child_word img n k) c p) (Went img n (p + c) (ops_from img c p) us vs) r
 
-        pub opt_child-in : (k c : ℕ) → w ≡ suc c → Step (is_child img n k c) (p + 1) (c ∷ []) us r vs → FieldTested img n (opt_child k) p us r vs
-        unfolding test_field after field_kids numbers
-        opt_child-in k c q t = let f : op_at img p ≡ suc c = sym e ∙ q in rw (f, test_field, field_kids) (skips _ _ _ _ (in-row p h) t)
+    abbrev pub BlocksStep : ℕ → ℕ → ℕ → List ℕ → List ℕ → Result Row Refusal → Type 0
+    BlocksStep k c p us vs r = Answered (test_blocks img n k c p) (Went img n (after_blocks img c p) (numbers (block_kids img c p)) us vs) r
 
-        pub case-bad : (ks : List ℕ) → length ks ≤ w → code r ≡ 8 → FieldTested img n (cases ks) p us r vs
-        unfolding test_field
-        case-bad ks l c = skips _ _ _ _ (in-row p h) (stops _ _ _ 7 _ (rw e at (need-out 8 _ (le-ltb w (length ks) l))) c)
-
-        pub case-in : (ks : List ℕ) (k : ℕ) → w < length ks → k ≡ get_or ks w no_child → (k ≡ no_child → ⊥)
-            → FieldTested img n (child k) (p + 1) us r vs → FieldTested img n (cases ks) p us r vs
-        unfolding test_field after field_kids numbers
-        case-in ks k l q z t =
-            let f : get_or ks (op_at img p) no_child ≡ k = rw e at (sym q) in
-            rw (f, ne_eqb _ _ z, test_field, after, field_kids)
-            (skips _ _ _ _ (in-row p h) (skips _ _ _ _ (rw e at (need-in 8 _ (lt-ltb w (length ks) l))) (restep _ _ _ _ _ (ap (λ x. child_word img n x (p + 1)) (sym f)) (omega arith) t)))
-
-    module _ {us : List ℕ} (r : ℕ) (p w : ℕ) (h : p < operands img) (e : w ≡ op_at img p) (c : code r ≡ 0) (a : r ≡ p + 1) (b : r ≤ 8192) where
-      pub name_in : w < names img → FieldTested img n name p us r us
+    module _ (p w : ℕ) (e : w ≡ op_at img p) (h : 0 ≡ in_row img p) (k : ℕ) {us vs : List ℕ} {r : Result Row Refusal} where
+      pub list-in : ItemsStep k w (p + 1) us vs r → FieldStep img n (list k) p us vs r
       unfolding test_field after field_kids numbers
-      name_in l = skips _ _ _ _ (in-row p h) (passes _ _ r (rw e at (need-in 8 _ (lt-ltb w (names img) l))) c a b)
+      list-in t = skips _ _ (sym h) (rw numbers-ones (rw e at t))
 
-      pub opt_name-in : w ≤ names img → FieldTested img n opt_name p us r us
-      unfolding test_field after field_kids numbers
-      opt_name-in l = skips _ _ _ _ (in-row p h) (passes _ _ r (rw e at (need-in 8 _ (le-leb w (names img) l))) c a b)
+      pub lists-in : BlocksStep k w (p + 1) us vs r → FieldStep img n (lists k) p us vs r
+      unfolding test_field after field_kids
+      lists-in t = skips _ _ (sym h) (rw e at t)
 
-      pub opt_child-none : (k : ℕ) → w ≡ 0 → FieldTested img n (opt_child k) p us r us
-      unfolding test_field after field_kids numbers
-      opt_child-none k q = let f : op_at img p ≡ 0 = sym e ∙ q in rw (f, test_field, field_kids) (skips _ _ _ _ (in-row p h) (passes _ _ r refl c a b))
-
-      pub case-none : (ks : List ℕ) → w < length ks → get_or ks w no_child ≡ no_child → FieldTested img n (cases ks) p us r us
-      unfolding test_field after field_kids numbers
-      case-none ks l q =
-          let f : get_or ks (op_at img p) no_child ≡ no_child = rw e at q in
-          rw (f, test_field, after, field_kids) (skips _ _ _ _ (in-row p h) (skips _ _ _ _ (rw e at (need-in 8 _ (lt-ltb w (length ks) l))) (passes _ _ r refl c a b)))
-
-    -- the items of a list
+    -- what is left of them, once those before have passed
     module _ (k count p : ℕ) (us : List ℕ) where
-      pub record ItemsLeft (left at : ℕ) (vs : List ℕ) : Type 0 where
-        pub low : at ≤ 8192
-        pub whole : (r : ℕ) (ws : List ℕ) → Step (run (child_word img n k) left at) (at + left) (ops_from img left at) vs r ws
-            → Step (run (child_word img n k) count p) (p + count) (ops_from img count p) us r ws
+      pub record ItemsLeft (left : ℕ) (row : Row) (vs : List ℕ) : Type 0 where
+        pub image : row.image.now.image.now ≡ img
+        pub node : row.node.0 ≡ n
+        pub whole : {ws : List ℕ} {r : Result Row Refusal} → ItemsStep k left row.place vs ws r → ItemsStep k count p us ws r
 
-      pub items-next : (left at : ℕ) {vs ws : List ℕ} (r : ℕ) → ItemsLeft left at vs → (left ≡ 0 → ⊥)
-          → FieldTested img n (child k) at vs r ws → code r ≡ 0 → ItemsLeft (left - 1) (at + 1) ws
-      unfolding run ops_from test_field after field_kids numbers
-      items-next zero at r i z t c = absurd (z refl)
-      items-next (suc l) at r i z t c =
-          let q : suc l - 1 ≡ l = omega arith in
-          let g = t.went c in
-          record {
-            low = omega arith;
-            whole = λ x xs h. i.whole x xs (restep _ _ _ _ _ refl (omega arith) (follows _ _ _ _ _ _ t c (rw q at h)));
-          }
+      pub record BlocksLeft (left : ℕ) (row : Row) (vs : List ℕ) : Type 0 where
+        pub image : row.image.now.image.now ≡ img
+        pub node : row.node.0 ≡ n
+        pub whole : {ws : List ℕ} {r : Result Row Refusal} → BlocksStep k left row.place vs ws r → BlocksStep k count p us ws r
 
-      pub items-stop : (left at : ℕ) {vs ws : List ℕ} (r : ℕ) → ItemsLeft left at vs → (left ≡ 0 → ⊥)
-          → FieldTested img n (child k) at vs r ws → (code r ≡ 0 → ⊥) → Step (run (child_word img n k) count p) (p + count) (ops_from img count p) us r ws
-      unfolding run ops_from test_field after field_kids numbers
-      items-stop zero at r i z t c = absurd (z refl)
-      items-stop (suc l) at r i z t c = i.whole r _ (halts _ _ _ _ _ _ t c)
+      module _ (row : Row) where
+        module _ (i : ℕ) (h : i < count) {vs ws : List ℕ} where
+          pub items-stop : (e : Refusal) → ItemsLeft (count - i) row vs → FieldStep (row.image.now.image.now) row.node.0 (child k) row.place vs ws (Err e) → ItemsStep k count p us ws (Err e)
+          unfolding run test_field
+          items-stop e l t = l.whole (rw (one_more h, run) (stops e _ _ (sym (rw (l.image, l.node) at t).refusal)))
 
-      pub items-end : (left at : ℕ) {vs : List ℕ} (r : ℕ) → ItemsLeft left at vs → left ≡ 0 → code r ≡ 0 → r ≡ at
-          → Step (run (child_word img n k) count p) (p + count) (ops_from img count p) us r vs
-      unfolding run ops_from
-      items-end zero at r i z c a = i.whole r _ (passes _ _ r refl c (omega arith) (omega arith))
-      items-end (suc l) at r i z c a = absurd (omega arith)
+          pub items-next : (b : Row) → ItemsLeft (count - i) row vs → FieldStep (row.image.now.image.now) row.node.0 (child k) row.place vs ws (Ok b) → ItemsLeft (count - (i + 1)) b ws
+          unfolding run ops_from test_field after field_kids numbers claim_all
+          items-next b l t =
+              let u = rw (l.image, l.node) at t in
+              record {
+                image = u.went.image;
+                node = u.went.node;
+                whole = λ {ws = xs} {r = r} s. l.whole (rw (one_more h, run, ops_from) (skips _ _ (sym u.refusal) (maps _ r (λ x w. record {
+                  image = w.image;
+                  node = w.node;
+                  place = w.place ∙ omega arith;
+                  claimed = w.claimed ∙ ap (claim_all (ops_from img (count - (i + 1)) (row.place + 1))) u.went.claimed;
+                }) (rw u.went.place at s))));
+              }
 
-      -- the blocks of a branch
-      pub record BlocksLeft (left at : ℕ) (vs : List ℕ) : Type 0 where
-        pub low : at ≤ 8192
-        pub whole : (r : ℕ) (ws : List ℕ) → Step (test_blocks img n k left at) (after_blocks img left at) (numbers (block_kids img left at)) vs r ws
-            → Step (test_blocks img n k count p) (after_blocks img count p) (numbers (block_kids img count p)) us r ws
+          pub blocks-stop : (e : Refusal) → BlocksLeft (count - i) row vs → FieldStep (row.image.now.image.now) row.node.0 (list k) row.place vs ws (Err e) → BlocksStep k count p us ws (Err e)
+          unfolding test_blocks test_field
+          blocks-stop e l t = l.whole (rw (one_more h, test_blocks) (retests _ _ (▸-assoc _ _ _) (stops e _ _ (sym (rw (l.image, l.node) at t).refusal))))
 
-      pub blocks-next : (left at : ℕ) {vs ws : List ℕ} (r : ℕ) → BlocksLeft left at vs → (left ≡ 0 → ⊥)
-          → FieldTested img n (list k) at vs r ws → code r ≡ 0 → BlocksLeft (left - 1) (r) ws
-      unfolding test_blocks after_blocks block_kids test_field after field_kids numbers
-      blocks-next zero at r i z t c = absurd (z refl)
-      blocks-next (suc l) at r i z t c =
-          let q : suc l - 1 ≡ l = omega arith in
-          let g = t.went c in
-          record {
-            low = g.low;
-            whole = λ x xs h. i.whole x xs (restep _ _ _ _ _ (▸-assoc _ _ _) refl (rw numbers-ones at (follows _ _ _ _ _ _ t c (rw (q, g.place) at h))));
-          }
+          pub blocks-next : (b : Row) → BlocksLeft (count - i) row vs → FieldStep (row.image.now.image.now) row.node.0 (list k) row.place vs ws (Ok b) → BlocksLeft (count - (i + 1)) b ws
+          unfolding test_blocks after_blocks block_kids test_field after field_kids numbers
+          blocks-next b l t =
+              let u = rw (l.image, l.node) at t in
+              record {
+                image = u.went.image;
+                node = u.went.node;
+                whole = λ {ws = xs} {r = r} s. l.whole (rw (one_more h, test_blocks, after_blocks, block_kids) (retests _ _ (▸-assoc _ _ _) (skips _ _ (sym u.refusal) (maps _ r (λ x w. record {
+                  image = w.image;
+                  node = w.node;
+                  place = w.place;
+                  claimed = w.claimed ∙ ap (claim_all (numbers (block_kids img (count - (i + 1)) (row.place + 1 + op_at img row.place)))) (rw numbers-ones at u.went.claimed)
+                      ∙ sym (claim-append (ops_from img (op_at img row.place) (row.place + 1)) _ vs);
+                }) (rw u.went.place at s)))));
+              }
 
-      pub blocks-stop : (left at : ℕ) {vs ws : List ℕ} (r : ℕ) → BlocksLeft left at vs → (left ≡ 0 → ⊥)
-          → FieldTested img n (list k) at vs r ws → (code r ≡ 0 → ⊥) → Step (test_blocks img n k count p) (after_blocks img count p) (numbers (block_kids img count p)) us r ws
-      unfolding test_blocks after_blocks block_kids test_field after field_kids numbers
-      blocks-stop zero at r i z t c = absurd (z refl)
-      blocks-stop (suc l) at r i z t c = i.whole r _ (restep _ _ _ _ _ (▸-assoc _ _ _) refl (halts _ _ _ _ _ _ t c))
+        module _ {vs : List ℕ} where
+          pub items-end : ItemsLeft (count - count) row vs → ItemsStep k count p us vs (Ok row)
+          unfolding run ops_from claim_all
+          items-end l = let z : count - count ≡ 0 = omega arith in l.whole (rw (z, run, ops_from) (passes row _ refl (record { image = l.image; node = l.node; place = omega arith; claimed = refl })))
 
-      pub blocks-end : (left at : ℕ) {vs : List ℕ} (r : ℕ) → BlocksLeft left at vs → left ≡ 0 → code r ≡ 0 → r ≡ at
-          → Step (test_blocks img n k count p) (after_blocks img count p) (numbers (block_kids img count p)) us r vs
-      unfolding test_blocks after_blocks block_kids numbers
-      blocks-end zero at r i z c a = i.whole r _ (passes _ _ r refl c a (omega arith))
-      blocks-end (suc l) at r i z c a = absurd (omega arith)
+          pub blocks-end : BlocksLeft (count - count) row vs → BlocksStep k count p us vs (Ok row)
+          unfolding test_blocks after_blocks block_kids numbers claim_all
+          blocks-end l = let z : count - count ≡ 0 = omega arith in l.whole (rw (z, test_blocks, after_blocks, block_kids) (passes row _ refl (record { image = l.image; node = l.node; place = refl; claimed = refl })))
 
     -- fields, one after another
-    module _ {us vs : List ℕ} (r : ℕ) (p : ℕ) where
-      pub fields-none : vs ≡ us → code r ≡ 0 → r ≡ p → p ≤ 8192 → FieldsTested img n [] p us r vs
-      unfolding test_fields after_fields fields_kids numbers claim_all
-      fields-none e c a b = record { refusal = c; went = λ z. record { place = a; claimed = e; low = omega arith } }
-
-      pub fields-halt : (g : Field) (gs : List Field) → FieldTested img n g p us r vs → (code r ≡ 0 → ⊥) → FieldsTested img n (g ∷ gs) p us r vs
+    module _ (p : ℕ) {us vs : List ℕ} (fs : List Field) (g : Field) where
+      pub fields-out : fs ≡ g ∷ drop 1 fs → (e : Refusal) → FieldStep img n g p us vs (Err e) → FieldsStep img n fs p us vs (Err e)
       unfolding test_fields
-      fields-halt g gs t c = halts _ _ _ _ _ _ t c
+      fields-out q e t = go fs (drop 1 fs) q
+        where
+          go : (fs gs : List Field) → fs ≡ g ∷ gs → FieldsStep img n fs p us vs (Err e)
+          go fs gs q = rw (q, test_fields) (stops e _ _ (sym t.refusal))
 
-      pub fields-follow : (g : Field) (gs : List Field) {ws : List ℕ} {q : ℕ} → FieldTested img n g p us r vs → code r ≡ 0 → FieldsTested img n gs r vs q ws → FieldsTested img n (g ∷ gs) p us q ws
+      pub fields-in : (gs : List Field) → fs ≡ g ∷ gs → (b : Row) {ws : List ℕ} (r : Result Row Refusal) → FieldStep img n g p us vs (Ok b)
+          → FieldsStep (b.image.now.image.now) b.node.0 gs b.place vs ws r → FieldsStep img n fs p us ws r
       unfolding test_fields after_fields fields_kids
-      fields-follow g gs t c u = rw numbers-append (follows _ _ _ _ _ _ t c (rw (t.went c).place at u))
+      fields-in gs q b r t s =
+          rw (q, test_fields, after_fields, fields_kids)
+          (skips _ _ (sym t.refusal) (maps _ r (λ x w. record {
+            image = w.image;
+            node = w.node;
+            place = w.place;
+            claimed = rw numbers-append (w.claimed ∙ ap (claim_all (numbers (fields_kids img gs (after img g p)))) t.went.claimed ∙ sym (claim-append (numbers (field_kids img g p)) _ us));
+          }) (rw (t.went.image, t.went.node, t.went.place) at s)))
+
+    pub fields-last : (p : ℕ) {us vs : List ℕ} (fs : List Field) (g : Field) → fs ≡ g ∷ [] → (r : Result Row Refusal) → FieldStep img n g p us vs r → FieldsStep img n fs p us vs r
+    unfolding test_fields after_fields fields_kids numbers claim_all
+    fields-last p {us} fs g q r t = rw (q, test_fields, after_fields, fields_kids) (retests _ _ (sym (▸-zero _)) (maps _ r (λ x w. record {
+      image = w.image;
+      node = w.node;
+      place = w.place;
+      claimed = rw numbers-append (w.claimed ∙ sym (claim-append (numbers (field_kids img g p)) [] us));
+    }) t))
+
+-- node i is counted once more
+pub counts-more : (us : List Claim) (i : ℕ) (m : Claim) → claim_number m ≡ bump (claim_number (get_or us i claim.Never)) → Counted i us (set us i m)
+counts-more us i m h = map-set claim_number us i m ∙ ap (set (counts us) i) (h ∙ ap bump (sym (get_or-map claim_number us i claim.Never)))
+
+-- a claim that is the one of a node counted once, as the code compares
+pub is-once : (m : Claim) → not (sameb the_type m claim.Once) ≡ false → claim_number m ≡ 1
+is-once claim.Never h = absurd (true≢false h)
+is-once claim.Once h = refl
+is-once claim.Several h = absurd (true≢false h)
+
+pub not_once : (m : Claim) → not (sameb the_type m claim.Once) ≡ true → claim_number m ≡ 1 → ⊥
+not_once claim.Never h e = absurd (omega arith)
+not_once claim.Once h e = absurd (true≢false (sym h))
+not_once claim.Several h e = absurd (omega arith)

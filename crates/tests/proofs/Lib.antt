@@ -1,3 +1,3 @@
+pub mod Steps
 pub mod Fields
-pub mod Parts
 pub mod Whole

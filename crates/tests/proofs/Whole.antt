@@ -1,81 +1,65 @@
 -- The tests of a node, of the nodes, and of the whole tree, as the code goes through them.
-use mathlib.Core.Path.{◌≡◌, refl, sym, ap, ◌∙◌, subst}
+use mathlib.Core.Path.{◌≡◌, refl, sym, ap, ◌∙◌}
 use mathlib.Core.List.{List}
-use Prim.Native.Nat.{ℕ, zero, suc, ◌+◌, ◌-◌, ◌*◌, ◌/◌, ◌%◌, ◌<◌, ◌≤◌}
+use Prim.Native.Nat.{ℕ, zero, suc, ◌+◌, ◌-◌, ◌*◌, ◌<◌, ◌≤◌}
 use native.Mathlib.Omega.{arith}
 use native.Mathlib.Numerals.{add-one}
-use lib.Dec.{T, eqb, leb, ltb}
+use lib.Dec.{eqb, leb, ltb}
 use native.Mathlib.Decide.{dec_lt}
-use lib.ListN.{length, get_or}
+use lib.ListN.{length}
 use borrow.Author.Tests.{lt-ltb, le-ltb, le-leb, lt-leb, eq-eqb, ne_eqb}
 use Rattle.ast.specs.Image.{nodes, kind_at, start_at, op_at, field, operands, names, bytes, last}
-use Rattle.ast.specs.Kinds.{kind_of}
-use Rattle.tests.specs.Parts.{Cased, part_of, row_parts}
 use Rattle.ast.specs.Rows.{numbers, kids, kids_to, fields_at, row_end}
-use Rattle.ast.specs.Promises.{code, Head, Within, Step, FieldsTested, FieldTested, NodeTested, claim_all}
+use Rattle.ast.specs.Promises.{Head, Within, claim_all}
 use Rattle.ast.specs.Tests.{◌▸◌, need, run, in_row, test_fields, times, first, is_var, test_var, test_sizes, test_node, test_parents, test_tree, end_before}
 use Rattle.ast.proofs.Accepted.{skip, stop, stop-at, sizes-ok}
-use Rattle.tests.proofs.Fields.{in-row, out-row, fields-none, fields-halt, fields-follow}
-use Rattle.tests.proofs.Parts.{parts_of, fits, fit-cased, fit-more, parts-end, parts-row, parts-fit}
+use Rattle.error.specs.declared.Refusal.{Refusal}
+use Rattle.error.specs.declared.Refusal.TheVariants as refusal
+use Rattle.tests.specs.Rows.{FieldsStep}
+use Rattle.tests.specs.Steps.{Answered, Ended, NodeTested, NodesTested}
+use Rattle.tests.specs.declared.Row.{Row}
+use Rattle.tests.proofs.Steps.{passes, refuses, skips, stops}
+use Rattle.error.proofs.Refused.{refusal-some}
+use Rattle.tests.proofs.Fields.{in-row, out-row}
+use Rattle.std.specs.Prelude.{Result, Ok, Err}
 use Rattle.ast.proofs.Runs.{RunLeft, run-begin, run-next, run-stop, run_end}
-use Rattle.ast.proofs.Scans.{need-in, need-out, claim-append, skips, stops, refused}
+use Rattle.ast.proofs.Scans.{need-in, need-out, claim-append}
 use Rattle.ast.specs.declared.Sizes.{Sizes}
 
 module _ (img : List ℕ) where
-  module _ (n : ℕ) {us vs : List ℕ} (r : ℕ) (kind start : ℕ) (k : kind ≡ kind_at img n) where
-    pub node-kind : 40 < kind → code r ≡ 6 → NodeTested img n us r vs
+  module _ (n : ℕ) {us vs : List ℕ} where
+    -- the answer to the tests of a node, from those of its row
+    pub node-kind : 40 < kind_at img n → NodeTested img n us vs (Err refusal.UnknownKind)
     unfolding test_node
-    node-kind h c = stops _ _ _ 5 _ (need-out 6 _ (lt-leb _ _ (rw k at h))) c
+    node-kind h = stops _ _ _ (need-out 6 _ (lt-leb _ _ h))
 
-    module _ (h : kind ≤ 40) (e : start ≡ start_at img n) where
-      pub node-start : (start ≡ end_before img n → ⊥) → code r ≡ 7 → NodeTested img n us r vs
+    module _ (h : kind_at img n ≤ 40) where
+      kinded : {r : Result ℕ Refusal} → Answered (need 7 (eqb (start_at img n) (end_before img n)) ▸ in_row img (start_at img n) ▸ in_row img (start_at img n + 1) ▸ test_fields img n (fields_at img n) (start_at img n + 2)) (Ended (row_end img n) (numbers (kids img n)) us vs) r
+          → NodeTested img n us vs r
       unfolding test_node
-      node-start q c = skips _ _ _ _ (need-in 6 _ (le-leb _ _ (rw k at h))) (stops _ _ _ 6 _ (need-out 7 _ (ne_eqb _ _ (rw e at q))) c)
+      kinded t = skips _ _ (need-in 6 _ (le-leb _ _ h)) t
 
-      module _ (q : start ≡ end_before img n) where
-        pub node-out : operands img ≤ start + 1 → code r ≡ 7 → NodeTested img n us r vs
-        unfolding test_node
-        node-out l c =
-            skips _ _ _ _ (need-in 6 _ (le-leb _ _ (rw k at h))) (skips _ _ _ _ (need-in 7 _ (eq-eqb _ _ (rw e at q))) (go (dec_lt (start_at img n) (operands img))))
+      pub node-start : (start_at img n ≡ end_before img n → ⊥) → NodeTested img n us vs (Err refusal.RowOutside)
+      node-start q = kinded (stops _ _ _ (need-out 7 _ (ne_eqb _ _ q)))
+
+      module _ (q : start_at img n ≡ end_before img n) where
+        pub node-out : operands img ≤ start_at img n + 1 → NodeTested img n us vs (Err refusal.RowOutside)
+        node-out l = kinded (skips _ _ (need-in 7 _ (eq-eqb _ _ q)) (go (dec_lt (start_at img n) (operands img))))
           where
-            go : Dec (start_at img n < operands img) → Step (in_row img (start_at img n) ▸ in_row img (start_at img n + 1) ▸ test_fields img n (fields_at img n) (start_at img n + 2)) (row_end img n) (numbers (kids img n)) us r vs
-            go (yes j) = skips _ _ _ _ (in-row img _ j) (stops _ _ _ 6 _ (out-row img _ (rw e at l)) c)
-            go (no j) = stops _ _ _ 6 _ (out-row img _ (omega arith)) c
+            go : Dec (start_at img n < operands img) → Answered (in_row img (start_at img n) ▸ in_row img (start_at img n + 1) ▸ test_fields img n (fields_at img n) (start_at img n + 2)) (Ended (row_end img n) (numbers (kids img n)) us vs) (Err refusal.RowOutside)
+            go (yes j) = skips _ _ (in-row img _ j) (stops _ _ _ (out-row img _ l))
+            go (no j) = stops _ _ _ (out-row img _ (omega arith))
 
-        pub node_in : start + 1 < operands img → FieldsTested img n (kind_of kind).fields (start + 2) us r vs → NodeTested img n us r vs
-        unfolding test_node row_end kids fields_at
-        node_in l t =
-            let i : start < operands img = omega arith in
-            skips _ _ _ _ (need-in 6 _ (le-leb _ _ (rw k at h))) (skips _ _ _ _ (need-in 7 _ (eq-eqb _ _ (rw e at q)))
-            (skips _ _ _ _ (in-row img _ (rw e at i)) (skips _ _ _ _ (in-row img _ (rw e at l)) (rw (k, e) at t))))
+        module _ (l : start_at img n + 1 < operands img) where
+          placed : {r : Result ℕ Refusal} → Answered (test_fields img n (fields_at img n) (start_at img n + 2)) (Ended (row_end img n) (numbers (kids img n)) us vs) r → NodeTested img n us vs r
+          placed t = kinded (skips _ _ (need-in 7 _ (eq-eqb _ _ q)) (skips _ _ (in-row img _ (omega arith)) (skips _ _ (in-row img _ l) t)))
 
-  -- a row by its parts: those before have passed, and what answers the parts that are left, those of `row`, answers the whole row
-  pub record RowLeft (n k p : ℕ) (us : List ℕ) (row at : ℕ) (vs : List ℕ) : Type 0 where
-    pub count : ℕ
-    pub left : {r : ℕ} {ws : List ℕ} → FieldsTested img n (parts_of count row) at vs r ws → FieldsTested img n (kind_of k).fields p us r ws
-    pub fit : T (fits count row)
-    pub low : at ≤ 8192
+          pub node-bad : (e : Refusal) → FieldsStep img n (fields_at img n) (start_at img n + 2) us vs (Err e) → NodeTested img n us vs (Err e)
+          node-bad e t = placed (refuses e _ (sym t.refusal))
 
-  pub row-begin : (n k p row : ℕ) (us : List ℕ) → k ≤ 40 → row ≡ get_or row_parts k 0 → p ≤ 8192 → RowLeft n k p us row p us
-  row-begin n k p row us h e l =
-      record { count = 3; left = λ {r} {ws} t. subst (λ gs. FieldsTested img n gs p us r ws) (rw e (parts-row k h)) t; fit = rw e (parts-fit k h); low = l }
-
-  module _ (n k p : ℕ) {us : List ℕ} (row at : ℕ) {vs : List ℕ} (i : RowLeft n k p us row at vs) where
-    module _ (z : row ≡ 0 → ⊥) where
-      pub row-cased : Cased (row % 1024)
-      row-cased = fit-cased i.count row i.fit z
-
-      module _ {ws : List ℕ} (r : ℕ) (t : FieldTested img n (part_of (row % 1024)) at vs r ws) where
-        pub row_next : code r ≡ 0 → RowLeft n k p us (row / 1024) r ws
-        row_next c =
-            let (m, e, f) = fit-more i.count row i.fit z in
-            record { count = m; left = λ u. i.left (rw e (fields-follow img n r at _ _ t c u)); fit = f; low = (t.went c).low }
-
-        pub row-stop : (code r ≡ 0 → ⊥) → FieldsTested img n (kind_of k).fields p us r ws
-        row-stop c = let (m, e, f) = fit-more i.count row i.fit z in i.left (rw e (fields-halt img n r at _ _ t c))
-
-    pub row-end : row ≡ 0 → FieldsTested img n (kind_of k).fields p us at vs
-    row-end z = let l = i.low in i.left (rw (z, parts-end) (fields-none img n at at refl (omega arith) refl i.low))
+          pub node_in : (row : Row) → FieldsStep img n (fields_at img n) (start_at img n + 2) us vs (Ok row) → NodeTested img n us vs (Ok row.place)
+          unfolding row_end kids
+          node_in row t = let low = row.low in placed (passes _ _ (sym t.refusal) (record { place = t.went.place; claimed = t.went.claimed; low = low }))
 
   -- the nodes before n have passed
   pub record NodesLeft (us : List ℕ) (n end : ℕ) (vs : List ℕ) : Type 0 where
@@ -83,38 +67,28 @@ module _ (img : List ℕ) where
     pub ended : end ≡ end_before img n
     pub claimed : vs ≡ claim_all (kids_to img n) us
     pub low : end ≤ 8192
-    pub within : n ≤ nodes img
-
-  abbrev pub NodesTested : List ℕ → ℕ → List ℕ → Type 0
-  NodesTested us r vs = Step (run (test_node img) (nodes img) 0) (end_before img (nodes img)) (kids_to img (nodes img)) us r vs
 
   pub nodes-begin : (us : List ℕ) → NodesLeft us 0 0 us
   unfolding end_before kids_to claim_all
-  nodes-begin us = record { left = run-begin _ _; ended = refl; claimed = refl; low = omega arith; within = omega arith }
+  nodes-begin us = record { left = run-begin _ _; ended = refl; claimed = refl; low = omega arith }
 
-  module _ (us : List ℕ) (n end : ℕ) {vs ws : List ℕ} (r : ℕ) (i : NodesLeft us n end vs) (h : n < nodes img) (t : NodeTested img n vs r ws) where
-    pub nodes-next : code r ≡ 0 → NodesLeft us (n + 1) (r) ws
+  module _ (us : List ℕ) (n end : ℕ) {vs ws : List ℕ} (i : NodesLeft us n end vs) (h : n < nodes img) where
+    pub nodes-next : (after : ℕ) → NodeTested img n vs ws (Ok after) → NodesLeft us (n + 1) after ws
     unfolding end_before kids_to
-    nodes-next c =
-        let g = t.went c in
+    nodes-next after t =
+        let g = t.went in
         record {
-          left = run-next _ _ n i.left h (sym t.refusal ∙ c);
+          left = run-next _ _ n i.left h (sym t.refusal);
           ended = rw add-one g.place;
           claimed = rw add-one (g.claimed ∙ ap (claim_all (numbers (kids img n))) i.claimed ∙ sym (claim-append (kids_to img n) _ us));
           low = g.low;
-          within = omega arith;
         }
 
-    pub nodes-stop : (code r ≡ 0 → ⊥) → NodesTested us r ws
-    nodes-stop c = refused _ _ r (sym (run-stop _ _ n _ i.left h (sym t.refusal) c)) c
+    pub nodes-stop : (e : Refusal) → NodeTested img n vs ws (Err e) → NodesTested img us ws (Err e)
+    nodes-stop e t = refuses e _ (run-stop _ _ n _ i.left h (sym t.refusal) (refusal-some e))
 
-  pub nodes-end : (us : List ℕ) (n end : ℕ) {vs : List ℕ} (r : ℕ) → NodesLeft us n end vs → nodes img ≤ n → code r ≡ 0 → r ≡ end → NodesTested us r vs
-  nodes-end us n end r i h c a =
-      let q : n ≡ nodes img = omega arith in
-      record {
-        refusal = c ∙ sym (run_end _ _ n i.left h);
-        went = λ z. record { place = a ∙ (rw q at i.ended); claimed = rw q at i.claimed; low = omega arith };
-      }
+  pub nodes-end : (us : List ℕ) (end : ℕ) {vs : List ℕ} → NodesLeft us (nodes img) end vs → NodesTested img us vs (Ok end)
+  nodes-end us end i = passes end _ (run_end _ _ _ i.left (omega arith)) (record { place = i.ended; claimed = i.claimed; low = i.low })
 
   -- 11
   abbrev pub parent : ℕ → ℕ

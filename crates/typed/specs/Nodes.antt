@@ -1,12 +1,9 @@
 -- What the typed reads of rows promise of an answer that is an enum: its case by document 01's number, in declared order from 0, and
 -- the child. A number that is no case's, which is refused (8), is taken for the last.
-use Rattle.std.specs.Prelude.{List, [], ◌∷◌, ℕ, suc, get_or}
+use Rattle.std.specs.Prelude.{List, [], ◌∷◌, ℕ, suc, get_or, Option, Some, None}
 use Rattle.ast.specs.Image.{field}
 use Rattle.ast.specs.declared.NodeId.{NodeId}
-use Rattle.typed.specs.declared.nodes.OptName.{OptName}
-use Rattle.typed.specs.declared.nodes.OptName.TheVariants as opt_name
-use Rattle.typed.specs.declared.nodes.OptTermId.{OptTermId}
-use Rattle.typed.specs.declared.nodes.OptTermId.TheVariants as opt_term
+use Rattle.typed.specs.declared.nodes.TermId.{TermId}
 use Rattle.typed.specs.declared.nodes.Decl.{Decl}
 use Rattle.typed.specs.declared.nodes.Decl.TheVariants as decl
 use Rattle.typed.specs.declared.nodes.Term.{Term}
@@ -25,13 +22,13 @@ use Rattle.typed.specs.declared.nodes.Stmt.{Stmt}
 use Rattle.typed.specs.declared.nodes.Stmt.TheVariants as stmt
 
 -- the word of an option: 0, or the number plus 1
-abbrev pub name_word : OptName → ℕ
-name_word opt_name.Absent = 0
-name_word (opt_name.Given x) = suc x
+abbrev pub name_word : Option ℕ → ℕ
+name_word None = 0
+name_word (Some x) = suc x
 
-abbrev pub term_word : OptTermId → ℕ
-term_word opt_term.Absent = 0
-term_word (opt_term.Given t) = suc t.0.0
+abbrev pub term_word : Option TermId → ℕ
+term_word None = 0
+term_word (Some t) = suc t.0.0
 
 -- Decl: all cases but the last, and the case by its number
 abbrev pub decl_cases : NodeId → List Decl

@@ -1,124 +1,64 @@
 // The rows of the 41 kinds, under the names of ast.rs: `ast.term(id)` is `typed::term(image, id)`.
+// Each kind keeps a read of its own, as in ast.rs: their fields differ, so a trait of rows would only move each body into an impl.
 #![tactic(auto)]
 
 ghost use Rattle.std.specs.Prelude.{◌≡◌, ◌+◌, ◌≤◌};
 ghost use Rattle.ast.specs.Image as ImageSpec;
-ghost use Rattle.typed.specs.RowShapes.{One, Two, Three, Listed, WordList};
+ghost use Rattle.typed.specs.RowShapes.{One, Two, Three, Listed, WordList, nth_node};
 ghost use Rattle.typed.specs.Nodes.{name_word, term_word, decl_at, term_at, app_head_at, type_expr_at, pred_expr_at, if_atom_at, then_atom_at, stmt_at};
 
 use crate::nodes::*;
-use ast::{NodeId, field, wide};
+use ast::{NodeId, field};
 
 pub mod nodes;
 
 // An absent option is 0, a present one its number plus 1.
-fn opt_name(word: u32) -> OptName
+fn option(word: u32) -> Option<u32>
     ensures { name_word result ≡ word }
 {
-    if word == 0 {
-        return OptName::Absent;
-    }
-    OptName::Given(word - 1)
-}
-
-fn opt_term(word: u32) -> OptTermId
-    ensures { term_word result ≡ word }
-{
-    if word == 0 {
-        return OptTermId::Absent;
-    }
-    OptTermId::Given(TermId(NodeId(word - 1)))
+    word.checked_sub(1)
 }
 
 // The list whose count is at a place of a node's row, its items after it.
-fn list(image: &[u8], node: NodeId, place: usize) -> NodeList
+fn list<T>(image: &[u8], node: NodeId, place: usize) -> Ids<T>
     requires { place ≤ 8192 }
-    ensures { Listed image.now node.0 place result }
+    ensures { Listed image.now node.0 place result.list }
 {
-    NodeList {
+    Ids::from(NodeList {
         node,
         first: place + 1,
-        count: wide(field(image, node, place)),
-    }
+        count: field(image, node, place) as usize,
+    })
 }
 
 // The block at a place of a branch.
-pub fn block(image: &[u8], blocks: Blocks, place: usize) -> StmtIds
+pub fn block(image: &[u8], blocks: Ids<Ids<StmtId>>, place: usize) -> Ids<StmtId>
     requires { place ≤ 8192 }
-    ensures { Listed image.now blocks.0.node.0 place result.0 }
+    ensures { Listed image.now blocks.list.node.0 place result.list }
 {
-    let node = blocks.0.node;
-    StmtIds(list(image, node, place))
+    list(image, blocks.list.node, place)
 }
 
-// The i-th node of a list; below, as an id of its kind.
-fn nth(image: &[u8], list: NodeList, i: usize) -> NodeId
-    requires { list.first + i ≤ 8192 }
-    ensures { result.0 ≡ ImageSpec.field image.now list.node.0 (list.first + i) }
+// The i-th id of a list.
+pub fn nth<T: From<NodeId>>(image: &[u8], ids: Ids<T>, i: usize) -> T
+    requires { ids.list.first + i ≤ 8192 }
+    ensures { T.from_gives (nth_node image.now ids.list i) result }
 {
-    let node = list.node;
-    NodeId(field(image, node, list.first + i))
-}
-
-pub fn nth_decl(image: &[u8], decls: DeclIds, i: usize) -> DeclId
-    requires { decls.0.first + i ≤ 8192 }
-    ensures { result.0.0 ≡ ImageSpec.field image.now decls.0.node.0 (decls.0.first + i) }
-{
-    DeclId(nth(image, decls.0, i))
-}
-
-pub fn nth_stmt(image: &[u8], stmts: StmtIds, i: usize) -> StmtId
-    requires { stmts.0.first + i ≤ 8192 }
-    ensures { result.0.0 ≡ ImageSpec.field image.now stmts.0.node.0 (stmts.0.first + i) }
-{
-    StmtId(nth(image, stmts.0, i))
-}
-
-pub fn nth_ctor(image: &[u8], ctors: CtorDeclIds, i: usize) -> CtorDeclId
-    requires { ctors.0.first + i ≤ 8192 }
-    ensures { result.0.0 ≡ ImageSpec.field image.now ctors.0.node.0 (ctors.0.first + i) }
-{
-    CtorDeclId(nth(image, ctors.0, i))
-}
-
-pub fn nth_arg(image: &[u8], args: ArgDeclIds, i: usize) -> ArgDeclId
-    requires { args.0.first + i ≤ 8192 }
-    ensures { result.0.0 ≡ ImageSpec.field image.now args.0.node.0 (args.0.first + i) }
-{
-    ArgDeclId(nth(image, args.0, i))
-}
-
-pub fn nth_term(image: &[u8], terms: TermIds, i: usize) -> TermId
-    requires { terms.0.first + i ≤ 8192 }
-    ensures { result.0.0 ≡ ImageSpec.field image.now terms.0.node.0 (terms.0.first + i) }
-{
-    TermId(nth(image, terms.0, i))
-}
-
-pub fn nth_name(image: &[u8], names: IdentTermIds, i: usize) -> IdentTermId
-    requires { names.0.first + i ≤ 8192 }
-    ensures { result.0.0 ≡ ImageSpec.field image.now names.0.node.0 (names.0.first + i) }
-{
-    IdentTermId(nth(image, names.0, i))
-}
-
-pub fn nth_case(image: &[u8], cases: MatchCaseIds, i: usize) -> MatchCaseId
-    requires { cases.0.first + i ≤ 8192 }
-    ensures { result.0.0 ≡ ImageSpec.field image.now cases.0.node.0 (cases.0.first + i) }
-{
-    MatchCaseId(nth(image, cases.0, i))
+    let list = ids.list;
+    T::from(NodeId(field(image, list.node, list.first + i)))
 }
 
 // 0
 pub fn module(image: &[u8], id: ModuleId) -> Module
-    ensures { Listed image.now id.0.0 0 result.decls.0 }
+    ensures { Listed image.now id.0.0 0 result.decls.list }
 {
     Module {
-        decls: DeclIds(list(image, id.0, 0)),
+        decls: list(image, id.0, 0),
     }
 }
 
 // 1
+#[tactic(auto, unfolding(crate::specs::Nodes::decl_of))]
 pub fn decl(image: &[u8], id: DeclId) -> Decl
     ensures { result ≡ decl_at image.now id.0.0 }
 {
@@ -177,31 +117,31 @@ pub fn const_decl(image: &[u8], id: ConstDeclId) -> ConstDecl
 
 // 6
 pub fn rule_decl(image: &[u8], id: RuleDeclId) -> RuleDecl
-    ensures { WordList image.now id.0.0 (name_word result.name) result.body.0 }
+    ensures { WordList image.now id.0.0 (name_word result.name) result.body.list }
 {
     RuleDecl {
-        name: opt_name(field(image, id.0, 0)),
-        body: StmtIds(list(image, id.0, 1)),
+        name: option(field(image, id.0, 0)),
+        body: list(image, id.0, 1),
     }
 }
 
 // 7
 pub fn enum_decl(image: &[u8], id: EnumDeclId) -> EnumDecl
-    ensures { WordList image.now id.0.0 result.name result.ctors.0 }
+    ensures { WordList image.now id.0.0 result.name result.ctors.list }
 {
     EnumDecl {
         name: field(image, id.0, 0),
-        ctors: CtorDeclIds(list(image, id.0, 1)),
+        ctors: list(image, id.0, 1),
     }
 }
 
 // 8
 pub fn model_decl(image: &[u8], id: ModelDeclId) -> ModelDecl
-    ensures { WordList image.now id.0.0 result.name result.body.0 }
+    ensures { WordList image.now id.0.0 result.name result.body.list }
 {
     ModelDecl {
         name: field(image, id.0, 0),
-        body: DeclIds(list(image, id.0, 1)),
+        body: list(image, id.0, 1),
     }
 }
 
@@ -220,21 +160,22 @@ pub fn arg_decl(image: &[u8], id: ArgDeclId) -> ArgDecl
     ensures { Two image.now id.0.0 (name_word result.name) result.typ.0.0 }
 {
     ArgDecl {
-        name: opt_name(field(image, id.0, 0)),
+        name: option(field(image, id.0, 0)),
         typ: TypeExprId(NodeId(field(image, id.0, 1))),
     }
 }
 
 // 11
 pub fn arg_decl_list(image: &[u8], id: ArgDeclListId) -> ArgDeclList
-    ensures { Listed image.now id.0.0 0 result.args.0 }
+    ensures { Listed image.now id.0.0 0 result.args.list }
 {
     ArgDeclList {
-        args: ArgDeclIds(list(image, id.0, 0)),
+        args: list(image, id.0, 0),
     }
 }
 
 // 12
+#[tactic(auto, unfolding(crate::specs::Nodes::term_of))]
 pub fn term(image: &[u8], id: TermId) -> Term
     ensures { result ≡ term_at image.now id.0.0 }
 {
@@ -280,6 +221,7 @@ pub fn app_term(image: &[u8], id: AppTermId) -> AppTerm
 }
 
 // 15
+#[tactic(auto, unfolding(crate::specs::Nodes::app_head_of))]
 pub fn app_head(image: &[u8], id: AppHeadId) -> AppHead
     ensures { result ≡ app_head_at image.now id.0.0 }
 {
@@ -294,11 +236,11 @@ pub fn app_head(image: &[u8], id: AppHeadId) -> AppHead
 
 // 16
 pub fn app_head_member(image: &[u8], id: AppHeadMemberId) -> AppHeadMember
-    ensures { WordList image.now id.0.0 result.receiver.0.0 result.names.0 }
+    ensures { WordList image.now id.0.0 result.receiver.0.0 result.names.list }
 {
     AppHeadMember {
         receiver: TermId(NodeId(field(image, id.0, 0))),
-        names: IdentTermIds(list(image, id.0, 1)),
+        names: list(image, id.0, 1),
     }
 }
 
@@ -351,14 +293,15 @@ pub fn comp_term(image: &[u8], id: CompTermId) -> CompTerm
 
 // 22
 pub fn term_list(image: &[u8], id: TermListId) -> TermList
-    ensures { Listed image.now id.0.0 0 result.terms.0 }
+    ensures { Listed image.now id.0.0 0 result.terms.list }
 {
     TermList {
-        terms: TermIds(list(image, id.0, 0)),
+        terms: list(image, id.0, 0),
     }
 }
 
 // 23
+#[tactic(auto, unfolding(crate::specs::Nodes::type_expr_of))]
 pub fn type_expr(image: &[u8], id: TypeExprId) -> TypeExpr
     ensures { result ≡ type_expr_at image.now id.0.0 }
 {
@@ -390,6 +333,7 @@ pub fn mor_type_expr(image: &[u8], id: MorTypeExprId) -> MorTypeExpr
 }
 
 // 26
+#[tactic(auto, unfolding(crate::specs::Nodes::pred_expr_of))]
 pub fn pred_expr(image: &[u8], id: PredExprId) -> PredExpr
     ensures { result ≡ pred_expr_at image.now id.0.0 }
 {
@@ -411,6 +355,7 @@ pub fn ambient_pred_expr(image: &[u8], id: AmbientPredExprId) -> AmbientPredExpr
 }
 
 // 28
+#[tactic(auto, unfolding(crate::specs::Nodes::if_atom_of))]
 pub fn if_atom(image: &[u8], id: IfAtomId) -> IfAtom
     ensures { result ≡ if_atom_at image.now id.0.0 }
 {
@@ -425,6 +370,7 @@ pub fn if_atom(image: &[u8], id: IfAtomId) -> IfAtom
 }
 
 // 29
+#[tactic(auto, unfolding(crate::specs::Nodes::then_atom_of))]
 pub fn then_atom(image: &[u8], id: ThenAtomId) -> ThenAtom
     ensures { result ≡ then_atom_at image.now id.0.0 }
 {
@@ -481,22 +427,23 @@ pub fn defined_then_atom(image: &[u8], id: DefinedThenAtomId) -> DefinedThenAtom
     ensures { Two image.now id.0.0 (term_word result.var) result.term.0.0 }
 {
     DefinedThenAtom {
-        var: opt_term(field(image, id.0, 0)),
+        var: option(field(image, id.0, 0)).map(|node| TermId(NodeId(node))),
         term: TermId(NodeId(field(image, id.0, 1))),
     }
 }
 
 // 35
 pub fn match_case(image: &[u8], id: MatchCaseId) -> MatchCase
-    ensures { WordList image.now id.0.0 result.pattern.0.0 result.body.0 }
+    ensures { WordList image.now id.0.0 result.pattern.0.0 result.body.list }
 {
     MatchCase {
         pattern: TermId(NodeId(field(image, id.0, 0))),
-        body: StmtIds(list(image, id.0, 1)),
+        body: list(image, id.0, 1),
     }
 }
 
 // 36
+#[tactic(auto, unfolding(crate::specs::Nodes::stmt_of))]
 pub fn stmt(image: &[u8], id: StmtId) -> Stmt
     ensures { result ≡ stmt_at image.now id.0.0 }
 {
@@ -530,19 +477,19 @@ pub fn then_stmt(image: &[u8], id: ThenStmtId) -> ThenStmt
 
 // 39
 pub fn branch_stmt(image: &[u8], id: BranchStmtId) -> BranchStmt
-    ensures { Listed image.now id.0.0 0 result.blocks.0 }
+    ensures { Listed image.now id.0.0 0 result.blocks.list }
 {
     BranchStmt {
-        blocks: Blocks(list(image, id.0, 0)),
+        blocks: list(image, id.0, 0),
     }
 }
 
 // 40
 pub fn match_stmt(image: &[u8], id: MatchStmtId) -> MatchStmt
-    ensures { WordList image.now id.0.0 result.term.0.0 result.cases.0 }
+    ensures { WordList image.now id.0.0 result.term.0.0 result.cases.list }
 {
     MatchStmt {
         term: TermId(NodeId(field(image, id.0, 0))),
-        cases: MatchCaseIds(list(image, id.0, 1)),
+        cases: list(image, id.0, 1),
     }
 }

@@ -1,13 +1,18 @@
-use Prim.Native.Nat.{◌-◌}
 use mathlib.Core.Path.{sym, ap, ◌∙◌}
+use Prim.Native.Nat.{◌-◌}
+use borrow.Author.Tests.{eqb-true, eqb-false}
 use Rattle.ast.proofs.Words.{name-rule, name-arg, name-plain}
 use Rattle.ast.proofs.name_of.Goals as goal
+use Rattle.ast.proofs.name_of.Goals.{then-is_kind-via-then-is_kind, then-is_kind-via-else-is_kind+then-is_kind-2}
 
-pub returns-then-kind-eq-RULE_DECL : goal.returns-then-kind-eq-RULE_DECL
-returns-then-kind-eq-RULE_DECL c = c.less_one.ensures ∙ ap (λ w. w - 1) c.field-word.ensures ∙ sym (name-rule _ _ (sym c.kind_at-kind.ensures ∙ c.if-kind-eq-RULE_DECL.true))
-
-pub returns-then-kind-eq-ARG_DECL : goal.returns-then-kind-eq-ARG_DECL
-returns-then-kind-eq-ARG_DECL c = c.less_one-then-kind-eq-ARG_DECL.ensures ∙ ap (λ w. w - 1) c.field-word.ensures ∙ sym (name-arg _ _ (sym c.kind_at-kind.ensures ∙ c.if-kind-eq-ARG_DECL.true))
+pub returns-then-is_kind : goal.returns-then-is_kind
+returns-then-is_kind c =
+    c.saturating_sub.ensures ∙ ap (λ w. w - 1) c.field-word.ensures ∙ sym (elim c.then-is_kind.branch [
+      | then-is_kind-via-then-is_kind w ↦ name-rule _ _ (eqb-true _ _ (sym c.is_kind.ensures ∙ w.if-is_kind.true))
+      | then-is_kind-via-else-is_kind+then-is_kind-2 w ↦ name-arg _ _ (eqb-true _ _ (sym w.is_kind-else-is_kind.ensures ∙ w.if-is_kind-2.true))
+    ])
 
 pub returns : goal.returns
-returns c = let k = c.kind_at-kind.ensures in c.field-word.ensures ∙ sym (name-plain _ _ (λ e. c.if-kind-eq-RULE_DECL.false (k ∙ e)) (λ e. c.if-kind-eq-ARG_DECL.false (k ∙ e)))
+returns c =
+    c.field-word.ensures
+    ∙ sym (name-plain _ _ (eqb-false _ _ (sym c.is_kind.ensures ∙ c.if-is_kind.false)) (eqb-false _ _ (sym c.is_kind-else-is_kind.ensures ∙ c.if-is_kind-2.false)))

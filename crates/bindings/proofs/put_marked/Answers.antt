@@ -1,23 +1,31 @@
+use mathlib.Core.Path.{refl, sym, subst}
 use native.Mathlib.Omega.{arith}
 use Rattle.ast.proofs.Accepted.{sized}
-use Rattle.rows.proofs.Parts.{left-start, left-next, left_end}
-use Rattle.bindings.proofs.Marking.{strict-start, strict-item, strict-room, strict-end}
+use Rattle.rows.proofs.Parts.{left-start, left-next, left-room, left_end, appends-as, appends-no}
+use Rattle.rows.specs.Rows.{Appends}
+use Rattle.bindings.proofs.Leaves.{when_true, when_false, fits-as}
+use Rattle.bindings.proofs.Marking.{strict-start, strict-item, strict-end}
+use Rattle.bindings.proofs.put_marked.Goals.{then-marks-m, else-marks-m}
 use Rattle.bindings.proofs.put_marked.Goals as goal
 
 pub loop-m-init : goal.loop-m-init
-loop-m-init c = (omega arith, left-start _ _ (strict-start _) c.requires.fits)
+loop-m-init c = left-start _ (strict-start _) c.requires.fits
 
-pub bounds-marks-i : goal.bounds-marks-i
-bounds-marks-i c = let s = (sized _ c.requires.accepted).few_nodes in omega arith
+pub bounds-marks-m : goal.bounds-marks-m
+bounds-marks-m c = let s = (sized _ c.requires.accepted).few_nodes in let l = c.loop-m-test.true in let n = c.node_count-m-end.ensures in omega arith
 
-pub put_if-after-requires : goal.put_if-after-requires
-put_if-after-requires c = strict-room _ c.loop-m.m c.loop-m.invariant.1 c.requires (omega arith) c.wide-i.ensures c.repeated_argument-number.ensures
+pub report-requires : goal.report-requires
+report-requires c = fits-as _ (when_true _ c.if-marks-m.true) (left-room _ _ c.loop-m.invariant (strict-item _ c.loop-m.m c.requires (let l = c.loop-m-test.true in let n = c.node_count-m-end.ensures in omega arith) refl))
 
 pub loop-m-preserved : goal.loop-m-preserved
-loop-m-preserved c = (omega arith, left-next c.loop-m.invariant.1 (strict-item _ c.loop-m.m c.requires (omega arith) c.wide-i.ensures c.repeated_argument-number.ensures) c.put_if-after.ensures c.put_if-after.auto.rows)
-
-pub shape_of-rows : goal.shape_of-rows
-shape_of-rows c = c.loop-m.invariant.1.long
+loop-m-preserved c =
+    let l = c.loop-m-test.true in
+    let n = c.node_count-m-end.ensures in
+    let item = strict-item _ c.loop-m.m c.requires (omega arith) refl in
+    elim c.if-marks-m.branch [
+      | then-marks-m w ↦ left-next c.loop-m.invariant item (subst (Appends _ c.loop-m.rows) (sym w.rows-is) (appends-as (sym (when_true _ w.if-marks-m.true)) w.report.ensures))
+      | else-marks-m w ↦ left-next c.loop-m.invariant item (subst (Appends _ c.loop-m.rows) (sym w.rows-is) (appends-no _ (when_false _ w.if-marks-m.false)))
+    ]
 
 pub returns : goal.returns
-returns c = left_end c.loop-m.invariant.1 (strict-end _ c.loop-m.m (omega arith))
+returns c = left_end c.loop-m.invariant (strict-end _ c.loop-m.m (let l = c.loop-m-test.false in let n = c.node_count-m-end.ensures in omega arith))

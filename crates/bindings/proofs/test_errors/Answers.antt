@@ -1,13 +1,11 @@
-use mathlib.Core.Path.{sym, ◌∙◌}
-use native.Mathlib.Omega.{arith}
-use Rattle.bindings.proofs.Calls.{errors-refused, mode-over, mode-known}
+use mathlib.Core.Path.{ap, ◌∙◌}
+use Rattle.error.proofs.Refused.{passed-on, refusal-some}
+use Rattle.error.specs.Refusals.{refusal_of}
+use Rattle.bindings.proofs.Calls.{errors-refused, errors-passed}
 use Rattle.bindings.proofs.test_errors.Goals as goal
 
-pub returns-then-code-ne0 : goal.returns-then-code-ne0
-returns-then-code-ne0 c = errors-refused _ _ _ _ _ c.test_rows-code.ensures c.if-code-ne0.true
+pub returns-in_err-test_rows-clause-refusal : goal.returns-in_err-test_rows-clause-refusal
+returns-in_err-test_rows-clause-refusal c = passed-on _ _ c.from_residual.ensures.1 ∙ errors-refused _ _ _ _ _ c.in_err-test_rows.ensures (refusal-some _)
 
-pub returns-then-mode-gt2 : goal.returns-then-mode-gt2
-returns-then-mode-gt2 c = mode-over _ _ _ _ (sym c.if-code-ne0.false ∙ c.test_rows-code.ensures) c.if-mode-gt2.true
-
-pub returns : goal.returns
-returns c = mode-known _ _ _ _ (sym c.if-code-ne0.false ∙ c.test_rows-code.ensures) (omega arith)
+pub returns-clause-refusal : goal.returns-clause-refusal
+returns-clause-refusal c = ap refusal_of c.try_from.ensures ∙ errors-passed _ _ _ _ c.in_ok-test_rows.ensures

@@ -1,8 +1,5 @@
 use mathlib.Core.Path.{sym, ap, ◌∙◌}
 use mathlib.Core.Option.{some}
-use Prim.Native.Nat.{ℕ}
-use Rattle.ast.specs.Image.{nodes}
-use Rattle.table.specs.Rising.{node_at}
 use Rattle.environment.specs.Stands.{told}
 use Rattle.environment.proofs.Words.{told-some}
 use Rattle.environment.proofs.found.Goals as goal
@@ -12,4 +9,4 @@ unfolding told
 returns-then-word-eq0 c = rw c.if-word-eq0.true
 
 pub returns : goal.returns
-returns c = ap some c.symbol_node.ensures ∙ ap (λ (j : ℕ). some (node_at (nodes c.args.image.now) c.args.table.now j)) c.row_of.ensures ∙ sym (told-some _ _ _ c.if-word-eq0.false)
+returns c = ap some c.symbol_node.ensures ∙ sym (told-some _ _ _ c.if-word-eq0.false)

@@ -6,12 +6,12 @@ use Rattle.exports.proofs.Places.{SmallPlace, place-small}
 use Rattle.exports.proofs.eqlog_name.Goals as goal
 
 pub overflow_mul-result : goal.overflow_mul-result
-overflow_mul-result c = let s = place-small _ _ _ c.name_place-p.ensures in omega arith
+overflow_mul-result c = let s = place-small _ _ _ c.in-Some.ensures.place in omega arith
 
 pub overflow_add-result : goal.overflow_add-result
-overflow_add-result c = let s = place-small _ _ _ c.name_place-p.ensures in omega arith
+overflow_add-result c = let s = place-small _ _ _ c.in-Some.ensures.place in omega arith
 
-pub returns : goal.returns
-returns c =
-    let s = subst SmallPlace c.name_place-p.ensures (place-small _ _ _ c.name_place-p.ensures) in
-    record { number = ap placed c.name_place-p.ensures; start_fits = s.0; len_fits = s.1 }
+pub returns-in-Some : goal.returns-in-Some
+returns-in-Some c =
+    let s = subst SmallPlace c.in-Some.ensures.place (place-small _ _ _ c.in-Some.ensures.place) in
+    record { number = ap placed c.in-Some.ensures.place; start_fits = s.0; len_fits = s.1 }

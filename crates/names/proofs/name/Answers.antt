@@ -1,16 +1,13 @@
-use mathlib.Core.Path.{refl, ap, ◌∙◌}
-use Prim.Native.Nat.{◌+◌}
-use native.Mathlib.Nat.{add_comm}
-use Rattle.names.specs.declared.NamePlace.{NamePlace}
+use mathlib.Core.Path.{◌∙◌}
 use native.Mathlib.Omega.{arith}
 use Rattle.names.proofs.NameParts.{name-part}
 use Rattle.names.proofs.name.Goals as goal
 
 pub slice_bounds-result-end : goal.slice_bounds-result-end
-slice_bounds-result-end c = let p = name-part _ _ _ c.name_place-p.ensures in omega arith
+slice_bounds-result-end c = let p = name-part _ _ _ (c.unwrap_or-place.ensures ∙ c.name_place.ensures.place) in omega arith
 
 pub overflow_add-end : goal.overflow_add-end
-overflow_add-end c = let p = name-part _ _ _ c.name_place-p.ensures in omega arith
+overflow_add-end c = let p = name-part _ _ _ (c.unwrap_or-place.ensures ∙ c.name_place.ensures.place) in omega arith
 
-pub returns : goal.returns
-returns c = ((name-part _ _ _ c.name_place-p.ensures).bytes_are, record { memory = refl; start = add_comm _ _ ∙ ap (λ (p : NamePlace). c.args.image.ref_ptr.1 + p.start) c.name_place-p.ensures })
+pub returns-clause-bytes : goal.returns-clause-bytes
+returns-clause-bytes c = (name-part _ _ _ (c.unwrap_or-place.ensures ∙ c.name_place.ensures.place)).bytes_are

@@ -1,25 +1,35 @@
 use mathlib.Core.Path.{sym, ◌∙◌}
-use native.Mathlib.Omega.{arith}
-use Rattle.ast.proofs.Accepted.{passed, named}
-use Rattle.names.proofs.Names.{name-fits}
-use Rattle.names.proofs.NameParts.{place-refused, place-beyond, place_is}
-use Rattle.tests.proofs.Whole.{sized-within}
+use Rattle.ast.proofs.Accepted.{named}
+use Rattle.error.proofs.Refused.{refusal-some}
+use Rattle.names.proofs.NameParts.{none-refused, none-beyond, there, place-refused, place-beyond, place_is}
 use Rattle.names.proofs.name_place.Goals as goal
 
-pub returns-then-verdict-ne0 : goal.returns-then-verdict-ne0
-returns-then-verdict-ne0 c = sym (place-refused _ _ (λ e. c.if-verdict-ne0.true (c.verdict.ensures ∙ e)))
+pub returns-in_default-clause-given : goal.returns-in_default-clause-given
+returns-in_default-clause-given c = rw (none-refused _ _ (λ e. refusal-some _ (c.in_default.ensures.code ∙ e))) (λ z. z, λ z. z)
 
-pub returns-then-s-number : goal.returns-then-s-number
-returns-then-s-number c = sym (place-beyond _ _ (sym c.verdict.ensures ∙ c.if-verdict-ne0.false) (let n = c.sizes_of-s.ensures.names_are in omega arith))
+pub returns-in_default-clause-place : goal.returns-in_default-clause-place
+returns-in_default-clause-place c = sym (place-refused _ _ (λ e. refusal-some _ (c.in_default.ensures.code ∙ e)))
 
-pub name_start-requires : goal.name_start-requires
-name_start-requires c = let e = sym c.verdict.ensures ∙ c.if-verdict-ne0.false in (sized-within _ _ c.sizes_of-s.ensures (passed _ e).sizes, omega arith)
+pub returns-then-sized-number-clause-given : goal.returns-then-sized-number-clause-given
+returns-then-sized-number-clause-given c =
+    let n = c.in-Ok.sized.within.head.names_are in
+    rw (none-beyond _ _ (sym c.in-Ok.ensures.code) (rw c.in-Ok.ensures.image at (rw n at c.if-sized-number.true))) (λ z. z, λ z. z)
 
-pub span_of-p-requires : goal.span_of-p-requires
-span_of-p-requires c = let e = sym c.verdict.ensures ∙ c.if-verdict-ne0.false in record { within = sized-within _ _ c.sizes_of-s.ensures (passed _ e).sizes; rising_all = (named _ e).rising_all; name = (let n = c.sizes_of-s.ensures.names_are in omega arith); start_is = c.name_start.ensures }
+pub returns-then-sized-number-clause-place : goal.returns-then-sized-number-clause-place
+returns-then-sized-number-clause-place c =
+    let n = c.in-Ok.sized.within.head.names_are in
+    sym (place-beyond _ _ (sym c.in-Ok.ensures.code) (rw c.in-Ok.ensures.image at (rw n at c.if-sized-number.true)))
 
-pub overflow_sub-result : goal.overflow_sub-result
-overflow_sub-result c = let f = name-fits _ _ _ _ _ c.span_of-p.ensures.0 in omega arith
+pub invariant_of-named : goal.invariant_of-named
+invariant_of-named c = record { rising_all = rw c.in-Ok.ensures.image ((named _ (sym c.in-Ok.ensures.code)).rising_all) }
 
-pub returns : goal.returns
-returns c = sym (place_is _ _ (sym c.verdict.ensures ∙ c.if-verdict-ne0.false) c.span_of-p.ensures.0.name _ _ c.span_of-p.ensures.0.from_is c.span_of-p.ensures.0.to_is)
+pub returns-clause-given : goal.returns-clause-given
+returns-clause-given c =
+    let n = c.in-Ok.sized.within.head.names_are in
+    rw (there _ _ (sym c.in-Ok.ensures.code) (rw c.in-Ok.ensures.image at (rw n at c.if-sized-number.false))) (λ z. z, λ z. z)
+
+pub returns-clause-place : goal.returns-clause-place
+returns-clause-place c =
+    let n = c.in-Ok.sized.within.head.names_are in
+    sym (place_is _ _ (there _ _ (sym c.in-Ok.ensures.code) (rw c.in-Ok.ensures.image at (rw n at c.if-sized-number.false))) _
+    (rw c.in-Ok.ensures.image at c.place.ensures.start) (rw c.in-Ok.ensures.image at c.place.ensures.len))

@@ -6,11 +6,8 @@ use Rattle.names.proofs.name_start.Goals as goal
 
 pub returns-then-i-eq0 : goal.returns-then-i-eq0
 unfolding image.name_start
-returns-then-i-eq0 c = sym (ap (image.name_start c.args.image.now) c.if-i-eq0.true)
-
-pub name_end-requires : goal.name_end-requires
-name_end-requires c = (c.requires.0, omega arith)
+returns-then-i-eq0 c = sym (ap (image.name_start c.args.image.now.image.now) c.if-i-eq0.true)
 
 pub returns : goal.returns
 unfolding image.name_start
-returns c = c.name_end.ensures ∙ ap (image.name_start c.args.image.now) (let q : suc (c.args.i - 1) ≡ c.args.i = (let z = c.if-i-eq0.false in omega arith) in q)
+returns c = c.name_end.ensures ∙ ap (image.name_start c.args.image.now.image.now) (let q : suc (c.args.i - 1) ≡ c.args.i = (let z = c.if-i-eq0.false in omega arith) in q)

@@ -1,24 +1,26 @@
-use native.Mathlib.Omega.{arith}
-use Rattle.names.proofs.Numbers.{number-begin, number-hit, number-miss, number-end}
+use mathlib.Core.Path.{refl, sym, ap, ◌∙◌}
+use native.Mathlib.Nat.{sub-zero}
+use lib.Dec.{eqb}
+use Rattle.std.specs.Cmp.Lexicographic.{pointwise}
+use Rattle.std.proofs.Common.{rules, tests}
+use Rattle.std.proofs.lemmas.Iterator.{YieldsList-from_range}
+use Rattle.std.proofs.lemmas.Iterator.Search.{find_from_yields_List}
+use Rattle.ast.specs.Image.{name_bytes}
 use Rattle.ast.proofs.Accepted.{passed, named}
+use Rattle.names.specs.Number.{number_in}
 use Rattle.tests.proofs.Whole.{sized-within}
-use Rattle.names.proofs.Names.{name-fits}
+use Rattle.names.proofs.Numbers.{number_same, number-find}
 use Rattle.names.proofs.number_of.Goals as goal
 
-pub loop-i-init : goal.loop-i-init
-loop-i-init c = number-begin _ _
+pub invariant_of-names : goal.invariant_of-names
+invariant_of-names c = record { within = sized-within _ _ c.sizes_of-sizes.ensures (passed _ c.requires).sizes }
 
-pub span_of-p-requires : goal.span_of-p-requires
-span_of-p-requires c = record { within = sized-within _ _ c.sizes_of-s.ensures (passed _ c.requires).sizes; rising_all = (named _ c.requires).rising_all; name = omega arith; start_is = c.loop-i.invariant.start_is }
-
-pub spells-requires : goal.spells-requires
-spells-requires c = name-fits _ _ _ _ _ c.span_of-p.ensures.0
-
-pub returns-then-spells : goal.returns-then-spells
-returns-then-spells c = number-hit _ _ _ _ c.loop-i.invariant (omega arith) _ _ _ c.span_of-p.ensures.0 _ c.spells.ensures c.if-spells.true
-
-pub loop-i-preserved : goal.loop-i-preserved
-loop-i-preserved c = number-miss _ _ _ _ c.loop-i.invariant (omega arith) _ _ _ c.span_of-p.ensures.0 _ c.spells.ensures c.if-spells.false _ c.span_of-p.ensures.1
+pub invariant_of-names-2 : goal.invariant_of-names-2
+invariant_of-names-2 c = record { rising_all = (named _ c.requires).rising_all }
 
 pub returns : goal.returns
-returns c = number-end _ _ _ _ c.loop-i.invariant (omega arith)
+returns c =
+    let test = λ (i : _). pointwise eqb (name_bytes c.args.image.now i) c.args.name.now in
+    sym (number_same c.find.result)
+    ∙ ap number_in (find_from_yields_List test _ _ _ c.find.ensures.ran (YieldsList-from_range 0 c.sizes_of-sizes.result.names c.sizes_of-sizes.result.names refl (sub-zero _)) (λ x b q k. search (rules, tests)))
+    ∙ number-find c.args.image.now c.args.name.now _ c.sizes_of-sizes.ensures.names_are

@@ -1,22 +1,23 @@
-use mathlib.Core.Path.{sym, ◌∙◌}
-use Rattle.tests.proofs.Whole.{sized-within}
-use Rattle.names.proofs.Places.{verdict-sizes, verdict-names, verdict-nodes}
+use mathlib.Core.Path.{sym, ap, ◌∙◌}
+use Rattle.ast.specs.Tests.{test_names}
+use Rattle.error.proofs.Refused.{refusal-some, passed-on}
+use Rattle.names.proofs.Places.{after_names, verdict-sizes, verdict-names, verdict-nodes}
 use Rattle.names.proofs.verdict.Goals as goal
 
-pub test_sizes-a-requires : goal.test_sizes-a-requires
-test_sizes-a-requires c = c.sizes_of-s.ensures
+pub returns-in_err-sized-clause-code : goal.returns-in_err-sized-clause-code
+returns-in_err-sized-clause-code c = passed-on _ _ c.from_residual.ensures.1 ∙ sym (verdict-sizes _ _ (sym c.in_err-sized.ensures.code) (refusal-some _))
 
-pub returns-then-a-ne0 : goal.returns-then-a-ne0
-returns-then-a-ne0 c = sym (verdict-sizes _ _ (sym c.test_sizes-a.ensures) c.if-a-ne0.true)
+pub returns-in_err-test_names-clause-code : goal.returns-in_err-test_names-clause-code
+returns-in_err-test_names-clause-code c =
+    passed-on _ _ c.from_residual-in_err-test_names.ensures.1
+    ∙ sym (verdict-names _ (sym c.in_ok-sized.ensures.code) _ (ap test_names (sym c.in_ok-sized.ensures.image) ∙ sym c.in_err-test_names.ensures) (refusal-some _))
 
-pub test_names-b-requires : goal.test_names-b-requires
-test_names-b-requires c = sized-within _ _ c.sizes_of-s.ensures (sym c.test_sizes-a.ensures ∙ c.if-a-ne0.false)
+pub returns-in_err-test_nodes-clause-code : goal.returns-in_err-test_nodes-clause-code
+returns-in_err-test_nodes-clause-code c =
+    passed-on _ _ c.from_residual-in_err-test_nodes.ensures.1 ∙ c.in_err-test_nodes.ensures ∙ ap after_names c.in_ok-sized.ensures.image
+    ∙ sym (verdict-nodes _ (sym c.in_ok-sized.ensures.code) (ap test_names (sym c.in_ok-sized.ensures.image) ∙ sym c.in_ok-test_names.ensures))
 
-pub returns-then-b-ne0 : goal.returns-then-b-ne0
-returns-then-b-ne0 c = sym (verdict-names _ (sym c.test_sizes-a.ensures ∙ c.if-a-ne0.false) _ (sym c.test_names-b.ensures) c.if-b-ne0.true)
-
-pub test_nodes-requires : goal.test_nodes-requires
-test_nodes-requires c = sized-within _ _ c.sizes_of-s.ensures (sym c.test_sizes-a.ensures ∙ c.if-a-ne0.false)
-
-pub returns : goal.returns
-returns c = c.test_nodes.ensures ∙ sym (verdict-nodes _ (sym c.test_sizes-a.ensures ∙ c.if-a-ne0.false) (sym c.test_names-b.ensures ∙ c.if-b-ne0.false))
+pub returns-clause-code : goal.returns-clause-code
+returns-clause-code c =
+    c.in_ok-test_nodes.ensures ∙ ap after_names c.in_ok-sized.ensures.image
+    ∙ sym (verdict-nodes _ (sym c.in_ok-sized.ensures.code) (ap test_names (sym c.in_ok-sized.ensures.image) ∙ sym c.in_ok-test_names.ensures))

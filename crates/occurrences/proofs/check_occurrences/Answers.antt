@@ -1,28 +1,28 @@
 use mathlib.Core.Path.{refl, sym, ap, ◌∙◌}
-use Rattle.scopes.proofs.Calls.{call-refused, call-stopped}
-use Rattle.occurrences.specs.Occurrences.{lone_answer, once}
-use Rattle.occurrences.specs.Promises.{lone_of}
-use Rattle.occurrences.proofs.CollectCalls.{whole, symbols, once-checked}
+use Rattle.std.specs.Prelude.{Option, Result}
+use Rattle.error.proofs.Refused.{refusal-some}
+use Rattle.error.specs.declared.Unresolved.{Unresolved}
+use Rattle.scopes.proofs.Calls.{refused-is, stopped-is, call-refused, call-stopped}
+use Rattle.occurrences.specs.Answers.{once_answer}
+use Rattle.occurrences.specs.Occurrences.{once}
+use Rattle.occurrences.specs.declared.Lone.{Lone}
+use Rattle.occurrences.proofs.CollectCalls.{whole, once-checked}
 use Rattle.occurrences.proofs.check_occurrences.Goals as goal
 
-pub returns-then-code-ne0 : goal.returns-then-code-ne0
+pub returns-in_err-test_table : goal.returns-in_err-test_table
 unfolding once
-returns-then-code-ne0 c = call-refused _ _ _ _ c.test_table-code.ensures c.if-code-ne0.true
+returns-in_err-test_table c =
+    call-refused _ _ _ _ c.in_err-test_table.ensures (refusal-some _)
+    ∙ ap (λ (r : Result (Option Lone) Unresolved). record { answer = once_answer r; table = c.args.table.now }) (sym (refused-is _ _ c.from_residual.ensures.1))
 
-pub resolve_into-requires : goal.resolve_into-requires
-resolve_into-requires c = (sym c.test_table-code.ensures ∙ c.if-code-ne0.false, refl)
-
-pub check_module-requires : goal.check_module-requires
-check_module-requires c = (whole _ _ (sym c.test_table-code.ensures ∙ c.if-code-ne0.false) c.resolve_into.ensures.0 c.in-Done.is c.resolve_into.ensures.1, symbols _ _ (sym c.test_table-code.ensures ∙ c.if-code-ne0.false) c.resolve_into.ensures.0 c.in-Done.is)
-
-pub returns-in-Ok : goal.returns-in-Ok
-unfolding lone_answer
-returns-in-Ok c = once-checked _ _ (sym c.test_table-code.ensures ∙ c.if-code-ne0.false) c.resolve_into.ensures.0 c.in-Done.is (sym (ap lone_of c.in-Ok.is) ∙ c.check_module.ensures)
-
-pub returns-in-Lone : goal.returns-in-Lone
-unfolding lone_answer
-returns-in-Lone c = once-checked _ _ (sym c.test_table-code.ensures ∙ c.if-code-ne0.false) c.resolve_into.ensures.0 c.in-Done.is (sym (ap lone_of c.in-Lone.is) ∙ c.check_module.ensures)
-
-pub returns-in-Twice : goal.returns-in-Twice
+pub returns-in_err-scopes : goal.returns-in_err-scopes
 unfolding once
-returns-in-Twice c = call-stopped _ _ _ (sym c.test_table-code.ensures ∙ c.if-code-ne0.false) c.resolve_into.ensures.0 c.in-Twice.is
+returns-in_err-scopes c =
+    call-stopped _ _ _ (sym c.in_ok-test_table.ensures) c.in_err-scopes.ensures.resolves refl
+    ∙ ap (λ (r : Result (Option Lone) Unresolved). record { answer = once_answer r; table = c.resolve_into.new.table }) (sym (stopped-is _ _ c.from_residual-in_err-scopes.ensures.1))
+
+pub invariant_of-checker : goal.invariant_of-checker
+invariant_of-checker c = record { whole = whole _ _ (sym c.in_ok-test_table.ensures) c.in_ok-scopes.ensures.resolves refl }
+
+pub returns : goal.returns
+returns c = once-checked _ _ (sym c.in_ok-test_table.ensures) c.in_ok-scopes.ensures.resolves refl c.check_module.result c.check_module.ensures c.err.ensures.value

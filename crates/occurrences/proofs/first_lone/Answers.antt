@@ -1,19 +1,20 @@
-use mathlib.Core.Path.{ap, ◌∙◌}
+use mathlib.Core.Path.{refl, sym, ap, ap₂, ◌∙◌}
+use mathlib.Core.Option.{some}
 use Prim.Native.Nat.{ℕ}
-use lib.ListN.{get_or}
-use Rattle.rows.specs.Rows.{read_rows}
-use Rattle.occurrences.specs.Promises.{under}
-use Rattle.occurrences.proofs.CollectLone.{under-start, under_next, under-here, under-end}
+use native.Mathlib.Nat.{sub-zero}
+use Rattle.std.proofs.Common.{rules, tests}
+use Rattle.std.proofs.lemmas.Iterator.{YieldsList-from_range}
+use Rattle.std.proofs.lemmas.Iterator.Search.{find_from_yields_List}
+use Rattle.rows.specs.Rows.{row}
+use Rattle.occurrences.proofs.CollectLone.{is_few, row_at, under-found}
 use Rattle.occurrences.proofs.first_lone.Goals as goal
 
-pub loop-i-init : goal.loop-i-init
-loop-i-init c = under-start _ _ _ _
+pub returns-in-Some : goal.returns-in-Some
+returns-in-Some c =
+    let found = find_from_yields_List (is_few c.args.rows c.args.counts.now) _ _ c.find.result c.find.ensures.ran (YieldsList-from_range 0 c.args.rows.count c.args.rows.count refl (sub-zero _)) (λ x b q k. search (rules, tests)) in
+    ap₂ (λ (a b : ℕ). some (row a b)) c.left.ensures c.right.ensures ∙ ap (row_at c.args.rows c.args.counts.now) (sym c.in-Some.is) ∙ under-found c.args.rows c.args.counts.now _ found
 
-pub returns-then-get-lt2 : goal.returns-then-get-lt2
-returns-then-get-lt2 c = under-here _ _ _ _ c.loop-i.invariant c.loop-i-test.true c.left_at-node.ensures c.right_at-binding.ensures (c.get.ensures ∙ ap (λ (k : ℕ). get_or c.args.counts.now k 0) c.wide.ensures) c.if-get-lt2.true ∙ ap (λ (m : ℕ). under c.args.counts.now (read_rows m c.args.rows.now c.args.written 0)) c.node_count-n.ensures
-
-pub loop-i-preserved : goal.loop-i-preserved
-loop-i-preserved c = under_next _ _ _ _ c.loop-i.invariant c.loop-i-test.true c.right_at-binding.ensures (c.get.ensures ∙ ap (λ (k : ℕ). get_or c.args.counts.now k 0) c.wide.ensures) c.if-get-lt2.false
-
-pub returns : goal.returns
-returns c = under-end _ _ _ _ c.loop-i.invariant c.loop-i-test.false ∙ ap (λ (m : ℕ). under c.args.counts.now (read_rows m c.args.rows.now c.args.written 0)) c.node_count-n.ensures
+pub returns-in-None : goal.returns-in-None
+returns-in-None c =
+    let found = find_from_yields_List (is_few c.args.rows c.args.counts.now) _ _ c.find.result c.find.ensures.ran (YieldsList-from_range 0 c.args.rows.count c.args.rows.count refl (sub-zero _)) (λ x b q k. search (rules, tests)) in
+    ap (row_at c.args.rows c.args.counts.now) (sym c.in-None.is) ∙ under-found c.args.rows c.args.counts.now _ found

@@ -1,15 +1,34 @@
-use mathlib.Core.Path.{refl}
-use Rattle.ordered.proofs.Idents.{var-below, as-variable, ident_here, ident-asking, ident-ends}
+use mathlib.Core.Path.{refl, ap, ◌∙◌}
+use Rattle.ordered.specs.Promises.{asks, unless, Walks}
+use Rattle.ordered.proofs.Ends.{ends_in}
+use Rattle.ordered.proofs.Idents.{known-ends, new-ends, new-few, var-below, ident_here, ident-asking, ident-ends}
+use Rattle.ordered.proofs.walk_ident_term.Given as given
 use Rattle.ordered.proofs.walk_ident_term.Goals as goal
+use Rattle.ordered.proofs.walk_ident_term.Goals.{Joined-is_known, then-is_known, else-is_known}
+
+-- the ident introduced, unless it is known
+bound : (g : given.Over) (c : Joined-is_known g) → Walks c.args.image.now (unless c.args.image.now c.is_known.result c.args.ident.0.0) c.args.builder.now c.args.current c.if-is_known.builder c.if-is_known.exit
+bound g c =
+    elim c.if-is_known.branch [
+      | then-is_known w ↦ ends_in _ w.builder-is w.exit-is refl (known-ends _ _ w.if-is_known.true c.requires.0.1)
+      | else-is_known w ↦ ends_in _ w.builder-is w.exit-is refl (new-ends _ _ _ w.if-is_known.false w.introduce-exit.ensures.walk w.introduce-exit.ensures.stands)
+    ]
 
 pub stands-before-requires : goal.stands-before-requires
-stands-before-requires c = var-below _ (as-variable _ c.requires.0) c.requires.1 c.ident_term-name.ensures
+stands-before-requires g c = var-below _ c.requires.0.0 c.requires.1 c.ident_term-name.ensures
 
-pub bind_unless-exit-requires : goal.bind_unless-exit-requires
-bind_unless-exit-requires c = let o = ident_here _ (as-variable _ c.requires.0) c.requires.1 c.ident_term-name.ensures refl c.requires.2 c.stands-before.ensures c.is_value-known.ensures in (o.named, o.few, c.requires.2)
+pub introduce-exit-requires : goal.introduce-exit-requires
+introduce-exit-requires g c =
+    let o = ident_here _ c.requires.0.0 c.requires.1 c.ident_term-name.ensures (g.met.R.Role.here _) c.requires.0.1 c.stands-before.ensures (c.is_known.ensures ∙ ap (asks _ _) c.found.ensures) in
+    let f = new-few _ _ _ c.if-is_known.false o.few in
+    (c.requires.0.1, o.named, f.0, f.1)
 
 pub leave_asked-requires : goal.leave_asked-requires
-leave_asked-requires c = let o = ident_here _ (as-variable _ c.requires.0) c.requires.1 c.ident_term-name.ensures refl c.requires.2 c.stands-before.ensures c.is_value-known.ensures in ident-asking _ o c.requires.2 c.stands-before.ensures c.bind_unless-exit.ensures c.leave-named.ensures
+leave_asked-requires g c =
+    let o = ident_here _ c.requires.0.0 c.requires.1 c.ident_term-name.ensures (g.met.R.Role.here _) c.requires.0.1 c.stands-before.ensures (c.is_known.ensures ∙ ap (asks _ _) c.found.ensures) in
+    ident-asking _ o c.requires.0.1 c.stands-before.ensures (bound g (goal.at.leave_asked-requires g c).Joined-is_known) c.leave-named.ensures.walk c.leave-named.ensures.env
 
-pub returns : goal.returns
-returns c = let o = ident_here _ (as-variable _ c.requires.0) c.requires.1 c.ident_term-name.ensures refl c.requires.2 c.stands-before.ensures c.is_value-known.ensures in ident-ends _ o c.bind_unless-exit.ensures c.leave-named.ensures c.leave_asked.ensures.0 c.leave_asked.ensures.1
+pub returns-clause-walk : goal.returns-clause-walk
+returns-clause-walk g c =
+    let o = ident_here _ c.requires.0.0 c.requires.1 c.ident_term-name.ensures (g.met.R.Role.here _) c.requires.0.1 c.stands-before.ensures (c.is_known.ensures ∙ ap (asks _ _) c.found.ensures) in
+    ident-ends _ o (bound g (goal.at.returns-clause-walk g c).Joined-is_known) c.leave-named.ensures.walk c.leave_asked.ensures.walk c.leave_asked.ensures.stands

@@ -11,8 +11,8 @@ walk_pred_expr-after_pred-requires c = ((two _ c.requires.0 c.pred_atom.ensures.
 
 pub walk_term_list-after_args-requires : goal.walk_term_list-after_args-requires
 unfolding kind_of
-walk_term_list-after_args-requires c = (subst (Ready _ _ _) (sym c.walk_pred_expr-after_pred.ensures.same) (two _ c.requires.0 c.pred_atom.ensures.first c.pred_atom.ensures.second).second, c.walk_pred_expr-after_pred.ensures.stands)
+walk_term_list-after_args-requires c = (subst (Ready _ _ _) (sym c.walk_pred_expr-after_pred.ensures.walk.same) (two _ c.requires.0 c.pred_atom.ensures.first c.pred_atom.ensures.second).second, c.walk_pred_expr-after_pred.ensures.walk.stands)
 
-pub returns : goal.returns
+pub returns-clause-walk : goal.returns-clause-walk
 unfolding kind_of
-returns c = two_ends _ c.requires.0 c.pred_atom.ensures.first c.pred_atom.ensures.second c.walk_pred_expr-after_pred.ensures c.walk_term_list-after_args.ensures c.leave.ensures
+returns-clause-walk c = two_ends _ c.requires.0 c.pred_atom.ensures.first c.pred_atom.ensures.second c.walk_pred_expr-after_pred.ensures.walk c.walk_term_list-after_args.ensures.walk c.leave.ensures.walk c.leave.ensures.env

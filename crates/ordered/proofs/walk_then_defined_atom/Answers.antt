@@ -7,19 +7,19 @@ use Rattle.ordered.proofs.Idents.{var-ends, defined_atom, absent-ends, given-end
 use Rattle.ordered.proofs.walk_then_defined_atom.Goals as goal
 
 pub walk_then_defined_var-requires : goal.walk_then_defined_var-requires
-walk_then_defined_var-requires c = let d = defined_atom _ c.requires.0 c.requires.1 c.defined_then_atom-var.ensures.second in let v = sym (ap term_word c.in-Given.is) ∙ c.defined_then_atom-var.ensures.first in let k = term_is _ (d.parts.second _ (sym v)).is c.term.ensures c.in-Ident.is in (c.requires.0, record { defined = c.requires.1; terms = record { first = v; second = c.defined_then_atom-var.ensures.second }; named = record { first = k.number; second = k.child } }, c.requires.2)
+walk_then_defined_var-requires c = let d = defined_atom _ c.requires.0.0 c.requires.1 c.defined_then_atom-var.ensures.second in let v = sym (ap term_word c.in-Some.is) ∙ c.defined_then_atom-var.ensures.first in let k = term_is _ (d.parts.second _ (sym v)).is c.term.ensures c.in-Ident.is in (c.requires.0, record { defined = c.requires.1; terms = record { first = v; second = c.defined_then_atom-var.ensures.second }; named = record { first = k.number; second = k.child } })
 
 pub walk_term-after_term-requires : goal.walk_term-after_term-requires
-walk_term-after_term-requires c = let d = defined_atom _ c.requires.0 c.requires.1 c.defined_then_atom-var.ensures.second in (d.parts.first, c.requires.2)
+walk_term-after_term-requires c = let d = defined_atom _ c.requires.0.0 c.requires.1 c.defined_then_atom-var.ensures.second in (d.parts.first, c.requires.0.1)
 
 pub walk_term-exit-requires : goal.walk_term-exit-requires
-walk_term-exit-requires c = let d = defined_atom _ c.requires.0 c.requires.1 c.defined_then_atom-var.ensures.second in let v = sym (ap term_word c.in-Given.is) ∙ c.defined_then_atom-var.ensures.first in let is = (d.parts.second _ (sym v)).is in let no = no-ident _ is c.term.ensures c.in_default.not-Ident in ((var-other _ (given-variable _ _ d v c.walk_term-after_term.ensures) (λ e. no (sym e))).0, c.walk_term-after_term.ensures.stands)
+walk_term-exit-requires c = let d = defined_atom _ c.requires.0.0 c.requires.1 c.defined_then_atom-var.ensures.second in let v = sym (ap term_word c.in-Some.is) ∙ c.defined_then_atom-var.ensures.first in let is = (d.parts.second _ (sym v)).is in let no = no-ident _ is c.term.ensures c.in_default.not-Ident in ((var-other _ (given-variable _ _ d v c.walk_term-after_term.ensures.walk) (λ e. no (sym e))).0, c.walk_term-after_term.ensures.walk.stands)
 
-pub walk_term-after_term-requires-in-Absent : goal.walk_term-after_term-requires-in-Absent
-walk_term-after_term-requires-in-Absent c = let d = defined_atom _ c.requires.0 c.requires.1 c.defined_then_atom-var.ensures.second in (d.parts.first, c.requires.2)
+pub walk_term-after_term-requires-in-None : goal.walk_term-after_term-requires-in-None
+walk_term-after_term-requires-in-None c = let d = defined_atom _ c.requires.0.0 c.requires.1 c.defined_then_atom-var.ensures.second in (d.parts.first, c.requires.0.1)
 
-pub returns-in_default : goal.returns-in_default
-returns-in_default c = let d = defined_atom _ c.requires.0 c.requires.1 c.defined_then_atom-var.ensures.second in let v = sym (ap term_word c.in-Given.is) ∙ c.defined_then_atom-var.ensures.first in let is = (d.parts.second _ (sym v)).is in let no = no-ident _ is c.term.ensures c.in_default.not-Ident in atom-quiet _ d c.requires.0.is (quiet-other _ _ _ c.requires.0.is c.requires.1.second v (λ e. no (sym e))) (given-ends _ _ d v c.walk_term-after_term.ensures (var-ends _ (given-variable _ _ d v c.walk_term-after_term.ensures) (λ e. no (sym e)) c.walk_term-exit.ensures) c.leave-defined.ensures) c.leave.ensures
+pub returns-in_default-clause-walk : goal.returns-in_default-clause-walk
+returns-in_default-clause-walk c = let d = defined_atom _ c.requires.0.0 c.requires.1 c.defined_then_atom-var.ensures.second in let v = sym (ap term_word c.in-Some.is) ∙ c.defined_then_atom-var.ensures.first in let is = (d.parts.second _ (sym v)).is in let no = no-ident _ is c.term.ensures c.in_default.not-Ident in atom-quiet _ d c.requires.0.0.is (quiet-other _ _ _ c.requires.0.0.is c.requires.1.second v (λ e. no (sym e))) (given-ends _ _ d v c.walk_term-after_term.ensures.walk (var-ends _ (given-variable _ _ d v c.walk_term-after_term.ensures.walk) (λ e. no (sym e)) c.walk_term-exit.ensures.walk) c.leave-defined.ensures.walk c.leave-defined.ensures.env) c.leave.ensures.walk c.leave.ensures.env
 
-pub returns-in-Absent : goal.returns-in-Absent
-returns-in-Absent c = let d = defined_atom _ c.requires.0 c.requires.1 c.defined_then_atom-var.ensures.second in let z = sym c.defined_then_atom-var.ensures.first ∙ ap term_word c.in-Absent.is in atom-quiet _ d c.requires.0.is (quiet-absent _ _ c.requires.0.is c.requires.1.second z) (absent-ends _ d z c.walk_term-after_term-in-Absent.ensures c.leave-defined-in-Absent.ensures) c.leave-in-Absent.ensures
+pub returns-in-None-clause-walk : goal.returns-in-None-clause-walk
+returns-in-None-clause-walk c = let d = defined_atom _ c.requires.0.0 c.requires.1 c.defined_then_atom-var.ensures.second in let z = sym c.defined_then_atom-var.ensures.first ∙ ap term_word c.in-None.is in atom-quiet _ d c.requires.0.0.is (quiet-absent _ _ c.requires.0.0.is c.requires.1.second z) (absent-ends _ d z c.walk_term-after_term-in-None.ensures.walk c.leave-defined-in-None.ensures.walk c.leave-defined-in-None.ensures.env) c.leave-in-None.ensures.walk c.leave-in-None.ensures.env

@@ -1,6 +1,6 @@
 use Rattle.scopes.specs.Resolve.{headed}
 use Rattle.scopes.proofs.insert_counts.Goals as goal
 
-pub returns : goal.returns
+pub returns-clause-words : goal.returns-clause-words
 unfolding headed
-returns c = cc
+returns-clause-words c = cc

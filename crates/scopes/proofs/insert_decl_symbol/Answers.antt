@@ -1,23 +1,21 @@
-use mathlib.Core.Path.{refl, sym, ap, ◌∙◌}
-use native.Mathlib.Omega.{arith}
-use Rattle.table.specs.Values.{option_of}
-use Rattle.scopes.proofs.Entries.{few_words, free_new, free-old, few, enters-new, enters-old, enters-twice}
+use mathlib.Core.Path.{refl}
+use Rattle.scopes.proofs.Entries.{free_new, free-old, few, enters-new, enters-old, enters-twice}
 use Rattle.scopes.proofs.insert_decl_symbol.Goals as goal
+use Rattle.scopes.proofs.insert_decl_symbol.Goals.{then-not-stamp+in_default, else-not-stamp}
 
-pub stamp-requires : goal.stamp-requires
-stamp-requires c = let l = c.requires.entering.live in let w = few_words _ c.requires.entering in omega arith
+pub returns-in-Some-clause-walk : goal.returns-in-Some-clause-walk
+returns-in-Some-clause-walk c = enters-twice _ c.requires.entering _ _ c.requires.name _ refl c.in-Some.ensures refl
 
 pub enter-requires : goal.enter-requires
-enter-requires c = (c.requires.entering.opens, c.requires.name, free_new _ c.requires.entering _ _ c.requires.name c.stamp.ensures c.if-stamp.true, few _ c.requires.entering _ _ c.requires.name)
+enter-requires c =
+    elim c.if-not-stamp.branch [
+      | then-not-stamp+in_default w ↦ (c.requires.entering.opens, c.requires.name, free-old _ c.requires.entering _ _ c.requires.name w.in_default.ensures, few _ c.requires.entering _ _ c.requires.name)
+      | else-not-stamp w ↦ (c.requires.entering.opens, c.requires.name, free_new _ c.requires.entering _ _ c.requires.name c.stamp.ensures w.if-not-stamp.false, few _ c.requires.entering _ _ c.requires.name)
+    ]
 
-pub returns-then-stamp : goal.returns-then-stamp
-returns-then-stamp c = enters-new _ c.requires.entering _ _ c.requires.name _ c.stamp.ensures c.if-stamp.true c.enter.ensures
-
-pub enter-requires-in-Nothing : goal.enter-requires-in-Nothing
-enter-requires-in-Nothing c = (c.requires.entering.opens, c.requires.name, free-old _ c.requires.entering _ _ c.requires.name (sym (ap option_of c.in-Nothing.is) ∙ c.find.ensures), few _ c.requires.entering _ _ c.requires.name)
-
-pub returns-in-At : goal.returns-in-At
-returns-in-At c = enters-twice _ c.requires.entering _ _ c.requires.name _ _ (sym (ap option_of c.in-At.is) ∙ c.find.ensures) refl
-
-pub returns-in-Nothing : goal.returns-in-Nothing
-returns-in-Nothing c = enters-old _ c.requires.entering _ _ c.requires.name _ c.stamp.ensures c.if-stamp.false (sym (ap option_of c.in-Nothing.is) ∙ c.find.ensures) c.enter-in-Nothing.ensures
+pub returns-clause-walk : goal.returns-clause-walk
+returns-clause-walk c =
+    elim c.if-not-stamp.branch [
+      | then-not-stamp+in_default w ↦ enters-old _ c.requires.entering _ _ c.requires.name c.stamp.ensures w.if-not-stamp.true w.in_default.ensures c.enter.ensures.walk c.enter.ensures.stands
+      | else-not-stamp w ↦ enters-new _ c.requires.entering _ _ c.requires.name c.stamp.ensures w.if-not-stamp.false c.enter.ensures.walk c.enter.ensures.stands
+    ]

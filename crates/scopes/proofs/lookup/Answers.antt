@@ -1,16 +1,17 @@
-use mathlib.Core.Path.{sym, ap, ◌∙◌}
-use Rattle.scopes.proofs.Lookups.{lookup-accepted, call-refused, call-answer, call_none}
+use mathlib.Core.Path.{refl, sym, ap, ◌∙◌}
+use Rattle.error.proofs.Refused.{refusal-some}
 use Rattle.names.specs.Number.{number_in}
+use Rattle.scopes.proofs.Lookups.{lookup-accepted, call-refused, call-answer, call_none, looked-refused}
 use Rattle.scopes.proofs.lookup.Goals as goal
 
-pub returns-then-code-ne0 : goal.returns-then-code-ne0
-returns-then-code-ne0 c = call-refused _ _ _ _ _ c.test_lookup-code.ensures c.if-code-ne0.true
+pub returns-in_err-test_lookup : goal.returns-in_err-test_lookup
+returns-in_err-test_lookup c = looked-refused _ _ c.from_residual.ensures.1 ∙ call-refused _ _ _ _ _ c.in_err-test_lookup.ensures (refusal-some _)
 
 pub number_of-requires : goal.number_of-requires
-number_of-requires c = lookup-accepted _ _ _ (sym c.test_lookup-code.ensures ∙ c.if-code-ne0.false)
+number_of-requires c = lookup-accepted _ _ _ c.in_ok-test_lookup.ensures
 
-pub returns-in-At : goal.returns-in-At
-returns-in-At c = c.lookup_number.ensures ∙ call-answer _ _ _ _ _ c.test_lookup-code.ensures c.if-code-ne0.false _ (sym (ap number_in c.in-At.is) ∙ c.number_of.ensures)
+pub returns-in-Some : goal.returns-in-Some
+returns-in-Some c = c.lookup_number.ensures ∙ call-answer _ _ _ _ _ c.in_ok-test_lookup.ensures refl _ (sym (ap number_in c.in-Some.is) ∙ c.number_of.ensures)
 
-pub returns-in-Nothing : goal.returns-in-Nothing
-returns-in-Nothing c = call_none _ _ _ _ _ c.test_lookup-code.ensures c.if-code-ne0.false (sym (ap number_in c.in-Nothing.is) ∙ c.number_of.ensures)
+pub returns-in-None : goal.returns-in-None
+returns-in-None c = call_none _ _ _ _ _ c.in_ok-test_lookup.ensures refl (sym (ap number_in c.in-None.is) ∙ c.number_of.ensures)

@@ -1,10 +1,16 @@
 use mathlib.Core.Path.{sym, ap, ◌∙◌}
-use Rattle.scopes.proofs.Lookups.{found_at, found_none}
-use Rattle.table.specs.Values.{option_of}
+use Rattle.std.specs.Prelude.{Option, Ok}
+use Rattle.ast.proofs.Bools.{false-true}
+use Rattle.scopes.specs.Answers.{looked_answer}
+use Rattle.scopes.specs.declared.Looked.{Looked}
+use Rattle.scopes.proofs.Lookups.{found_at, found_none, looked-declares}
 use Rattle.scopes.proofs.lookup_number.Goals as goal
 
-pub returns-in-At : goal.returns-in-At
-returns-in-At c = found_at _ _ _ _ _ _ _ _ c.get.ensures (sym (ap option_of c.in-At.is) ∙ c.lookup.ensures) c.kind_at.ensures c.symbol_of.ensures
+pub returns-in_err-node : goal.returns-in_err-node
+returns-in_err-node c = ap (λ (o : Option Looked). looked_answer (Ok o)) c.from_residual.ensures ∙ found_none _ _ _ _ _ c.get-symbols.ensures c.in_err-node.ensures
 
-pub returns-in-Nothing : goal.returns-in-Nothing
-returns-in-Nothing c = found_none _ _ _ _ _ c.get.ensures (sym (ap option_of c.in-Nothing.is) ∙ c.lookup.ensures)
+pub returns-in_err-symbol : goal.returns-in_err-symbol
+returns-in_err-symbol c = absurd (false-true (c.in_err-symbol.ensures.some ∙ looked-declares _ _ _ (sym c.requires) _ c.get-symbols.ensures c.in_ok-node.ensures c.kind_at.ensures))
+
+pub returns : goal.returns
+returns c = found_at _ _ _ _ _ _ _ _ c.get-symbols.ensures c.in_ok-node.ensures c.kind_at.ensures c.in_ok-symbol.ensures.number

@@ -1,5 +1,6 @@
-use mathlib.Core.Path.{ap, ◌∙◌}
+use mathlib.Core.Path.{refl, ap, ◌∙◌}
 use native.Mathlib.Omega.{arith}
+use borrow.Author.Rules.{rules}
 use Rattle.table.specs.Layout.{table_length}
 use Rattle.scopes.proofs.Resolving.{table-long}
 use Rattle.scopes.proofs.Rooting.{lent, resolved-done, noted-done, resolved-twice}
@@ -9,13 +10,25 @@ pub clear-requires : goal.clear-requires
 clear-requires c = let l = table-long _ _ c.requires.0 in omega arith
 
 pub walk_module-requires : goal.walk_module-requires
-walk_module-requires c = lent _ _ c.requires.0 _ _ (c.words_for-words.ensures ∙ ap table_length c.node_count.ensures) c.clear.ensures c.clear.auto.words c.requires.1
+walk_module-requires c = lent _ _ c.requires.0 _ _ (c.words_for-words.ensures ∙ ap table_length c.node_count.ensures) c.clear.ensures refl c.clear.auto.words c.requires.1 refl
 
-pub clear-requires-in-Twice : goal.clear-requires-in-Twice
-clear-requires-in-Twice c = let l = table-long _ _ c.requires.0 in let a = c.clear.auto.words in let b = c.walk_module.auto.table in omega arith
+pub clear-requires-in-Err : goal.clear-requires-in-Err
+clear-requires-in-Err c = let l = table-long _ _ c.requires.0 in let a = c.clear.auto.words in let b = c.in-Err.ensures.keeps.long in omega arith
 
-pub returns-in-Done : goal.returns-in-Done
-returns-in-Done c = (resolved-done _ _ c.requires.0 _ _ (c.words_for-words.ensures ∙ ap table_length c.node_count.ensures) c.clear.ensures c.walk_module.ensures _ c.in-Done.is c.insert_counts.ensures, noted-done _ _ c.requires.0 _ _ (c.words_for-words.ensures ∙ ap table_length c.node_count.ensures) c.clear.ensures c.walk_module.ensures _ c.in-Done.is c.insert_counts.ensures)
+pub returns-in-Ok-clause-resolves : goal.returns-in-Ok-clause-resolves
+returns-in-Ok-clause-resolves c =
+    let a = c.in-Ok.ensures.keeps in
+    let b = c.insert_counts.ensures.keeps in
+    resolved-done _ _ c.requires.0 _ _ (c.words_for-words.ensures ∙ ap table_length c.node_count.ensures) c.clear.ensures c.in-Ok.ensures.walk refl c.insert_counts.ensures.scopes c.insert_counts.ensures.symbols c.insert_counts.ensures.words (search rules)
 
-pub returns-in-Twice : goal.returns-in-Twice
-returns-in-Twice c = (resolved-twice _ _ c.requires.0 _ _ (c.words_for-words.ensures ∙ ap table_length c.node_count.ensures) c.clear.ensures c.walk_module.ensures _ _ _ c.in-Twice.is c.clear-in-Twice.ensures, tt)
+pub returns-in-Ok-clause-noted : goal.returns-in-Ok-clause-noted
+returns-in-Ok-clause-noted c =
+    let a = c.in-Ok.ensures.keeps in
+    let b = c.insert_counts.ensures.keeps in
+    let d = c.insert_counts.ensures.env in
+    noted-done _ _ c.requires.0 _ _ (c.words_for-words.ensures ∙ ap table_length c.node_count.ensures) c.clear.ensures c.in-Ok.ensures.walk refl c.insert_counts.ensures.scopes c.insert_counts.ensures.symbols c.insert_counts.ensures.words (search rules) (search rules)
+
+pub returns-in-Err-clause-resolves : goal.returns-in-Err-clause-resolves
+returns-in-Err-clause-resolves c =
+    let a = c.in-Err.ensures.keeps in
+    resolved-twice _ _ c.requires.0 _ _ (c.words_for-words.ensures ∙ ap table_length c.node_count.ensures) c.clear.ensures c.in-Err.ensures.walk _ refl refl c.clear-in-Err.ensures (search rules)

@@ -1,15 +1,17 @@
-use mathlib.Core.Path.{refl, sym, ◌∙◌}
+use mathlib.Core.Path.{refl, sym, ap, ◌∙◌}
+use Rattle.error.proofs.Refused.{refusal-some}
+use Rattle.scopes.specs.Answers.{resolved_answer}
+use Rattle.scopes.proofs.Calls.{refused-is, stopped-is}
 use Rattle.scopes.proofs.Rooting.{resolve-refused, resolve-twice, resolve-done}
 use Rattle.scopes.proofs.resolve_scopes.Goals as goal
 
-pub returns-then-refusal-ne0 : goal.returns-then-refusal-ne0
-returns-then-refusal-ne0 c = resolve-refused _ _ _ c.test_table-refusal.ensures c.if-refusal-ne0.true
+pub returns-in_err-test_table : goal.returns-in_err-test_table
+returns-in_err-test_table c = let p = resolve-refused _ _ _ c.in_err-test_table.ensures (refusal-some _) in (ap resolved_answer (refused-is _ _ c.from_residual.ensures.1) ∙ p.0, p.1)
 
-pub resolve_into-requires : goal.resolve_into-requires
-resolve_into-requires c = (sym c.test_table-refusal.ensures ∙ c.if-refusal-ne0.false, refl)
+pub returns-in_err-resolved : goal.returns-in_err-resolved
+returns-in_err-resolved c =
+    let p = resolve-twice _ _ (sym c.in_ok-test_table.ensures) c.in_err-resolved.ensures.resolves refl in
+    (ap resolved_answer (stopped-is _ _ c.from_residual-in_err-resolved.ensures.1) ∙ p.0, p.1)
 
-pub returns-in-Done : goal.returns-in-Done
-returns-in-Done c = resolve-done _ _ (sym c.test_table-refusal.ensures ∙ c.if-refusal-ne0.false) c.resolve_into.ensures.0 c.in-Done.is
-
-pub returns-in-Twice : goal.returns-in-Twice
-returns-in-Twice c = resolve-twice _ _ (sym c.test_table-refusal.ensures ∙ c.if-refusal-ne0.false) c.resolve_into.ensures.0 c.in-Twice.is
+pub returns : goal.returns
+returns c = resolve-done _ _ (sym c.in_ok-test_table.ensures) c.in_ok-resolved.ensures.resolves refl

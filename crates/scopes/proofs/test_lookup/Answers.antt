@@ -1,16 +1,17 @@
-use mathlib.Core.Path.{sym}
-use Rattle.scopes.proofs.Lookups.{lookup-refused, lookup-unsound, lookup-within, lookup-beyond}
+use mathlib.Core.Path.{◌∙◌}
 use native.Mathlib.Omega.{arith}
+use Rattle.error.proofs.Refused.{refusal-some, passed-on}
+use Rattle.scopes.proofs.Lookups.{lookup-refused, lookup-unsound, lookup_within, lookup_beyond}
 use Rattle.scopes.proofs.test_lookup.Goals as goal
 
-pub returns-then-code-ne0 : goal.returns-then-code-ne0
-returns-then-code-ne0 c = sym (lookup-refused _ _ _ _ c.test_table-code.ensures c.if-code-ne0.true)
+pub returns-in_err-test_table : goal.returns-in_err-test_table
+returns-in_err-test_table c = passed-on _ _ c.from_residual.ensures.1 ∙ lookup-refused _ _ _ _ c.in_err-test_table.ensures (refusal-some _)
 
-pub returns-then-sound-ne0 : goal.returns-then-sound-ne0
-returns-then-sound-ne0 c = sym (lookup-unsound _ _ _ _ c.test_table-code.ensures c.if-code-ne0.false _ c.test_sound-sound.ensures c.if-sound-ne0.true)
+pub returns-in_err-test_sound : goal.returns-in_err-test_sound
+returns-in_err-test_sound c = passed-on _ _ c.from_residual-in_err-test_sound.ensures.1 ∙ lookup-unsound _ _ _ c.in_ok-test_table.ensures _ c.in_err-test_sound.ensures (refusal-some _)
 
-pub returns-then-scope-get : goal.returns-then-scope-get
-returns-then-scope-get c = sym (lookup-within _ _ _ _ c.test_table-code.ensures c.if-code-ne0.false _ c.test_sound-sound.ensures c.if-sound-ne0.false (omega arith))
+pub returns-then-get-scope : goal.returns-then-get-scope
+returns-then-get-scope c = lookup_beyond _ _ _ c.in_ok-test_table.ensures c.in_ok-test_sound.ensures (omega arith)
 
 pub returns : goal.returns
-returns c = sym (lookup-beyond _ _ _ _ c.test_table-code.ensures c.if-code-ne0.false _ c.test_sound-sound.ensures c.if-sound-ne0.false (omega arith))
+returns c = lookup_within _ _ _ c.in_ok-test_table.ensures c.in_ok-test_sound.ensures (omega arith)

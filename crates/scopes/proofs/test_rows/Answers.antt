@@ -1,13 +1,14 @@
-use mathlib.Core.Path.{sym, ◌∙◌}
+use mathlib.Core.Path.{◌∙◌}
 use native.Mathlib.Omega.{arith}
+use Rattle.error.proofs.Refused.{refusal-some, passed-on}
 use Rattle.scopes.proofs.Calls.{rows-refused, rows_short, rows_fit}
 use Rattle.scopes.proofs.test_rows.Goals as goal
 
-pub returns-then-code-ne0 : goal.returns-then-code-ne0
-returns-then-code-ne0 c = rows-refused _ _ _ _ c.test_table-code.ensures c.if-code-ne0.true
+pub returns-in_err-test_table : goal.returns-in_err-test_table
+returns-in_err-test_table c = passed-on _ _ c.from_residual.ensures.1 ∙ rows-refused _ _ _ _ c.in_err-test_table.ensures (refusal-some _)
 
 pub returns-then-rows-words_for : goal.returns-then-rows-words_for
-returns-then-rows-words_for c = rows_short _ _ _ (sym c.if-code-ne0.false ∙ c.test_table-code.ensures) (let w = c.words_for.ensures in let n = c.node_count.ensures in omega arith)
+returns-then-rows-words_for c = rows_short _ _ _ c.in_ok-test_table.ensures (let w = c.words_for.ensures in let n = c.node_count.ensures in omega arith)
 
 pub returns : goal.returns
-returns c = rows_fit _ _ _ (sym c.if-code-ne0.false ∙ c.test_table-code.ensures) (let w = c.words_for.ensures in let n = c.node_count.ensures in omega arith)
+returns c = rows_fit _ _ _ c.in_ok-test_table.ensures (let w = c.words_for.ensures in let n = c.node_count.ensures in omega arith)

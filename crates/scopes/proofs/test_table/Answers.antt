@@ -1,13 +1,14 @@
-use mathlib.Core.Path.{sym}
+use mathlib.Core.Path.{◌∙◌}
 use native.Mathlib.Omega.{arith}
-use Rattle.scopes.proofs.Lookups.{table-refused, table-short, table-long}
+use Rattle.error.proofs.Refused.{refusal-some, passed-on}
+use Rattle.scopes.proofs.Lookups.{table-refused, table_short, table_long}
 use Rattle.scopes.proofs.test_table.Goals as goal
 
-pub returns-then-code-ne0 : goal.returns-then-code-ne0
-returns-then-code-ne0 c = sym (table-refused _ _ _ c.verdict-code.ensures c.if-code-ne0.true)
+pub returns-in_err-verdict : goal.returns-in_err-verdict
+returns-in_err-verdict c = passed-on _ _ c.from_residual.ensures.1 ∙ table-refused _ _ _ c.in_err-verdict.ensures.code (refusal-some _)
 
 pub returns-then-table-words_for : goal.returns-then-table-words_for
-returns-then-table-words_for c = sym (table-short _ _ _ c.verdict-code.ensures c.if-code-ne0.false (omega arith))
+returns-then-table-words_for c = table_short _ _ c.in_ok-verdict.ensures.code (omega arith)
 
 pub returns : goal.returns
-returns c = sym (table-long _ _ _ c.verdict-code.ensures c.if-code-ne0.false (omega arith))
+returns c = table_long _ _ c.in_ok-verdict.ensures.code (omega arith)

@@ -5,7 +5,7 @@ pub walk_type_expr-after_result-requires : goal.walk_type_expr-after_result-requ
 walk_type_expr-after_result-requires c = ((sig_one _ c.requires.0 c.const_decl.ensures.second).first, c.requires.1)
 
 pub put_back-requires : goal.put_back-requires
-put_back-requires c = (c.walk_type_expr-after_result.ensures.stands, inside-path _ c.requires.0 c.requires.1 (sig-one-walked _ c.requires.0 c.const_decl.ensures.second c.walk_type_expr-after_result.ensures.same))
+put_back-requires c = (c.walk_type_expr-after_result.ensures.walk.stands, inside-path _ c.requires.0 c.requires.1 (sig-one-walked _ c.requires.0 c.const_decl.ensures.second c.walk_type_expr-after_result.ensures.walk.same))
 
-pub returns : goal.returns
-returns c = put-ends _ _ _ c.put_back.ensures (sig-one-walked _ c.requires.0 c.const_decl.ensures.second c.walk_type_expr-after_result.ensures.same)
+pub returns-clause-walk : goal.returns-clause-walk
+returns-clause-walk c = put-ends _ _ _ c.put_back.ensures.walk c.put_back.ensures.stands (sig-one-walked _ c.requires.0 c.const_decl.ensures.second c.walk_type_expr-after_result.ensures.walk.same)

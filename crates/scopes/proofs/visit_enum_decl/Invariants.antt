@@ -1,10 +1,10 @@
-use Prim.Native.Nat.{◌-◌}
-use Rattle.table.specs.Values.{walked_of}
+use Rattle.environment.specs.Builder.{Keeps, walked_of}
 use Rattle.scopes.proofs.Visiting.{VisitLeft}
 use Rattle.scopes.proofs.visit_enum_decl.Given as goal
 
 abbrev pub invariant-loop-i : goal.invariant-loop-i
-invariant-loop-i l = VisitLeft l.image l.env l.ctors.0.node.0 l.ctors.0.first l.ctors.0.count l.i (walked_of l.initial.cur l.initial.table) (walked_of l.cur l.table)
-
-abbrev pub decreases-loop-i : goal.decreases-loop-i
-decreases-loop-i l = l.ctors.0.count - l.i
+invariant-loop-i l =
+    record {
+      keeps : Keeps l.initial.builder l.builder;
+      left : VisitLeft l.image l.builder.env.now l.ctors.list.node.0 l.ctors.list.first l.ctors.list.count l.i (walked_of l.initial.builder l.current) (walked_of l.builder l.current);
+    }

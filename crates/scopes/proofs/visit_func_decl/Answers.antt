@@ -9,10 +9,11 @@ pub walk_arg_decl_list-after_args-requires : goal.walk_arg_decl_list-after_args-
 walk_arg_decl_list-after_args-requires c = ((sig_two _ c.requires.0 c.func_decl.ensures.second c.func_decl.ensures.third).first, c.requires.1)
 
 pub walk_type_expr-after_result-requires : goal.walk_type_expr-after_result-requires
-walk_type_expr-after_result-requires c = (subst (Ready _ (kind_of type_expr_kind) _) (sym c.walk_arg_decl_list-after_args.ensures.same) (sig_two _ c.requires.0 c.func_decl.ensures.second c.func_decl.ensures.third).second, c.walk_arg_decl_list-after_args.ensures.stands)
+walk_type_expr-after_result-requires c =
+    (subst (Ready _ (kind_of type_expr_kind) _) (sym c.walk_arg_decl_list-after_args.ensures.walk.same) (sig_two _ c.requires.0 c.func_decl.ensures.second c.func_decl.ensures.third).second, c.walk_arg_decl_list-after_args.ensures.walk.stands)
 
 pub put_back-requires : goal.put_back-requires
-put_back-requires c = (c.walk_type_expr-after_result.ensures.stands, inside-path _ c.requires.0 c.requires.1 (c.walk_type_expr-after_result.ensures.same ∙ ap (over _ _) c.walk_arg_decl_list-after_args.ensures.same ∙ sym (sig_two _ c.requires.0 c.func_decl.ensures.second c.func_decl.ensures.third).inner))
+put_back-requires c = (c.walk_type_expr-after_result.ensures.walk.stands, inside-path _ c.requires.0 c.requires.1 (c.walk_type_expr-after_result.ensures.walk.same ∙ ap (over _ _) c.walk_arg_decl_list-after_args.ensures.walk.same ∙ sym (sig_two _ c.requires.0 c.func_decl.ensures.second c.func_decl.ensures.third).inner))
 
-pub returns : goal.returns
-returns c = put-ends _ _ _ c.put_back.ensures (c.walk_type_expr-after_result.ensures.same ∙ ap (over _ _) c.walk_arg_decl_list-after_args.ensures.same ∙ sym (sig_two _ c.requires.0 c.func_decl.ensures.second c.func_decl.ensures.third).inner)
+pub returns-clause-walk : goal.returns-clause-walk
+returns-clause-walk c = put-ends _ _ _ c.put_back.ensures.walk c.put_back.ensures.stands (c.walk_type_expr-after_result.ensures.walk.same ∙ ap (over _ _) c.walk_arg_decl_list-after_args.ensures.walk.same ∙ sym (sig_two _ c.requires.0 c.func_decl.ensures.second c.func_decl.ensures.third).inner)

@@ -1,4 +1,4 @@
-use mathlib.Core.Path.{refl, ap}
+use mathlib.Core.Path.{refl, ap, ◌∙◌}
 use native.Mathlib.Omega.{arith}
 use Prim.Native.Nat.{ℕ, ◌-◌}
 use Rattle.ast.specs.Image.{last}
@@ -6,13 +6,17 @@ use Rattle.ast.proofs.Accepted.{sized}
 use Rattle.scopes.proofs.Rooting.{root_visit}
 use Rattle.scopes.proofs.walk_module.Goals as goal
 
-pub overflow_sub-last : goal.overflow_sub-last
-overflow_sub-last c = let s = (sized _ c.requires.accepted).some in omega arith
+pub overflow_sub-module : goal.overflow_sub-module
+overflow_sub-module c = let s = (sized _ c.requires.accepted).some in omega arith
 
 pub walk_decls-requires : goal.walk_decls-requires
 unfolding last
-walk_decls-requires c = let v = root_visit _ c.requires (ap (λ (k : ℕ). k - 1) c.node_count-last.ensures) c.new_scope-module_scope.ensures c.insert_unordered.ensures c.module.ensures in (v.list, v.opens)
+walk_decls-requires c =
+    let v = root_visit _ c.requires (ap (λ (k : ℕ). k - 1) c.node_count.ensures) c.new_scope-module_scope.ensures.walk c.insert_unordered.ensures.walk (c.insert_unordered.ensures.env ∙ c.new_scope-module_scope.ensures.env) c.module.ensures in
+    (v.list, v.opens)
 
-pub returns : goal.returns
+pub returns-clause-walk : goal.returns-clause-walk
 unfolding last
-returns c = (root_visit _ c.requires (ap (λ (k : ℕ). k - 1) c.node_count-last.ensures) c.new_scope-module_scope.ensures c.insert_unordered.ensures c.module.ensures).visits c.walk_decls.ensures refl
+returns-clause-walk c =
+    (root_visit _ c.requires (ap (λ (k : ℕ). k - 1) c.node_count.ensures) c.new_scope-module_scope.ensures.walk c.insert_unordered.ensures.walk (c.insert_unordered.ensures.env ∙ c.new_scope-module_scope.ensures.env) c.module.ensures).visits
+    c.walk_decls.ensures.walk refl

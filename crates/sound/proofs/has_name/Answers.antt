@@ -1,9 +1,9 @@
-use mathlib.Core.Path.{sym, ◌∙◌}
-use Rattle.sound.proofs.Sounds.{named-no, named-yes}
+use mathlib.Core.Path.{ap}
+use mathlib.Core.Bool.{not}
+use lib.Dec.{eqb}
+use Rattle.sound.specs.Sound.{has_name}
 use Rattle.sound.proofs.has_name.Goals as goal
 
-pub returns-then-field-eq0 : goal.returns-then-field-eq0
-returns-then-field-eq0 c = sym (named-no _ _ (sym c.field.ensures ∙ c.if-field-eq0.true))
-
 pub returns : goal.returns
-returns c = sym (named-yes _ _ (λ e. c.if-field-eq0.false (c.field.ensures ∙ e)))
+unfolding has_name
+returns c = ap (λ w. not (eqb w 0)) c.field.ensures

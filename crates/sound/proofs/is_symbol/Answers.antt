@@ -1,23 +1,32 @@
-use mathlib.Core.Path.{sym, ap, ◌∙◌}
+use mathlib.Core.Path.{sym, ◌∙◌}
 use native.Mathlib.Omega.{arith}
-use lib.Dec.{leb}
-use Rattle.sound.proofs.Sounds.{symbol-out, symbol-rule, symbol-arg, symbol-var, symbol_low, symbol-decl}
+use Rattle.sound.proofs.Sounds.{symbol-out, symbol-named, symbol-yes, symbol-no, symbol-unknown}
 use Rattle.sound.proofs.is_symbol.Goals as goal
 
 pub returns-then-node_count-node : goal.returns-then-node_count-node
 returns-then-node_count-node c = sym (symbol-out _ _ (omega arith))
 
-pub returns-then-kind-eq6 : goal.returns-then-kind-eq6
-returns-then-kind-eq6 c = c.has_name.ensures ∙ sym (symbol-rule _ _ (omega arith) (sym c.kind_at-kind.ensures ∙ c.if-kind-eq6.true))
+pub returns-in_default : goal.returns-in_default
+returns-in_default c = sym (symbol-unknown _ _ (omega arith) _ c.kind_at.ensures c.in_default.ensures.1)
 
-pub returns-then-kind-eq10 : goal.returns-then-kind-eq10
-returns-then-kind-eq10 c = c.has_name-then-kind-eq10.ensures ∙ sym (symbol-arg _ _ (omega arith) (sym c.kind_at-kind.ensures ∙ c.if-kind-eq10.true))
+pub returns-in-RuleDecl : goal.returns-in-RuleDecl
+returns-in-RuleDecl c = c.has_name.ensures ∙ sym (symbol-named _ _ (omega arith) _ (c.in-Ok.ensures ∙ c.kind_at.ensures) c.in-RuleDecl.is)
 
-pub returns-then-kind-eq13 : goal.returns-then-kind-eq13
-returns-then-kind-eq13 c = sym (symbol-var _ _ (omega arith) (λ e. c.if-kind-eq6.false (c.kind_at-kind.ensures ∙ e)) (λ e. c.if-kind-eq10.false (c.kind_at-kind.ensures ∙ e)) (sym c.kind_at-kind.ensures ∙ c.if-kind-eq13.true))
+pub returns-in-TypeDecl : goal.returns-in-TypeDecl
+returns-in-TypeDecl c = sym (symbol-yes _ _ (omega arith) _ (c.in-Ok.ensures ∙ c.kind_at.ensures) c.in-TypeDecl.is)
 
-pub returns-then-kind-lt2 : goal.returns-then-kind-lt2
-returns-then-kind-lt2 c = sym (symbol_low _ _ (omega arith) (λ e. c.if-kind-eq6.false (c.kind_at-kind.ensures ∙ e)) (λ e. c.if-kind-eq10.false (c.kind_at-kind.ensures ∙ e)) (λ e. c.if-kind-eq13.false (c.kind_at-kind.ensures ∙ e)) (omega arith))
-
-pub returns : goal.returns
-returns c = ap (λ k. leb k 9) c.kind_at-kind.ensures ∙ sym (symbol-decl _ _ (omega arith) (λ e. c.if-kind-eq6.false (c.kind_at-kind.ensures ∙ e)) (λ e. c.if-kind-eq10.false (c.kind_at-kind.ensures ∙ e)) (λ e. c.if-kind-eq13.false (c.kind_at-kind.ensures ∙ e)) (omega arith))
+pub returns-in_default-kind : goal.returns-in_default-kind
+returns-in_default-kind c =
+    let d = c.in_default-kind in
+    sym (symbol-no _ _ (omega arith) _ (c.in-Ok.ensures ∙ c.kind_at.ensures) (record {
+      not-TypeDecl = d.not-TypeDecl;
+      not-PredDecl = d.not-PredDecl;
+      not-FuncDecl = d.not-FuncDecl;
+      not-ConstDecl = d.not-ConstDecl;
+      not-RuleDecl = d.not-RuleDecl;
+      not-EnumDecl = d.not-EnumDecl;
+      not-ModelDecl = d.not-ModelDecl;
+      not-CtorDecl = d.not-CtorDecl;
+      not-ArgDecl = d.not-ArgDecl;
+      not-IdentTerm = d.not-IdentTerm;
+    }))

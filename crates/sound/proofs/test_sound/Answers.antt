@@ -1,25 +1,34 @@
 use mathlib.Core.Path.{sym, ◌∙◌}
-use Rattle.ast.proofs.Accepted.{skip}
-use Rattle.sound.proofs.Sounds.{sound-nodes, sound_none, sound-scopes, sound-symbols, sound-root, sound-rest, halt}
+use Rattle.ast.proofs.Scans.{need-in, need-out}
+use Rattle.sound.proofs.Sounds.{Read, sound-nodes, sound_none, sound-scopes, sound-symbols, sound-root, sound-parents, sound-rows}
 use Rattle.sound.proofs.test_sound.Goals as goal
+use Rattle.sound.proofs.test_sound.Goals.{then-get-n-via-then-get-n, then-get-n-via-else-get-n+then-scopes-eq0, then-get-n-via-else-get-n+else-scopes-eq0+then-n-scopes, then-get-n-via-else-get-n+else-scopes-eq0+else-n-scopes+then-n-symbols}
+use Rattle.sound.proofs.test_sound.Goals.{then-parent_of-via-then-parent_of, then-parent_of-via-else-parent_of+then-not-parents_below, then-parent_of-via-else-parent_of+else-not-parents_below+then-not-rows_sound}
 
 pub returns-then-get-n : goal.returns-then-get-n
-returns-then-get-n c = sym (sound-nodes _ _ _ _ _ _ c.node_count-n.ensures c.get.ensures c.get-scopes.ensures c.get-symbols.ensures c.if-get-n.true)
-
-pub returns-then-scopes-eq0 : goal.returns-then-scopes-eq0
-returns-then-scopes-eq0 c = sym (sound_none _ _ _ _ _ _ c.node_count-n.ensures c.get.ensures c.get-scopes.ensures c.get-symbols.ensures c.if-get-n.false c.if-scopes-eq0.true)
-
-pub returns-then-n-scopes : goal.returns-then-n-scopes
-returns-then-n-scopes c = sym (sound-scopes _ _ _ _ _ _ c.node_count-n.ensures c.get.ensures c.get-scopes.ensures c.get-symbols.ensures c.if-get-n.false c.if-scopes-eq0.false c.if-n-scopes.true)
-
-pub returns-then-n-symbols : goal.returns-then-n-symbols
-returns-then-n-symbols c = sym (sound-symbols _ _ _ _ _ _ c.node_count-n.ensures c.get.ensures c.get-scopes.ensures c.get-symbols.ensures c.if-get-n.false c.if-scopes-eq0.false c.if-n-scopes.false c.if-n-symbols.true)
+returns-then-get-n c =
+    let r : Read _ _ _ _ _ _ = record { nodes_are = c.node_count-n.ensures; first-is = c.get.ensures; scopes-are = c.get-scopes.ensures; symbols-are = c.get-symbols.ensures } in
+    sym (elim c.then-get-n.branch [
+      | then-get-n-via-then-get-n w ↦ sound-nodes _ _ r w.if-get-n.true
+      | then-get-n-via-else-get-n+then-scopes-eq0 w ↦ sound_none _ _ r w.if-get-n.false w.if-scopes-eq0.true
+      | then-get-n-via-else-get-n+else-scopes-eq0+then-n-scopes w ↦ sound-scopes _ _ r w.if-get-n.false w.if-scopes-eq0.false w.if-n-scopes.true
+      | then-get-n-via-else-get-n+else-scopes-eq0+else-n-scopes+then-n-symbols w ↦ sound-symbols _ _ r w.if-get-n.false w.if-scopes-eq0.false w.if-n-scopes.false w.if-n-symbols.true
+    ])
 
 pub returns-then-parent_of : goal.returns-then-parent_of
-returns-then-parent_of c = sym (sound-root _ _ _ _ _ _ c.node_count-n.ensures c.get.ensures c.get-scopes.ensures c.get-symbols.ensures c.if-get-n.false c.if-scopes-eq0.false c.if-n-scopes.false c.if-n-symbols.false (λ e. c.if-parent_of.true (c.parent_of.ensures ∙ e)))
-
-pub returns-then-code-ne0 : goal.returns-then-code-ne0
-returns-then-code-ne0 c = sym (sound-rest _ _ _ _ _ _ c.node_count-n.ensures c.get.ensures c.get-scopes.ensures c.get-symbols.ensures c.if-get-n.false c.if-scopes-eq0.false c.if-n-scopes.false c.if-n-symbols.false (sym c.parent_of.ensures ∙ c.if-parent_of.false) ∙ halt _ _ (λ e. c.if-code-ne0.true (c.test_parents-code.ensures ∙ e)) ∙ sym c.test_parents-code.ensures)
+returns-then-parent_of c =
+    let r : Read _ _ _ _ _ _ = record { nodes_are = c.node_count-n.ensures; first-is = c.get.ensures; scopes-are = c.get-scopes.ensures; symbols-are = c.get-symbols.ensures } in
+    sym (elim c.then-parent_of.branch [
+      | then-parent_of-via-then-parent_of w ↦ sound-root _ _ r c.if-get-n.false c.if-scopes-eq0.false c.if-n-scopes.false c.if-n-symbols.false _ c.parent_of.ensures w.if-parent_of.true
+      | then-parent_of-via-else-parent_of+then-not-parents_below w ↦
+          sound-parents _ _ r c.if-get-n.false c.if-scopes-eq0.false c.if-n-scopes.false c.if-n-symbols.false _ c.parent_of.ensures w.if-parent_of.false _ w.parents_below.ensures w.if-not-parents_below.true
+      | then-parent_of-via-else-parent_of+else-not-parents_below+then-not-rows_sound w ↦
+          sound-rows _ _ r c.if-get-n.false c.if-scopes-eq0.false c.if-n-scopes.false c.if-n-symbols.false _ c.parent_of.ensures w.if-parent_of.false _ w.parents_below.ensures w.if-not-parents_below.false _ w.rows_sound.ensures
+          ∙ need-out 16 _ w.if-not-rows_sound.true
+    ])
 
 pub returns : goal.returns
-returns c = c.test_rows.ensures ∙ sym (sound-rest _ _ _ _ _ _ c.node_count-n.ensures c.get.ensures c.get-scopes.ensures c.get-symbols.ensures c.if-get-n.false c.if-scopes-eq0.false c.if-n-scopes.false c.if-n-symbols.false (sym c.parent_of.ensures ∙ c.if-parent_of.false) ∙ skip _ _ (sym c.test_parents-code.ensures ∙ c.if-code-ne0.false))
+returns c =
+    let r : Read _ _ _ _ _ _ = record { nodes_are = c.node_count-n.ensures; first-is = c.get.ensures; scopes-are = c.get-scopes.ensures; symbols-are = c.get-symbols.ensures } in
+    sym (sound-rows _ _ r c.if-get-n.false c.if-scopes-eq0.false c.if-n-scopes.false c.if-n-symbols.false _ c.parent_of.ensures c.if-parent_of.false _ c.parents_below.ensures c.if-not-parents_below.false _ c.rows_sound.ensures
+    ∙ need-in 16 _ c.if-not-rows_sound.false)

@@ -6,6 +6,3 @@ use Rattle.table.proofs.find.Given as goal
 abbrev pub invariant-loop-j : goal.invariant-loop-j
 invariant-loop-j l =
     (l.j ≤ l.symbols) × (find_from l.image l.symbols l.table 0 l.scope.0 l.name ≡ find_from l.image (l.symbols - l.j) l.table l.j l.scope.0 l.name)
-
-abbrev pub decreases-loop-j : goal.decreases-loop-j
-decreases-loop-j l = l.symbols - l.j

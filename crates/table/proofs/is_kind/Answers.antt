@@ -4,10 +4,10 @@ use Rattle.table.specs.Table.{is_kind}
 use Rattle.table.specs.Values.{option_of}
 use Rattle.table.proofs.is_kind.Goals as goal
 
-pub returns-in-At : goal.returns-in-At
+pub returns-in-Some : goal.returns-in-Some
 unfolding is_kind
-returns-in-At c = ap (λ k. eqb k c.args.kind) c.kind_at.ensures ∙ sym (ap (λ o. is_kind c.args.image.now c.args.kind (option_of o)) c.in-At.is)
+returns-in-Some c = ap (λ k. eqb k c.args.kind) c.kind_at.ensures ∙ sym (ap (λ o. is_kind c.args.image.now c.args.kind (option_of o)) c.in-Some.is)
 
-pub returns-in-Nothing : goal.returns-in-Nothing
+pub returns-in-None : goal.returns-in-None
 unfolding is_kind
-returns-in-Nothing c = sym (ap (λ o. is_kind c.args.image.now c.args.kind (option_of o)) c.in-Nothing.is)
+returns-in-None c = sym (ap (λ o. is_kind c.args.image.now c.args.kind (option_of o)) c.in-None.is)

@@ -1,15 +1,11 @@
 use mathlib.Core.Path.{sym, ap, ◌∙◌}
-use lib.Dec.{eqb}
-use Rattle.table.specs.Table.{is_value}
+use Rattle.table.specs.Table.{is_kind}
 use Rattle.table.specs.Values.{option_of}
-use Rattle.table.proofs.Finds.{value-var, value-other, value_none}
+use Rattle.table.proofs.Finds.{value-var, value-other}
 use Rattle.table.proofs.is_value.Goals as goal
 
-pub returns-then-kind-eq-IDENT_TERM : goal.returns-then-kind-eq-IDENT_TERM
-returns-then-kind-eq-IDENT_TERM c = sym (ap (λ o. is_value c.args.image.now (option_of o)) c.in-At.is ∙ value-var _ _ (sym c.kind_at-kind.ensures ∙ c.if-kind-eq-IDENT_TERM.true))
+pub returns-then-is_var : goal.returns-then-is_var
+returns-then-is_var c = c.if-is_var.true ∙ sym (value-var _ _ (sym c.is_var.ensures ∙ c.if-is_var.true))
 
-pub returns-else-kind-eq-IDENT_TERM : goal.returns-else-kind-eq-IDENT_TERM
-returns-else-kind-eq-IDENT_TERM c = ap (λ k. eqb k 5) c.kind_at-kind.ensures ∙ sym (ap (λ o. is_value c.args.image.now (option_of o)) c.in-At.is ∙ value-other _ _ (λ e. c.if-kind-eq-IDENT_TERM.false (c.kind_at-kind.ensures ∙ e)))
-
-pub returns-in-Nothing : goal.returns-in-Nothing
-returns-in-Nothing c = sym (ap (λ o. is_value c.args.image.now (option_of o)) c.in-Nothing.is ∙ value_none _)
+pub returns-else-is_var : goal.returns-else-is_var
+returns-else-is_var c = c.is_kind.ensures ∙ ap (λ k. is_kind c.args.image.now k (option_of c.args.found)) c.number.ensures ∙ sym (value-other _ _ (sym c.is_var.ensures ∙ c.if-is_var.false))

@@ -1,31 +1,24 @@
-use mathlib.Core.Path.{refl, sym, ◌∙◌}
+use mathlib.Core.Path.{sym, ◌∙◌}
 use native.Mathlib.Omega.{arith}
-use Rattle.tests.proofs.Whole.{node-kind, node-start, node-out, node_in}
+use Rattle.ast.specs.Rows.{fields_at}
+use Rattle.tests.proofs.Steps.{handed}
+use Rattle.tests.proofs.Fields.{kind-low}
+use Rattle.tests.proofs.Whole.{node-kind, node-start, node-out, node-bad, node_in}
 use Rattle.tests.proofs.check_node.Goals as goal
 
-pub kind_in-kind-requires : goal.kind_in-kind-requires
-kind_in-kind-requires c = let q = c.requires.0.within in let l = c.requires.1 in omega arith
+pub returns-in_default : goal.returns-in_default
+returns-in_default c = let e = c.in_default.ensures in node-kind _ _ (omega arith)
 
-pub returns-then-kind-gt40 : goal.returns-then-kind-gt40
-returns-then-kind-gt40 c = node-kind _ _ _ _ 0 c.kind_in-kind.ensures (omega arith) refl
+pub returns-then-start_at-end : goal.returns-then-start_at-end
+returns-then-start_at-end c = let k = kind-low c.in-Ok.kind in let e = c.in-Ok.ensures in let s = c.kind_at.ensures in node-start _ _ (omega arith) (λ q. c.if-start_at-end.true (c.start_at.ensures ∙ q ∙ sym c.requires.2))
 
-pub start_at-start-requires : goal.start_at-start-requires
-start_at-start-requires c = (c.requires.0.within, c.requires.1)
+pub returns-then-image-end : goal.returns-then-image-end
+returns-then-image-end c = let k = kind-low c.in-Ok.kind in let e = c.in-Ok.ensures in let s = c.kind_at.ensures in let o = c.args.image.now.within.head.operands_are in node-out _ _ (omega arith) (sym c.start_at.ensures ∙ c.if-start_at-end.false ∙ c.requires.2) (let t = c.start_at.ensures in let i = c.if-start_at-end.false in omega arith)
 
-pub returns-then-start-end : goal.returns-then-start-end
-returns-then-start-end c = node-start _ _ _ _ _ c.kind_in-kind.ensures (omega arith) c.start_at-start.ensures (λ e. c.if-start-end.true (e ∙ sym c.requires.2)) refl
-
-pub overflow_add-start : goal.overflow_add-start
-overflow_add-start c = let l = c.requires.0.low in omega arith
-
-pub returns-then-s-start : goal.returns-then-s-start
-returns-then-s-start c = let e = c.requires.0.within.head.operands_are in node-out _ _ _ _ _ c.kind_in-kind.ensures (omega arith) c.start_at-start.ensures (c.if-start-end.false ∙ c.requires.2) (omega arith) refl
-
-pub overflow_add-start-2 : goal.overflow_add-start-2
-overflow_add-start-2 c = let q = c.requires.0.within in omega arith
-
-pub check_row-requires : goal.check_row-requires
-check_row-requires c = let q = c.requires.0.within in (record { within = q; few = c.requires.0.few; low = omega arith }, omega arith, c.requires.3)
+pub returns-in_err-fields : goal.returns-in_err-fields
+unfolding fields_at
+returns-in_err-fields c = let k = kind-low c.in-Ok.kind in let e = c.in-Ok.ensures in let s = c.kind_at.ensures in let o = c.args.image.now.within.head.operands_are in handed _ _ _ c.from_residual.ensures.1 (node-bad _ _ (omega arith) (sym c.start_at.ensures ∙ c.if-start_at-end.false ∙ c.requires.2) (let t = c.start_at.ensures in let i = c.if-start_at-end.false in omega arith) _ (rw (sym c.if-start_at-end.false ∙ c.start_at.ensures, c.in-Ok.ensures ∙ c.kind_at.ensures) at c.in_err-fields.ensures))
 
 pub returns : goal.returns
-returns c = let e = c.requires.0.within.head.operands_are in node_in _ _ _ _ _ c.kind_in-kind.ensures (omega arith) c.start_at-start.ensures (c.if-start-end.false ∙ c.requires.2) (omega arith) c.check_row.ensures
+unfolding fields_at
+returns c = let k = kind-low c.in-Ok.kind in let e = c.in-Ok.ensures in let s = c.kind_at.ensures in let o = c.args.image.now.within.head.operands_are in node_in _ _ (omega arith) (sym c.start_at.ensures ∙ c.if-start_at-end.false ∙ c.requires.2) (let t = c.start_at.ensures in let i = c.if-start_at-end.false in omega arith) c.in_ok-fields.field-0 (rw (sym c.if-start_at-end.false ∙ c.start_at.ensures, c.in-Ok.ensures ∙ c.kind_at.ensures) at c.in_ok-fields.ensures)

@@ -1,11 +1,7 @@
-use Prim.Native.Nat.{◌-◌}
 use Rattle.ast.specs.Image.{nodes}
 use Rattle.ast.proofs.Runs.{RunLeft}
 use Rattle.ast.specs.Tests as tests
 use Rattle.tests.proofs.test_vars.Given as goal
 
 abbrev pub invariant-loop-n : goal.invariant-loop-n
-invariant-loop-n l = RunLeft (tests.test_var l.image) (nodes l.image) l.n
-
-abbrev pub decreases-loop-n : goal.decreases-loop-n
-decreases-loop-n l = l.s.nodes - l.n
+invariant-loop-n l = RunLeft (tests.test_var l.image.image.now) (nodes l.image.image.now) l.n

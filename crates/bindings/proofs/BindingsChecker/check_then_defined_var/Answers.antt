@@ -1,0 +1,26 @@
+use mathlib.Core.Path.{sym, ap, ◌∙◌}
+use Rattle.table.specs.Table.{lookup, is_var}
+use Rattle.rows.proofs.Parts.{appends-as, appends-no}
+use Rattle.typed.proofs.Enums.{term_is, no-ident}
+use Rattle.bindings.proofs.Leaves.{fits-as, when-so, when-not}
+use Rattle.bindings.proofs.RowLaws.{defined-ident, defined-wild}
+use Rattle.bindings.proofs.Cases.{one_left}
+use Rattle.bindings.proofs.BindingsChecker.check_then_defined_var.Goals as goal
+
+pub returns-in_default : goal.returns-in_default
+returns-in_default c = let f = no-ident _ c.requires.is c.term.ensures c.in_default.not-Ident in let p = c.requires.plain in appends-no _ (defined-wild _ _ _ c.requires.is (one_left f p))
+
+pub at_entry-found-requires : goal.at_entry-found-requires
+at_entry-found-requires c = let o = term_is _ c.requires.is c.term.ensures c.in-Ident.is in c.requires.asks _ o.number o.child
+
+pub report-requires : goal.report-requires
+unfolding lookup
+report-requires c = let o = term_is _ c.requires.is c.term.ensures c.in-Ident.is in fits-as _ (when-so _ (defined-ident _ _ _ c.requires.is o.number o.child) (c.is_var.ensures ∙ ap (is_var _) c.at_entry-found.ensures) c.if-is_var.true) c.requires.fits
+
+pub returns-then-is_var : goal.returns-then-is_var
+unfolding lookup
+returns-then-is_var c = let o = term_is _ c.requires.is c.term.ensures c.in-Ident.is in appends-as (sym (when-so _ (defined-ident _ _ _ c.requires.is o.number o.child) (c.is_var.ensures ∙ ap (is_var _) c.at_entry-found.ensures) c.if-is_var.true)) c.report.ensures
+
+pub returns-else-is_var : goal.returns-else-is_var
+unfolding lookup
+returns-else-is_var c = let o = term_is _ c.requires.is c.term.ensures c.in-Ident.is in appends-no _ (when-not _ (defined-ident _ _ _ c.requires.is o.number o.child) (c.is_var.ensures ∙ ap (is_var _) c.at_entry-found.ensures) c.if-is_var.false)

@@ -1,0 +1,5 @@
+use Rattle.environment.proofs.Steps.{marked-is}
+use Rattle.environment.proofs.ScopeBuilder.insert_unordered.Goals as goal
+
+pub returns-clause-walk : goal.returns-clause-walk
+returns-clause-walk c = marked-is _ _ _ _ _ _ c.insert_ordered.ensures.table

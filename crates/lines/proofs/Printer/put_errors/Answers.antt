@@ -1,0 +1,13 @@
+use mathlib.Core.Path.{ap}
+use Rattle.scopes.specs.Calls.{RowsOutcome}
+use Rattle.lines.specs.Report.{error}
+use Rattle.lines.specs.Bytes.{text}
+use Rattle.lines.proofs.Calls.{lines_none, no-rows, error-lines}
+use Rattle.lines.proofs.Printer.put_errors.Goals as goal
+
+pub returns-in-Ok : goal.returns-in-Ok
+unfolding text
+returns-in-Ok c = error-lines _ c.in-Ok.ensures c.check_bindings.auto.rows c.node_count-nodes.ensures c.put_rows.ensures
+
+pub returns-in_default : goal.returns-in_default
+returns-in_default c = lines_none 57344 _ (no-rows error _ _ _ (ap (λ (o : RowsOutcome). o.answer) c.in_default.ensures))

@@ -1,7 +1,0 @@
-use Rattle.lines.specs.Report.{body_lines, error_lines, var_lines}
-use Rattle.lines.proofs.Calls.{lines_next}
-use Rattle.lines.proofs.put_body.Goals as goal
-
-pub returns : goal.returns
-unfolding body_lines
-returns c = lines_next (error_lines c.args.image.now) _ c.put_errors-errors.ensures (lines_next (var_lines c.args.image.now) _ c.put_vars-vars.ensures c.put_end.ensures)

@@ -1,0 +1,13 @@
+use Prim.Native.Nat.{◌+◌, ◌*◌}
+use Rattle.occurrences.specs.Promises.{seen}
+use Rattle.occurrences.proofs.CollectLone.{ChecksLeft}
+use Rattle.occurrences.proofs.OccurrencesChecker.+check.Given as goal
+
+abbrev pub decreases-check_decl : goal.decreases-check_decl
+decreases-check_decl l = 2 * l.decl.0.0
+
+abbrev pub decreases-check_decls : goal.decreases-check_decls
+decreases-check_decls l = 2 * l.decls.list.node.0 + 1
+
+abbrev pub invariant-check_decls-loop-i : goal.invariant-check_decls-loop-i
+invariant-check_decls-loop-i l = seen ChecksLeft l.self.scopes l.decls.list l.i l.initial.scratch.counts l.scratch.counts

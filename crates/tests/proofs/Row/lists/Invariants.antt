@@ -1,0 +1,8 @@
+use Prim.Native.Nat.{◌+◌, ◌-◌}
+use Rattle.ast.specs.KindNumbers.{kind_number}
+use Rattle.tests.specs.Claims.{counts}
+use Rattle.tests.proofs.Fields.{BlocksLeft}
+use Rattle.tests.proofs.Row.lists.Given as goal
+
+abbrev pub invariant-loop-i : goal.invariant-loop-i
+invariant-loop-i l = BlocksLeft l.self.image.now.image.now l.self.node.0 (kind_number l.kind) l.count (l.self.place + 1) (counts l.initial.claims) (l.count - l.i) l.row (counts l.claims)
