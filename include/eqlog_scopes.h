@@ -15,9 +15,9 @@
  * table and past EQLOG_ROWS_WORDS(N) of rows, whatever their lengths.
  *
  * Stack: EQLOG_STACK_BYTES are enough for any call on any image. Nesting reaches some 1,000 levels, and the walks
- * over the tree call themselves once or more for each. Measured with the older Rattle kit, on the deepest images of
- * eight forms (terms, app heads, members, arguments, branches, matches, models, each in itself): at most 380,000 bytes,
- * by eqlog_sorted on branches in branches.
+ * over the tree call themselves once or more for each. Measured on the deepest images of eight forms (terms, app heads,
+ * members, arguments, branches, matches, models, each in itself): 350,000 bytes are enough for every call, 340,000 are
+ * not.
  * The proof is about a machine with no stack: a thread with less is ended by the system's guard page.
  *
  * The image

@@ -34,9 +34,6 @@ module _ (img : List ℕ) where
         short = subst (λ (c : ℕ). blocks_end img n c 1 ≤ 8192) e (formed-row img is).short;
       }
 
-  pub blocks-place : {n count i j : ℕ} → BlocksFrom n count i j → j ≤ 8192
-  blocks-place {n} {count} {i} {j} b = le_trans (ends-grows n (count - i) j) b.short
-
   -- one block more
   pub record NextBlock (n count i j : ℕ) : Type 0 where
     pub run : Run img 36 n (j + 1) (field img n j)

@@ -29,15 +29,3 @@ pub claim-append : (cs ds us : List ℕ) → claim_all (cs ++ ds) us ≡ claim_a
 unfolding claim_all
 claim-append [] ds us = refl
 claim-append (c ∷ cs) ds us = claim-append cs ds (set us c (bump (get_or us c 0)))
-
-pub bump-first : (us : List ℕ) (i c : ℕ) → i ≡ c → get_or us i 0 ≡ 0 → set us i 1 ≡ set us c (bump (get_or us c 0))
-unfolding bump
-bump-first us i c e h = let f : get_or us c 0 ≡ 0 = rw e at h in rw (f, e)
-
-pub bump-again : (us : List ℕ) (i c : ℕ) → i ≡ c → (get_or us i 0 ≡ 0 → ⊥) → set us i 2 ≡ set us c (bump (get_or us c 0))
-unfolding bump
-bump-again us i c e h = rw e (go (get_or us c 0) (λ z. h (rw e z)))
-  where
-    go : (x : ℕ) → (x ≡ 0 → ⊥) → set us c 2 ≡ set us c (bump x)
-    go zero f = absurd (f refl)
-    go (suc x) f = refl

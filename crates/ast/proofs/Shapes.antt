@@ -5,14 +5,13 @@ use mathlib.Core.Bool.{true, false}
 use mathlib.Core.List.{List, [], ◌∷◌}
 use Prim.Native.Nat.{ℕ, suc, ◌+◌, ◌-◌, ◌<◌, ◌≤◌}
 use native.Mathlib.Omega.{arith}
-use native.Mathlib.Nat.{add_assoc}
 use borrow.Author.Tests.{eqb-false}
 use lib.Dec.{eqb}
 use lib.ListN.{length, get_or}
 use Rattle.ast.specs.Image.{field}
 use Rattle.ast.specs.Kinds.{Class, Field, list, cases, no_child, Kind, kind_of}
 use Rattle.ast.specs.Tree.{Trees, none, ◌◂◌, ordered, tree_at}
-use Rattle.ast.specs.Items.{items, below}
+use Rattle.ast.specs.Items.{below}
 use Rattle.ast.specs.Is.{Is, Run, kind_by}
 use Rattle.ast.proofs.Row.{append-none, Child, Items, FormedFields, FormedRow, next, ends, node_of, tree_is, row-formed}
 
@@ -59,13 +58,6 @@ module _ (img : List ℕ) where
   pub case-last : (cl : Class) (ks : List ℕ) {n : ℕ} → Is img (kind_by cl (cases ks ∷ [])) n → field img n 0 < length ks
   unfolding FormedFields
   case-last cl ks {n} is = (row is).0.0
-
-  -- what is left of a list after i of its items
-  pub items_more : (n j count i : ℕ) → i < count → items img n (count - i) (j + i) ≡ tree_at img (field img n (j + i)) ◂ items img n (count - (i + 1)) (j + (i + 1))
-  unfolding items
-  items_more n j count i h =
-      ap (λ (c : ℕ). items img n c (j + i)) (one_more h)
-      ∙ ap (λ (x : ℕ). tree_at img (field img n (j + i)) ◂ items img n (count - (i + 1)) x) (add_assoc j i 1)
 
   -- a run of children, and one of them
   pub run_of : {kd : Kind} {k n j count : ℕ} → Is img kd n → Items img n k count j → j + count ≤ 8192 → Run img k n j count

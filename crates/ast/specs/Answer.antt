@@ -1,4 +1,4 @@
--- What a call of document 01 hands back. Each call's own enum is mapped to it by a definition in its crate's Answers.
+-- What a call of document 01 hands back. What each call gives, a `Result`, is mapped to it by a definition of Answers (scopes, occurrences).
 use Rattle.std.specs.Prelude.{ℕ, ◌<◌}
 
 pub data Answer : Type 0 where

@@ -9,6 +9,7 @@ pub mod Location
 pub mod Is
 pub mod Tests
 pub mod Promises
+pub mod Times
 pub mod Answer
 pub mod Declarations
 pub mod Rules

@@ -105,11 +105,11 @@ impl TryFrom<u32> for Kind {
     }
 }
 
-impl Kind {
-    // The number that stands for the kind in an image.
-    pub fn number(self) -> u32
-        ensures { result ≡ kind_number self }
-    {
-        self as u32
+// The number that stands for the kind in an image.
+impl From<Kind> for u32 {
+    ghost from_gives = { λ kind number. number ≡ kind_number kind };
+
+    fn from(kind: Kind) -> u32 {
+        kind as u32
     }
 }

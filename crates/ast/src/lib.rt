@@ -10,6 +10,7 @@ ghost use Rattle.ast.specs.Location.{location_of};
 use crate::kind::Kind;
 
 pub mod kind;
+pub mod times;
 
 // The little-endian word at a byte offset where it fits.
 pub fn word_in(image: &[u8], offset: usize) -> u32
@@ -56,6 +57,11 @@ pub fn sizes_of(image: &[u8]) -> Sizes
     }
 }
 
+// The largest image has so many nodes, and so many names.
+pub const NODES: usize = 2048;
+
+pub const NAMES: usize = 1024;
+
 // A node by its number.
 #[derive(Clone, Copy, Debug, PartialEq, Eq)]
 pub struct NodeId(pub u32);
@@ -71,7 +77,7 @@ pub fn kind_at(image: &[u8], node: NodeId) -> u32
 pub fn is_kind(image: &[u8], node: NodeId, kind: Kind) -> bool
     ensures { result ≡ eqb (ImageSpec.kind_at image.now node.0) (kind_number kind) }
 {
-    kind_at(image, node) == kind.number()
+    kind_at(image, node) == u32::from(kind)
 }
 
 // An image with its four sizes, which have passed 1 to 3: all its words are there.
@@ -109,6 +115,14 @@ impl SizedImage<'_> {
             self.image,
             16 + 8 * self.sizes.nodes as usize + 4 * place as usize,
         )
+    }
+
+    // Whether a node that is there is of the kind.
+    pub fn is_kind(&self, node: NodeId, kind: Kind) -> bool
+        requires { node.0 < self.now.sizes.nodes }
+        ensures { result ≡ eqb (ImageSpec.kind_at self.now.image.now node.0) (kind_number kind) }
+    {
+        self.kind_at(node) == u32::from(kind)
     }
 }
 

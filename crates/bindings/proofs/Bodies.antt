@@ -2,18 +2,17 @@
 use mathlib.Core.Path.{◌≡◌, refl, sym, ap, ap₂, subst, ◌∙◌}
 use mathlib.Core.Bool.{Bool, true, false}
 use mathlib.Core.List.{List, [], ◌∷◌, ◌++◌}
-use Prim.Native.Nat.{ℕ, zero, suc, ◌+◌, ◌-◌, ◌<◌, ◌≤◌}
-use native.Mathlib.Nat.{add-zero, sub-zero}
+use Prim.Native.Nat.{ℕ, zero, suc, ◌≤◌}
 use native.Mathlib.Omega.{arith}
 use lib.Dec.{eqb}
 use lib.ListN.{get_or}
 use Rattle.ast.specs.Image.{kind_at, field}
 use Rattle.ast.specs.Kinds.{inner, plain, term, case, defined_then, no_child, kind_of}
 use Rattle.ast.specs.Is.{Is, Run}
-use Rattle.ast.specs.Tree.{Tree, node, block, none, ◌◂◌, swaps, ordered, tree_at}
-use Rattle.ast.specs.Items.{items, blocks}
+use Rattle.ast.specs.Tree.{Tree, Trees, node, block, none, ◌◂◌, swaps, ordered, tree_at}
+use Rattle.ast.specs.Items.{items}
 use Rattle.ast.proofs.Row.{Child, FormedFields, append, next, ends, node_of}
-use Rattle.ast.proofs.Shapes.{row as fields-of, tree_of, child-is, case-child, one_more, items_more, term_kinds, run-item, run-list, run-tail}
+use Rattle.ast.proofs.Shapes.{row as fields-of, tree_of, child-is, case-child, term_kinds, run-list, run-tail}
 use Rattle.ast.proofs.Vars.{PlainVar, named, wildcard, PlainAt, AfterFirst, Each, vars-at}
 use Rattle.typed.specs.Nodes.{term_at}
 use Rattle.typed.specs.RowShapes.{Two, Listed}
@@ -25,13 +24,12 @@ use Rattle.typed.proofs.Enums.{term_is}
 use Rattle.typed.proofs.Lists.{at-list}
 use Rattle.table.specs.Table.{Table}
 use Rattle.rows.specs.Rows.{Row}
-use Rattle.ast.proofs.Blocks.{BlocksFrom, blocks_from, next-block}
 use Rattle.bindings.specs.Errors.{defined_row, is_ctor, arg_row, arg_rows, rows_of, rows_seq, decl_rows, decls_rows}
 use Rattle.error.specs.Kinds.{asked}
 use Rattle.bindings.specs.Promises.{inside, listed, declared, of_stmts, of_decls, of_pattern, of_case, of_args}
-use Rattle.bindings.proofs.RowLaws.{rows_at, plain-rows, term_rows, case_rows, defined-none, defined-some, one_inside, two-inside, case-inside, child-list-inside, branch-inside, pattern-first, pattern-none, pattern-app, args-inside, decl-child, rule-rows, model-rows, module-rows}
+use Rattle.bindings.proofs.RowLaws.{rows_at, plain-rows, term_rows, case_rows, defined-none, defined-some, one_inside, two-inside, case-inside, child-list-inside, pattern-first, pattern-none, pattern-app, args-inside, decl-child, rule-rows, model-rows, module-rows}
 use Rattle.bindings.proofs.Quiet.{quiet}
-use Rattle.bindings.proofs.Epic.{Down, Item, Listing, listed_more}
+use Rattle.bindings.proofs.Epic.{Down, Listing, seq-more}
 
 -- the kinds of the children of a ThenAtom's cases, and of a Stmt's
 abbrev pub atom_kinds : List ℕ
@@ -171,33 +169,18 @@ module _ (img : List ℕ) (t : Table) where
   pub applied-no : {n h l : ℕ} {b : Bool} → Applied n h l → b ≡ is_ctor img t (tree_at img h) → b ≡ false → of_pattern img t n ≡ []
   applied-no {n} {h} {l} a e z = a.same ∙ ap (λ (b : Bool). elim b as (λ _. List Row) [ true ↦ of_args img t l | false ↦ [] ]) (sym e ∙ z)
 
-  -- the arguments of a pattern, and what is left after i of them
-  pub args-list : {n : ℕ} {ns : NodeList} → Is img (kind_of 22) n → Listed img n 0 ns
-      → Listing img t 12 n ns.node.0 ns.count ns.first (of_args img t n) (arg_rows img t (items img ns.node.0 ns.count ns.first))
+  -- the arguments of a pattern
+  pub args-list : {n : ℕ} → Is img (kind_of 22) n → Run img 12 n 1 (field img n 0) × (of_args img t n ≡ arg_rows img t (items img n (field img n 0) 1))
   unfolding kind_of
-  args-list {n} is q =
-      at-list img (λ (m j c : ℕ). Listing img t 12 n m c j (of_args img t n) (arg_rows img t (items img m c j))) q
-      (record { low = omega arith; run = run-list img is refl; same = args-inside img t is })
+  args-list is = (run-list img is refl, args-inside img t is)
 
-  abbrev pub args_left : ℕ → ℕ → ℕ → ℕ → List Row
-  args_left n c j i = arg_rows img t (items img n (c - i) (j + i))
-
-  pub args-start : (n c j : ℕ) → arg_rows img t (items img n c j) ≡ args_left n c j 0
-  args-start n c j = ap₂ (λ (x y : ℕ). arg_rows img t (items img n x y)) (sym (sub-zero c)) (sym (add-zero j))
-
-  pub args-item : {n c j x : ℕ} (i : ℕ) → Run img 12 n j c → i < c → x ≡ field img n (j + i) → Item img t 12 n x (args_left n c j i) (arg_row img t (tree_at img x)) (args_left n c j (i + 1))
+  pub args-more : (x : ℕ) {us vs : Trees} → us ≡ tree_at img x ◂ vs → arg_rows img t us ≡ arg_row img t (tree_at img x) ++ arg_rows img t vs
   unfolding arg_rows
-  args-item {n} {c} {j} {x} i h l q =
-      let z = run-item img h l q in
-      record {
-        low = z.0.below;
-        is = z.1;
-        same = ap (arg_rows img t) (items_more img n j c i l) ∙ ap (λ (y : ℕ). arg_row img t (tree_at img y) ++ args_left n c j (i + 1)) (sym q);
-      }
+  args-more x e = ap (arg_rows img t) e
 
-  pub args_end : (n c j i : ℕ) → c ≤ i → args_left n c j i ≡ []
-  unfolding arg_rows items
-  args_end n c j i h = let z : c - i ≡ 0 = omega arith in ap (λ (x : ℕ). arg_rows img t (items img n x (j + i))) z
+  pub args-none : {us : Trees} → us ≡ none → arg_rows img t us ≡ []
+  unfolding arg_rows
+  args-none e = ap (arg_rows img t) e
 
   -- statements -----------------------------------------------------------------------------------------------------
   stmt-down : {n d : ℕ} → Is img (kind_of 36) n → (c : ℕ) → c ≡ field img n 0 → d ≡ field img n 1 → eqb (get_or stmt_kinds c no_child) no_child ≡ false
@@ -242,47 +225,22 @@ module _ (img : List ℕ) (t : Table) where
       record { low = s.0.below; is = i; same = s.1 ∙ plain-rows img t false 40 _ n i s.0.kind }
 
   -- the statements of a block
-  pub stmts-item : {n c j x : ℕ} (i : ℕ) → Run img 36 n j c → i < c → x ≡ field img n (j + i)
-      → Item img t 36 n x (listed img t false n (c - i) (j + i)) (inside img t false x) (listed img t false n (c - (i + 1)) (j + (i + 1)))
+  pub stmts-more : (n x : ℕ) {us vs : Trees} → Is img (kind_of 36) x → kind_at img x ≡ 36 → us ≡ tree_at img x ◂ vs → rows_seq img t false n us ≡ inside img t false x ++ rows_seq img t false n vs
   unfolding kind_of asked
-  stmts-item {n} {c} {j} {x} i h l q =
-      let z = run-item img h l q in
-      record {
-        low = z.0.below;
-        is = z.1;
-        same =
-            listed_more img t false n c j i l
-            ∙ ap (λ (y : ℕ). rows_at img t false n y ++ listed img t false n (c - (i + 1)) (j + (i + 1))) (sym q)
-            ∙ ap (λ (m : List Row). m ++ listed img t false n (c - (i + 1)) (j + (i + 1))) (plain-rows img t false 36 _ n z.1 z.0.kind);
-      }
+  stmts-more n x {vs = vs} is k e = seq-more img t false n x e ∙ ap (λ (l : List Row). l ++ rows_seq img t false n vs) (plain-rows img t false 36 _ n is k)
 
   -- the cases of a match; the matched term gives no row
-  pub cases-list : {n : ℕ} {ns : NodeList} → Is img (kind_of 40) n → Listed img n 1 ns
-      → Listing img t 35 n ns.node.0 ns.count ns.first (inside img t false n) (of_stmts img t ns)
+  pub cases-list : {n : ℕ} → Is img (kind_of 40) n → Run img 35 n 2 (field img n 1) × (inside img t false n ≡ listed img t false n (field img n 1) 2)
   unfolding kind_of ordered FormedFields next
-  cases-list {n} is q =
-      let h : Child img n 12 (field img n 0) = (fields-of img is).0 in
-      at-list img (λ (m j c : ℕ). Listing img t 35 n m c j (inside img t false n) (listed img t false m c j)) q
-      (record {
-        low = omega arith;
-        run = run-tail img is refl refl;
-        same =
-            child-list-inside img t false (inner plain) 12 35 is (λ ts. refl)
-            ∙ ap (λ (l : List Row). l ++ listed img t false n (field img n 1) 2) (quiet img t is.accepted n (child-is img is h).below h.kind tt);
-      })
+  cases-list {n} is =
+      let h : Child img n 12 (field img n 0) = (fields-of img is).0 in (
+        run-tail img is refl refl,
+        child-list-inside img t false (inner plain) 12 35 is (λ ts. refl)
+            ∙ ap (λ (l : List Row). l ++ listed img t false n (field img n 1) 2) (quiet img t is.accepted n (child-is img is h).below h.kind tt),
+      )
 
-  pub cases-item : {n c j x : ℕ} (i : ℕ) → Run img 35 n j c → i < c → x ≡ field img n (j + i)
-      → Item img t 35 n x (listed img t false n (c - i) (j + i)) (of_case img t x) (listed img t false n (c - (i + 1)) (j + (i + 1)))
-  cases-item {n} {c} {j} {x} i h l q =
-      let z = run-item img h l q in
-      record {
-        low = z.0.below;
-        is = z.1;
-        same =
-            listed_more img t false n c j i l
-            ∙ ap (λ (y : ℕ). rows_at img t false n y ++ listed img t false n (c - (i + 1)) (j + (i + 1))) (sym q)
-            ∙ ap (λ (m : List Row). m ++ listed img t false n (c - (i + 1)) (j + (i + 1))) (case_rows img t false n z.1);
-      }
+  pub cases-more : (n x : ℕ) {us vs : Trees} → Is img (kind_of 35) x → us ≡ tree_at img x ◂ vs → rows_seq img t false n us ≡ of_case img t x ++ rows_seq img t false n vs
+  cases-more n x {vs = vs} is e = seq-more img t false n x e ∙ ap (λ (l : List Row). l ++ rows_seq img t false n vs) (case_rows img t false n is)
 
   -- a case: its pattern's rows 3, then its statements
   pub case-whole : {n c : ℕ} → Is img (kind_of 35) n → c ≡ field img n 1 → of_case img t n ≡ of_pattern img t n ++ listed img t false n c 2
@@ -302,58 +260,20 @@ module _ (img : List ℕ) (t : Table) where
       (record { low = omega arith; run = run-tail img is refl refl; same = case-whole is refl })
 
   -- the blocks of a branch -----------------------------------------------------------------------------------------
-  abbrev pub blocks_left : ℕ → ℕ → ℕ → List Row
-  blocks_left n c j = rows_seq img t false n (blocks img n c j)
-
-  pub record BlockList (n m c j : ℕ) : Type 0 where
-    pub low : m ≤ n
-    pub from : BlocksFrom img m c 0 j
-    pub same : inside img t false n ≡ blocks_left m c j
-
-  pub block-list : {n : ℕ} {bs : NodeList} → Is img (kind_of 39) n → Listed img n 0 bs → BlockList n bs.node.0 bs.count bs.first
-  block-list {n} is q = at-list img (λ (m j c : ℕ). BlockList n m c j) q (record { low = omega arith; from = blocks_from img is refl; same = branch-inside img t false is })
-
-  pub blocks_start : (n c j : ℕ) → blocks_left n c j ≡ blocks_left n (c - 0) j
-  blocks_start n c j = ap (λ (x : ℕ). blocks_left n x j) (sym (sub-zero c))
-
-  -- one block more
-  pub record BlockItem (n c i j m size first : ℕ) : Type 0 where
-    pub low : m ≤ n
-    pub run : Run img 36 m first size
-    pub from : BlocksFrom img n c (i + 1) (first + size)
-    pub same : blocks_left n (c - i) j ≡ listed img t false m size first ++ blocks_left n (c - (i + 1)) (first + size)
-
-  pub block-item : {n c i j : ℕ} {ns : NodeList} → BlocksFrom img n c i j → i < c → Listed img n j ns → BlockItem n c i j ns.node.0 ns.count ns.first
-  unfolding blocks rows_of
-  block-item {n} {c} {i} {j} b l q =
-      let k = next-block img b l in
-      at-list img (λ (m first size : ℕ). BlockItem n c i j m size first) q
-      (record { low = omega arith; run = k.run; from = k.from; same = ap (λ (x : ℕ). blocks_left n x j) (one_more l) })
-
-  pub blocks-end : (n c i j : ℕ) → c ≤ i → blocks_left n (c - i) j ≡ []
-  unfolding rows_of blocks
-  blocks-end n c i j h = let z : c - i ≡ 0 = omega arith in ap (λ (x : ℕ). blocks_left n x j) z
+  pub blocks-more : {n : ℕ} (b : NodeList) {us vs : Trees} → b.node.0 ≡ n → us ≡ block (items img b.node.0 b.count b.first) ◂ vs → rows_seq img t false n us ≡ of_stmts img t b ++ rows_seq img t false n vs
+  unfolding rows_of
+  blocks-more {n} b {vs = vs} m e =
+      ap (rows_seq img t false n) e
+      ∙ ap (λ (o : ℕ). rows_seq img t false o (items img b.node.0 b.count b.first) ++ rows_seq img t false n vs) (sym m)
 
   -- declarations ---------------------------------------------------------------------------------------------------
-  pub declared-start : (n c j : ℕ) → declared img t n c j ≡ declared img t n (c - 0) (j + 0)
-  declared-start n c j = ap₂ (λ (x y : ℕ). declared img t n x y) (sym (sub-zero c)) (sym (add-zero j))
-
-  pub declared-end : (n c j i : ℕ) → c ≤ i → declared img t n (c - i) (j + i) ≡ []
-  unfolding decl_rows items
-  declared-end n c j i h = let z : c - i ≡ 0 = omega arith in ap (λ (x : ℕ). declared img t n x (j + i)) z
-
-  pub decls-item : {n c j x : ℕ} (i : ℕ) → Run img 1 n j c → i < c → x ≡ field img n (j + i)
-      → Item img t 1 n x (declared img t n (c - i) (j + i)) (decl_rows img t (tree_at img x)) (declared img t n (c - (i + 1)) (j + (i + 1)))
+  pub decls-more : (x : ℕ) {us vs : Trees} → us ≡ tree_at img x ◂ vs → decls_rows img t us ≡ decl_rows img t (tree_at img x) ++ decls_rows img t vs
   unfolding decl_rows
-  decls-item {n} {c} {j} {x} i h l q =
-      let z = run-item img h l q in
-      record {
-        low = z.0.below;
-        is = z.1;
-        same =
-            ap (decls_rows img t) (items_more img n j c i l)
-            ∙ ap (λ (y : ℕ). decl_rows img t (tree_at img y) ++ declared img t n (c - (i + 1)) (j + (i + 1))) (sym q);
-      }
+  decls-more x e = ap (decls_rows img t) e
+
+  pub decls-none : {us : Trees} → us ≡ none → decls_rows img t us ≡ []
+  unfolding decl_rows
+  decls-none e = ap (decls_rows img t) e
 
   -- what a rule, a model and a module go down to
   pub decl-rule : {n d : ℕ} {ns : NodeList} → Is img (kind_of 1) n → 4 ≡ field img n 0 → d ≡ field img n 1 → Listed img d 1 ns

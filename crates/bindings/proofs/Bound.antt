@@ -1,7 +1,7 @@
 -- At most N error rows, so none is ever dropped: in a rule there are no more rows than nodes and no ArgDecl, and rows 4 are no
 -- more than there are ArgDecls.
 use mathlib.Core.Path.{◌≡◌, refl, sym, ap, subst, ◌∙◌}
-use mathlib.Core.Bool.{Bool, true, false, ◌||◌, ◌&&◌}
+use mathlib.Core.Bool.{Bool, true, false, ◌||◌, ◌&&◌, false≢true}
 use mathlib.Core.List.{List, [], ◌∷◌, ◌++◌}
 use Prim.Native.Nat.{ℕ, zero, suc, ◌+◌, ◌<◌, ◌≤◌}
 use native.Mathlib.Nat.{add-zero}
@@ -18,7 +18,7 @@ use Rattle.ast.specs.Rows.{ops_from, shape}
 use Rattle.ast.specs.Tests.{is, verdict}
 use Rattle.ast.specs.Tree.{Tree, node, block, Trees, none, ◌◂◌, ordered, class_at, tree_at, size, sizes}
 use Rattle.ast.proofs.Accepted.{formed, last-below}
-use Rattle.ast.proofs.Bools.{false-true, is_true, true-not-false}
+use Rattle.ast.proofs.Bools.{is_true, true-not-false}
 use Rattle.ast.proofs.ByKind.{kind_for, each_map, kids_at, class-kind, by-kinds}
 use Rattle.ast.proofs.Count.{nodes_of, nodes_all, sum_of, sum_to, sum_of-append, is_same, is-other, whole, tree-size}
 use Rattle.ast.proofs.Row.{Child, FormedFields, all_kids}
@@ -307,7 +307,7 @@ module _ (img : List ℕ) (t : Table) (accepted : verdict img ≡ 0) where
 -- what holds of each of some numbers holds of one that is among them
 among-all : {P : ℕ → Type 0} (n : ℕ) {ns : List ℕ} → All P ns → among n ns ≡ true → P n
 unfolding among
-among-all n nil e = absurd (false-true e)
+among-all n nil e = absurd (false≢true e)
 among-all {P} n (cons {c = x} {cs = ns} h r) e = go (eqb n x) refl (among-all n r) e
   where
     go : (b : Bool) → eqb n x ≡ b → (among n ns ≡ true → P n) → b || among n ns ≡ true → P n

@@ -16,18 +16,18 @@ use Rattle.ast.proofs.Accepted.{both, skip, stop, sized, formed, last-below}
 use Rattle.error.specs.Refusals.{refusal_of}
 use Rattle.error.specs.declared.Refusal.{Refusal}
 use Rattle.table.specs.Table.{Table}
-use Rattle.environment.specs.Reading.{table_in}
+use Rattle.environment.specs.Reading.{table_in, seen}
+use Rattle.environment.specs.declared.Scopes.{Scopes}
 use Rattle.rows.specs.declared.Rows.{Rows}
-use Rattle.rows.specs.Rows.{Row, Appends}
+use Rattle.rows.specs.Rows.{Row, rows_length, Appends}
 use Rattle.scopes.specs.Resolve.{test_table}
 use Rattle.scopes.specs.Calls.{test_rows}
 use Rattle.scopes.proofs.Calls.{rows-table, rows_long}
 use Rattle.scopes.proofs.Resolving.{table-accepted}
-use Rattle.bindings.specs.declared.BindingsChecker.{BindingsChecker}
 use Rattle.bindings.specs.declared.Mode.{Mode}
 use Rattle.bindings.specs.declared.Mode.TheVariants.{Plain, Strict}
 use Rattle.bindings.specs.Errors.{is_strict, strict_rows, plain_rows, error_rows, test_errors}
-use Rattle.bindings.specs.Promises.{mode_of, seen, Ready, of_decl, of_mode, mode_rows, all_rows, Filled}
+use Rattle.bindings.specs.Promises.{mode_of, Ready, of_decl, of_mode, mode_rows, all_rows}
 use Rattle.bindings.proofs.Leaves.{fits-as}
 use Rattle.bindings.proofs.Bound.{both-few}
 
@@ -76,12 +76,12 @@ module _ (img : List ℕ) where
   unfolding numbered
   mode-errors t number e = ap (λ (l : List Row). plain_rows img t ++ l) (ap numbered e ∙ numbered-is number) ∙ errors-are t number
 
-pub root-ready : (b : BindingsChecker) {m c : ℕ} → verdict b.scopes.image.now ≡ 0 → m ≡ last b.scopes.image.now → c ≡ 0 → Ready b (kind_of 0) m (seen of_decl b m) c
-root-ready b {m} {c} e q z =
-    let img = b.scopes.image.now in
+pub root-ready : (s : Scopes) {m c : ℕ} → verdict s.image.now ≡ 0 → m ≡ last s.image.now → c ≡ 0 → Ready s (kind_of 0) m (seen of_decl s m) c
+root-ready s {m} {c} e q z =
+    let img = s.image.now in
     record {
       is = subst (Is img (kind_of 0)) (sym q) (record { accepted = e; below = last-below img e; kind = ap kind_of (formed img e).root });
-      fits = fits-as c (sym (plain_of img (table_in b.scopes) q)) (let a = rows_fit img (table_in b.scopes) e in omega arith);
+      fits = fits-as c (sym (plain_of img (table_in s) q)) (let a = rows_fit img (table_in s) e in omega arith);
     }
 
 -- the refusals ----------------------------------------------------------------------------------------------------------
@@ -111,5 +111,8 @@ module _ (img tab rows : List ℕ) (mode : ℕ) where
   errors-table e = rows-table img tab rows (errors-rows e)
 
   -- what the checks ask
-  pub errors-filled : test_errors img tab rows mode ≡ 0 → Filled img rows
-  errors-filled p = record { accepted = table-accepted img tab (errors-table p); long = rows_long img tab rows (errors-rows p) }
+  pub errors-accepted : test_errors img tab rows mode ≡ 0 → verdict img ≡ 0
+  errors-accepted p = table-accepted img tab (errors-table p)
+
+  pub errors-long : test_errors img tab rows mode ≡ 0 → rows_length (nodes img) ≤ length rows
+  errors-long p = rows_long img tab rows (errors-rows p)

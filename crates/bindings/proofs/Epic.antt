@@ -3,21 +3,17 @@ use mathlib.Core.Path.{◌≡◌, refl, sym, ap, ap₂, subst, ◌∙◌}
 use mathlib.Core.Logic.{◌⊎◌, ⊎_elim}
 use mathlib.Core.Bool.{Bool, true, false}
 use mathlib.Core.List.{List, [], ◌++◌}
-use Prim.Native.Nat.{ℕ, zero, suc, ◌+◌, ◌-◌, ◌<◌, ◌≤◌}
-use native.Mathlib.Nat.{add-zero, sub-zero}
+use Prim.Native.Nat.{ℕ, zero, suc, ◌<◌, ◌≤◌}
 use native.Mathlib.Omega.{arith}
 use lib.Dec.{eqb}
 use lib.ListN.{get_or}
 use Rattle.ast.specs.Image.{field}
 use Rattle.ast.specs.Kinds.{inner, term, head, no_child, kind_of}
 use Rattle.ast.specs.Is.{Is, Run}
-use Rattle.ast.specs.Tree.{ordered, tree_at}
-use Rattle.ast.specs.Items.{items}
+use Rattle.ast.specs.Tree.{Trees, none, ◌◂◌, ordered, tree_at}
 use Rattle.ast.proofs.Row.{Child, FormedFields, next}
-use Rattle.ast.proofs.Shapes.{row as fields-of, child-is, case-child, case-kids, items_more, term_kinds, head_kinds, run-item, run-list}
-use Rattle.typed.specs.RowShapes.{Two, Listed}
-use Rattle.typed.specs.declared.nodes.NodeList.{NodeList}
-use Rattle.typed.proofs.Lists.{at-list}
+use Rattle.ast.proofs.Shapes.{row as fields-of, child-is, case-child, case-kids, term_kinds, head_kinds, run-list}
+use Rattle.typed.specs.RowShapes.{Two}
 use Rattle.table.specs.Table.{Table}
 use Rattle.rows.specs.Rows.{Row}
 use Rattle.bindings.specs.Errors.{introduced_row, rows_of, rows_seq}
@@ -190,24 +186,14 @@ module _ (img : List ℕ) (t : Table) where
       let i = child-is img is s.0 in
       record { low = s.0.below; is = i; same = s.1 ∙ term_rows img t true n i }
 
-  -- a list: what is left after i items -----------------------------------------------------------------------------
-  pub listed_start : (a : Bool) (n c j : ℕ) → listed img t a n c j ≡ listed img t a n (c - 0) (j + 0)
-  listed_start a n c j = ap₂ (λ (x y : ℕ). listed img t a n x y) (sym (sub-zero c)) (sym (add-zero j))
-
-  pub listed_more : (a : Bool) (n c j i : ℕ) → i < c
-      → listed img t a n (c - i) (j + i) ≡ rows_at img t a n (field img n (j + i)) ++ listed img t a n (c - (i + 1)) (j + (i + 1))
+  -- lists: the rows of the trees that are left ---------------------------------------------------------------------
+  pub seq-none : (a : Bool) (n : ℕ) {us : Trees} → us ≡ none → rows_seq img t a n us ≡ []
   unfolding rows_of
-  listed_more a n c j i h = ap (rows_seq img t a n) (items_more img n j c i h)
+  seq-none a n e = ap (rows_seq img t a n) e
 
-  pub listed-end : (a : Bool) (n c j i : ℕ) → c ≤ i → listed img t a n (c - i) (j + i) ≡ []
-  unfolding rows_of items
-  listed-end a n c j i h = let z : c - i ≡ 0 = omega arith in ap (λ (x : ℕ). listed img t a n x (j + i)) z
-
-  -- a list of terms
-  pub record Item (k n c : ℕ) (whole rows more : List Row) : Type 0 where
-    pub low : c < n
-    pub is : Is img (kind_of k) c
-    pub same : whole ≡ rows ++ more
+  pub seq-more : (a : Bool) (n x : ℕ) {us vs : Trees} → us ≡ tree_at img x ◂ vs → rows_seq img t a n us ≡ rows_at img t a n x ++ rows_seq img t a n vs
+  unfolding rows_of
+  seq-more a n x e = ap (rows_seq img t a n) e
 
   -- the rows l are those of the c nodes from place j of the row of d on, which is not above n
   pub record Listing (k n d c j : ℕ) (l rows : List Row) : Type 0 where
@@ -215,22 +201,10 @@ module _ (img : List ℕ) (t : Table) where
     pub run : Run img k d j c
     pub same : l ≡ rows
 
-  pub terms-list : {n : ℕ} {ns : NodeList} → Is img (kind_of 22) n → Listed img n 0 ns
-      → Listing 12 n ns.node.0 ns.count ns.first (inside img t true n) (listed img t true ns.node.0 ns.count ns.first)
+  -- the terms of a list
+  pub terms-list : {n : ℕ} → Is img (kind_of 22) n → Run img 12 n 1 (field img n 0) × (inside img t true n ≡ listed img t true n (field img n 0) 1)
   unfolding kind_of
-  terms-list {n} is q =
-      at-list img (λ (m j c : ℕ). Listing 12 n m c j (inside img t true n) (listed img t true m c j)) q
-      (record { low = omega arith; run = run-list img is refl; same = list_inside img t true 12 is })
+  terms-list is = (run-list img is refl, list_inside img t true 12 is)
 
-  pub terms-item : {n c j x : ℕ} (i : ℕ) → Run img 12 n j c → i < c → x ≡ field img n (j + i)
-      → Item 12 n x (listed img t true n (c - i) (j + i)) (inside img t true x) (listed img t true n (c - (i + 1)) (j + (i + 1)))
-  terms-item {n} {c} {j} {x} i h l q =
-      let z = run-item img h l q in
-      record {
-        low = z.0.below;
-        is = z.1;
-        same =
-            listed_more true n c j i l
-            ∙ ap (λ (y : ℕ). rows_at img t true n y ++ listed img t true n (c - (i + 1)) (j + (i + 1))) (sym q)
-            ∙ ap (λ (m : List Row). m ++ listed img t true n (c - (i + 1)) (j + (i + 1))) (term_rows img t true n z.1);
-      }
+  pub terms-more : (n x : ℕ) {us vs : Trees} → Is img (kind_of 12) x → us ≡ tree_at img x ◂ vs → rows_seq img t true n us ≡ inside img t true x ++ rows_seq img t true n vs
+  terms-more n x {vs = vs} is e = seq-more true n x e ∙ ap (λ (l : List Row). l ++ rows_seq img t true n vs) (term_rows img t true n is)

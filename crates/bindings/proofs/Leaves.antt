@@ -1,4 +1,5 @@
 -- Laws of single rows: what is asked of a name, a row that stands where a test says so, and room for rows.
+use Rattle.ast.proofs.Bools.{eqb-swap}
 use mathlib.Core.Path.{◌≡◌, refl, sym, ap, ap₂, subst, ◌∙◌}
 use mathlib.Core.Bool.{Bool, true, false, ◌&&◌, not}
 use mathlib.Core.Option.{Option, some}
@@ -7,7 +8,6 @@ use Prim.Native.Nat.{ℕ, ◌+◌, ◌<◌, ◌^◌}
 use native.Mathlib.Omega.{arith}
 use lib.Dec.{eqb}
 use lib.ListN.{length, length-append}
-use borrow.Author.Tests.{eq-eqb, ne_eqb, eqb-true, eqb-false}
 use Rattle.std.specs.Prelude.{Option as Given, Some, None}
 use Rattle.std.specs.Option.{option_eq}
 use Rattle.ast.specs.declared.NodeId.{NodeId}
@@ -30,14 +30,6 @@ module _ (img : List ℕ) (t : Table) (n i : ℕ) where
   introduces-var {o} {b} {seen} e h z q =
       ap (λ (u : Option ℕ). is_var img u && not (same_node u (at_entry img t n i))) (sym e)
       ∙ ap₂ (λ (c d : Bool). c && not d) h (ap (λ (u : Option ℕ). same_node u (at_entry img t n i)) z ∙ sym q)
-
--- the order of what is compared does not matter
-eqb-swap : (a b : ℕ) → eqb a b ≡ eqb b a
-eqb-swap a b = go (eqb a b) refl
-  where
-    go : (c : Bool) → eqb a b ≡ c → eqb a b ≡ eqb b a
-    go true e = e ∙ sym (eq-eqb b a (sym (eqb-true a b e)))
-    go false e = e ∙ sym (ne_eqb b a (λ q. eqb-false a b e (sym q)))
 
 -- what is found is a node, by the code's test E of two nodes
 pub same-found : (E : NodeId → NodeId → Bool) → ((x y : NodeId) → E x y ≡ eqb x.0 y.0) → (found : Given NodeId) (b : NodeId)

@@ -7,8 +7,9 @@ use Rattle.ast.specs.Kinds.{Class, cases, kind_of}
 use Rattle.ast.specs.Is.{Is, kind_by}
 use Rattle.ast.proofs.Shapes.{child-is, case-child}
 use Rattle.environment.specs.Layout.{names_most}
+use Rattle.environment.specs.Asked.{Asks}
 use Rattle.environment.proofs.Asking.{asked-term, asked-head, asked-then, ident-below}
-use Rattle.bindings.specs.Promises.{Asks, Defines}
+use Rattle.bindings.specs.Promises.{Defines}
 
 module _ (img : List ℕ) where
   -- the IdentTerm of a node of case Ident
@@ -17,13 +18,13 @@ module _ (img : List ℕ) where
 
   pub term_asks : {n i : ℕ} → Is img (kind_of 12) n → 0 ≡ field img n 0 → i ≡ field img n 1 → Asks img n i
   unfolding kind_of
-  term_asks is z q = (is.below, asked-term img _ is z q, name_below is z q)
+  term_asks is z q = record { low = is.below; is = asked-term img _ is z q; below = name_below is z q }
 
   pub head-asks : {n i : ℕ} → Is img (kind_of 15) n → 0 ≡ field img n 0 → i ≡ field img n 1 → Asks img n i
   unfolding kind_of
-  head-asks is z q = (is.below, asked-head img _ is z q, name_below is z q)
+  head-asks is z q = record { low = is.below; is = asked-head img _ is z q; below = name_below is z q }
 
   -- the variable v of the DefinedThenAtom d, at the atom above
   pub then-asks : {o d v : ℕ} → Defines img o d → suc v ≡ field img d 0 → Is img (kind_of 12) v → (i : ℕ) → 0 ≡ field img v 0 → i ≡ field img v 1 → Asks img o i
   unfolding kind_of
-  then-asks {d = d} {v} a e is i z q = (a.is.below, asked-then img d v i a.is a.number a.child e z q, name_below is z q)
+  then-asks {d = d} {v} a e is i z q = record { low = a.is.below; is = asked-then img d v i a.is a.number a.child e z q; below = name_below is z q }

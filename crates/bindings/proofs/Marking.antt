@@ -3,7 +3,7 @@ use mathlib.Core.Path.{◌≡◌, refl, sym, ap, ap₂, subst, ◌∙◌}
 use mathlib.Core.Bool.{Bool, true, false, ◌||◌}
 use mathlib.Core.List.{List, [], ◌∷◌, ◌++◌}
 use Prim.Native.Nat.{ℕ, zero, suc, ◌+◌, ◌-◌, ◌<◌, ◌≤◌}
-use native.Mathlib.Nat.{sub-zero, add-zero}
+use native.Mathlib.Nat.{sub-zero}
 use native.Mathlib.Numerals.{add-one}
 use native.Mathlib.Omega.{arith}
 use lib.Dec.{eqb, eqb-suc-suc, eqb-zero-suc}
@@ -12,17 +12,20 @@ use lib.Seq.{get_or-set_same, get_or-set_other}
 use borrow.Author.Tests.{eq-eqb, ne_eqb, eqb-true, eqb-false}
 use Rattle.std.specs.Prelude.{Option, Some, None}
 use Rattle.std.specs.Option.{option_eq}
-use Rattle.ast.specs.Image.{nodes, kind_at, start_at, op_at, field}
+use Rattle.ast.specs.Image.{nodes, kind_at, start_at, field}
 use Rattle.ast.specs.Kinds.{kind_of}
 use Rattle.ast.specs.Rows.{ops_from}
 use Rattle.ast.specs.Tests.{verdict}
-use Rattle.ast.specs.Is.{Is}
-use Rattle.ast.proofs.Row.{Child, FormedFields}
-use Rattle.ast.proofs.Shapes.{row as fields-of, one_more, run-list}
+use Rattle.ast.specs.Is.{Is, Run}
+use Rattle.ast.proofs.Shapes.{one_more, run-list}
 use Rattle.ast.proofs.Accepted.{sized}
 use Rattle.typed.specs.Nodes.{name_word}
 use Rattle.typed.specs.RowShapes.{Listed}
 use Rattle.typed.specs.declared.nodes.NodeList.{NodeList}
+use Rattle.typed.specs.declared.nodes.ArgDeclId.{ArgDeclId}
+use Rattle.typed.specs.declared.items.Items.{Items}
+use Rattle.typed.specs.Items.{Others}
+use Rattle.ast.specs.declared.NodeId.{NodeId}
 use Rattle.typed.proofs.Lists.{at-list}
 use Rattle.scopes.specs.Twice.{among}
 use Rattle.rows.specs.Rows.{Row, row, when}
@@ -96,75 +99,58 @@ module _ (img : List ℕ) (n near : ℕ) (ms : List Bool) where
         ∙ ap (λ (i : ℕ). marked (repeated img (suc x) ns) (set ms i true)) (sym k);
   }
 
--- the arguments of a list: what is left after i of them
-module _ (img : List ℕ) (m : ℕ) where
-  abbrev pub args_from : ℕ → List ℕ
-  args_from i = ops_from img (field img m 0 - i) (start_at img m + 3 + i)
+-- the arguments of a list that are left
+abbrev pub args_left : Items ArgDeclId → List ℕ
+args_left s = ops_from s.image.now s.left.list.count (start_at s.image.now s.left.list.node.0 + 2 + s.left.list.first)
 
-  pub no-list : (ms : List Bool) → (kind_at img m ≡ 11 → ⊥) → ms ≡ marked (repeated_in img m) ms
+args-more : {x : ℕ} {s t : Items ArgDeclId} → Others s t → x ≡ field s.image.now s.left.list.node.0 s.left.list.first → args_left s ≡ x ∷ args_left t
+unfolding ops_from field
+args-more {s = s} {t} o q =
+    let p = start_at s.image.now s.left.list.node.0 + 2 in
+    let c = t.left.list.count in
+    let next : p + s.left.list.first + 1 ≡ p + t.left.list.first = (let f = o.first in omega arith) in
+    ap (λ (c : ℕ). ops_from s.image.now c (p + s.left.list.first)) o.count
+    ∙ ap₂ ◌∷◌ (sym q)
+    (ap (ops_from s.image.now c) next ∙ ap₂ (λ (i : List ℕ) (m : NodeId). ops_from i c (start_at i m.0 + 2 + t.left.list.first)) (sym o.image) (sym o.node))
+
+pub args-none : (s : Items ArgDeclId) → s.left.list.count ≡ 0 → args_left s ≡ []
+unfolding ops_from
+args-none s e = ap (λ (c : ℕ). ops_from s.image.now c (start_at s.image.now s.left.list.node.0 + 2 + s.left.list.first)) e
+
+module _ (img : List ℕ) where
+  pub no-list : (m : ℕ) (ms : List Bool) → (kind_at img m ≡ 11 → ⊥) → ms ≡ marked (repeated_in img m) ms
   unfolding repeated_in marked
-  no-list ms h = sym (ap (λ (b : Bool). marked (elim b as (λ _. List ℕ) [ true ↦ repeated img 0 (args_of img m) | false ↦ [] ]) ms) (ne_eqb _ _ h))
+  no-list m ms h = sym (ap (λ (b : Bool). marked (elim b as (λ _. List ℕ) [ true ↦ repeated img 0 (args_of img m) | false ↦ [] ]) ms) (ne_eqb _ _ h))
 
-  pub list-start : kind_at img m ≡ 11 → (ms : List Bool) → marked (repeated_in img m) ms ≡ marked (repeated img 0 (args_from 0)) ms
+  -- the list, by the test that the node is one
+  pub arguments : {m : ℕ} {b : Bool} → verdict img ≡ 0 → m < nodes img → b ≡ eqb (kind_at img m) 11 → b ≡ true → Run img 10 m 1 (field img m 0)
+  unfolding kind_of
+  arguments {m} a l e h =
+      let is : Is img (kind_of 11) m = record { accepted = a; below = l; kind = ap kind_of (eqb-true _ _ (sym e ∙ h)) } in run-list img is refl
+
+  pub list-start : {m : ℕ} {l : NodeList} {s start : Items ArgDeclId} → start ≡ s → kind_at img m ≡ 11 → Listed img m 0 l → (s.image.now ≡ img) × (s.left.list ≡ l) → (ms : List Bool)
+      → marked (repeated_in img m) ms ≡ marked (repeated img 0 (args_left start)) ms
   unfolding repeated_in args_of
-  list-start e ms =
-      ap (λ (b : Bool). marked (elim b as (λ _. List ℕ) [ true ↦ repeated img 0 (args_of img m) | false ↦ [] ]) ms) (eq-eqb _ _ e)
-      ∙ ap₂ (λ (c p : ℕ). marked (repeated img 0 (ops_from img c p)) ms) (sym (sub-zero (field img m 0))) (sym (add-zero (start_at img m + 3)))
-
-  pub args_more : (i : ℕ) → i < field img m 0 → args_from i ≡ field img m (1 + i) ∷ args_from (i + 1)
-  unfolding ops_from field
-  args_more i l =
-      let p : start_at img m + 3 + i ≡ start_at img m + 2 + (1 + i) = omega arith in
-      let q : start_at img m + 3 + i + 1 ≡ start_at img m + 3 + (i + 1) = omega arith in
-      ap (λ (c : ℕ). ops_from img c (start_at img m + 3 + i)) (one_more l)
-      ∙ ap₂ (λ (x y : ℕ). op_at img x ∷ ops_from img (field img m 0 - (i + 1)) y) p q
+  list-start {m} {l} {s} e k q h ms =
+      ap (λ (b : Bool). marked (elim b as (λ _. List ℕ) [ true ↦ repeated img 0 (args_of img m) | false ↦ [] ]) ms) (eq-eqb _ _ k)
+      ∙ ap (λ (ns : List ℕ). marked (repeated img 0 ns) ms)
+      (at-list img (λ (n f c : ℕ). ops_from img (field img m 0) (start_at img m + 3) ≡ ops_from img c (start_at img n + 2 + f)) q (ap (ops_from img (field img m 0)) (let z : start_at img m + 3 ≡ start_at img m + 2 + 1 = omega arith in z))
+      ∙ ap₂ (λ (i : List ℕ) (l : NodeList). ops_from i l.count (start_at i l.node.0 + 2 + l.first)) (sym h.0) (sym h.1)
+      ∙ ap args_left (sym e))
 
   -- one argument more
-  pub list-next : {c near r i : ℕ} {whole ms vs : List Bool} → whole ≡ marked (repeated img near (args_from i)) ms → i < field img m 0 → c ≡ field img m (1 + i)
-      → MarkedOne img c near ms r vs → whole ≡ marked (repeated img r (args_from (i + 1))) vs
-  list-next {near = near} {i = i} {ms = ms} e l q h =
-      e ∙ ap (λ (ns : List ℕ). marked (repeated img near ns) ms) (args_more i l ∙ ap (λ (x : ℕ). x ∷ args_from (i + 1)) (sym q)) ∙ h.so (args_from (i + 1))
+  pub list-next : {x near r : ℕ} {s t : Items ArgDeclId} {whole ms vs : List Bool} → whole ≡ marked (repeated img near (args_left s)) ms
+      → Others s t → x ≡ field s.image.now s.left.list.node.0 s.left.list.first → MarkedOne img x near ms r vs → whole ≡ marked (repeated img r (args_left t)) vs
+  list-next {near = near} {t = t} {ms = ms} e o q h = e ∙ ap (λ (ns : List ℕ). marked (repeated img near ns) ms) (args-more o q) ∙ h.so (args_left t)
 
-  pub args_none : (i : ℕ) → field img m 0 ≤ i → args_from i ≡ []
-  unfolding ops_from
-  args_none i h = let z : field img m 0 - i ≡ 0 = omega arith in ap (λ (c : ℕ). ops_from img c (start_at img m + 3 + i)) z
-
-  pub none-marked : (near i : ℕ) (ms : List Bool) → field img m 0 ≤ i → marked (repeated img near (args_from i)) ms ≡ ms
-  unfolding repeated marked
-  none-marked near i ms h = ap (λ (l : List ℕ). marked (repeated img near l) ms) (args_none i h)
-
-  -- an argument is a node below the list, and there are at most 2,048 nodes
-  pub arg-low : {c : ℕ} (i : ℕ) → Is img (kind_of 11) m → i < field img m 0 → c ≡ field img m (1 + i) → c < 2048
-  unfolding kind_of FormedFields
-  arg-low {c} i is l q =
-      let h : Child img m 10 c = subst (Child img m 10) (sym q) ((fields-of img is).0 i l) in
-      let b = is.below in
-      let s = (sized img is.accepted).few_nodes in
-      let k = h.below in
-      omega arith
-
--- the list as it is read
-module _ (img : List ℕ) where
-  pub record Arguments (m j c : ℕ) : Type 0 where
-    pub is : Is img (kind_of 11) m
-    pub count : c ≡ field img m 0
-    pub first : j ≡ 1
-    pub short : j + c ≤ 8192
-
-  -- by the test that the node is a list
-  pub arguments : {m : ℕ} {b : Bool} {ns : NodeList} → verdict img ≡ 0 → m < nodes img → b ≡ eqb (kind_at img m) 11 → b ≡ true → Listed img m 0 ns
-      → Arguments ns.node.0 ns.first ns.count
-  unfolding kind_of
-  arguments {m} a l e h q =
-      let is : Is img (kind_of 11) m = record { accepted = a; below = l; kind = ap kind_of (eqb-true _ _ (sym e ∙ h)) } in
-      at-list img Arguments q (record { is = is; count = refl; first = refl; short = (run-list img is refl).short })
+  -- an argument is a node, and there are at most 2,048
+  pub arg-low : {x : ℕ} → Is img (kind_of 10) x → x < 2048
+  arg-low is = let b = is.below in let s = (sized img is.accepted).few_nodes in omega arith
 
   -- all of them are marked
-  pub list_done : {m k : ℕ} {vs : List Bool} (near i : ℕ) (ms : List Bool) → k ≡ m → marked (repeated_in img k) ms ≡ marked (repeated img near (args_from img k i)) vs → field img k 0 ≤ i → vs ≡ marked (repeated_in img m) ms
-  list_done {k = k} {vs} near i ms q e h = sym (ap (λ (x : ℕ). marked (repeated_in img x) ms) (sym q) ∙ e ∙ none-marked img k near i vs h)
-
-  pub arg-read : {m j c x : ℕ} (i : ℕ) → Arguments m j c → x ≡ field img m (j + i) → x ≡ field img m (1 + i)
-  arg-read {m} i a e = e ∙ ap (λ (j : ℕ). field img m (j + i)) a.first
+  pub list_done : (s : Items ArgDeclId) {whole vs : List Bool} (near : ℕ) → whole ≡ marked (repeated img near (args_left s)) vs → args_left s ≡ [] → vs ≡ whole
+  unfolding repeated marked
+  list_done s {vs = vs} near e z = sym (e ∙ ap (λ (ns : List ℕ). marked (repeated img near ns) vs) z)
 
 pub to-next : (img : List ℕ) (m : ℕ) (ms : List Bool) → marked (repeated_in img m) (marked (repeated_to img m) ms) ≡ marked (repeated_to img (m + 1)) ms
 unfolding repeated_to
@@ -173,9 +159,6 @@ to-next img m ms = sym (marked_append (repeated_to img m) (repeated_in img m) ms
 pub to_start : (img : List ℕ) (ms : List Bool) → ms ≡ marked (repeated_to img 0) ms
 unfolding repeated_to marked
 to_start img ms = refl
-
-pub to_end : (img : List ℕ) (ms : List Bool) {vs : List Bool} (m : ℕ) {k : ℕ} → vs ≡ marked (repeated_to img m) ms → m ≡ k → vs ≡ marked (repeated_to img k) ms
-to_end img ms m e q = e ∙ ap (λ (x : ℕ). marked (repeated_to img x) ms) q
 
 -- row 4: what is left after m nodes
 module _ (img : List ℕ) where
@@ -193,12 +176,12 @@ module _ (img : List ℕ) where
       ∙ ap (λ (b : Bool). when b (row 4 m) ++ strict_left (m + 1)) (sym e)
 
   -- the same by the marks
-  pub strict-item : {ms : List Bool} {count : ℕ} {b : Bool} (m : ℕ) → Marks img ms count → m < nodes img → b ≡ get_or ms m false
+  pub strict-item : {ms : List Bool} {count : ℕ} {b : Bool} (m : ℕ) → verdict img ≡ 0 → Marks img ms count → m < nodes img → b ≡ get_or ms m false
       → strict_left m ≡ when b (row 4 m) ++ strict_left (m + 1)
-  strict-item {ms} m h l q =
+  strict-item {ms} m a h l q =
       strict_more m l
       (q ∙ ap (λ (xs : List Bool). get_or xs m false) h.all
-      ∙ mark-test (repeated_to img (nodes img)) m (let s = (sized img h.accepted).few_nodes in omega arith))
+      ∙ mark-test (repeated_to img (nodes img)) m (let s = (sized img a).few_nodes in omega arith))
 
   pub strict-end : (m : ℕ) → nodes img ≤ m → strict_left m ≡ []
   unfolding strict_from

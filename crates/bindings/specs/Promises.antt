@@ -1,9 +1,7 @@
 -- What the contracts of the checks cite.
 use Rattle.std.specs.Prelude.{◌≡◌, Bool, true, false, List, [], ◌∷◌, ◌++◌, ℕ, zero, suc, ◌+◌, ◌<◌, ◌≤◌, ◌^◌, length, set, replicate, Result, Ok, Err}
-use Rattle.std.proofs.Math.Option.{some}
-use Rattle.ast.specs.Image.{nodes, field, name_of}
+use Rattle.ast.specs.Image.{nodes, field}
 use Rattle.ast.specs.Kinds.{Kind, kind_of}
-use Rattle.ast.specs.Tests.{verdict}
 use Rattle.ast.specs.Is.{Is, Run}
 use Rattle.ast.specs.Tree.{tree_at}
 use Rattle.ast.specs.Items.{items, below}
@@ -12,11 +10,10 @@ use Rattle.typed.specs.declared.nodes.NodeList.{NodeList}
 use Rattle.error.specs.declared.Refusal.{Refusal}
 use Rattle.error.specs.declared.Refusal.TheVariants.{UnknownMode}
 use Rattle.table.specs.Table.{Table}
-use Rattle.environment.specs.Layout.{names_most, nodes_most}
-use Rattle.environment.specs.Asked.{asked}
-use Rattle.environment.specs.Reading.{table_in}
-use Rattle.rows.specs.Rows.{Row, rows_length}
-use Rattle.bindings.specs.declared.BindingsChecker.{BindingsChecker}
+use Rattle.environment.specs.Layout.{nodes_most}
+use Rattle.environment.specs.Asked.{Asks}
+use Rattle.environment.specs.declared.Scopes.{Scopes}
+use Rattle.rows.specs.Rows.{Row}
 use Rattle.bindings.specs.declared.Mode.{Mode}
 use Rattle.bindings.specs.declared.Mode.TheVariants.{Plain, Strict}
 use Rattle.bindings.specs.Errors.{is_ctor, defined_row, arg_row, rows_of, rows_seq, pattern_rows, arg_rows, decl_rows, decls_rows, plain_rows, repeated, repeated_to, strict_rows, is_strict}
@@ -31,18 +28,11 @@ mode_of (suc (suc (suc n))) = Err UnknownMode
 abbrev pub IsMode : ℕ → Result Mode Refusal → Type 0
 IsMode number r = r ≡ mode_of number
 
--- what a definition says of the image and the table that a checker reads
-abbrev pub seen : {A : Type 0} → (List ℕ → Table → A) → BindingsChecker → A
-seen f b = f b.scopes.image.now (table_in b.scopes)
-
--- what a check of the node n asks: its kind, and that the count has room for the rows l that it appends
-pub record Ready (b : BindingsChecker) (kd : Kind) (n : ℕ) (l : List Row) (count : ℕ) : Type 0 where
-  pub is : Is b.scopes.image.now kd n
+-- what a check of the node n asks: its kind, and that the count has room for the rows l that it appends. A predicate, since it is of
+-- the scopes, the node and the count together
+pub record Ready (s : Scopes) (kd : Kind) (n : ℕ) (l : List Row) (count : ℕ) : Type 0 where
+  pub is : Is s.image.now kd n
   pub fits : count + length l < 2 ^ 32
-
--- the name of the IdentTerm i is asked for at the node n
-abbrev pub Asks : List ℕ → (n i : ℕ) → Type 0
-Asks img n i = (n < nodes img) × (asked img n ≡ some (name_of img i)) × (name_of img i < names_most)
 
 -- the ThenAtom n is of case Defined, with the child d
 pub record Defines (img : List ℕ) (n d : ℕ) : Type 0 where
@@ -58,13 +48,13 @@ pub record PlainVariable (img : List ℕ) (o n : ℕ) (l : List Row) (count : �
   pub fits : count + length l < 2 ^ 32
 
 -- the same of a run of children
-pub record ReadyRun (b : BindingsChecker) (k n j c : ℕ) (l : List Row) (count : ℕ) : Type 0 where
-  pub run : Run b.scopes.image.now k n j c
+pub record ReadyRun (s : Scopes) (k n j c : ℕ) (l : List Row) (count : ℕ) : Type 0 where
+  pub run : Run s.image.now k n j c
   pub fits : count + length l < 2 ^ 32
 
 -- of the nodes of a list
-abbrev pub ReadyAll : BindingsChecker → ℕ → NodeList → List Row → ℕ → Type 0
-ReadyAll b k ns l count = ReadyRun b k ns.node.0 ns.first ns.count l count
+abbrev pub ReadyAll : Scopes → ℕ → NodeList → List Row → ℕ → Type 0
+ReadyAll s k ns l count = ReadyRun s k ns.node.0 ns.first ns.count l count
 
 module _ (img : List ℕ) (t : Table) where
   -- the rows below a node, rows 1 asked for or not
@@ -131,7 +121,6 @@ pub record MarkedOne (img : List ℕ) (n near : ℕ) (ms : List Bool) (r : ℕ) 
 
 -- all of them are marked, and the count has room for their rows
 pub record Marks (img : List ℕ) (ms : List Bool) (count : ℕ) : Type 0 where
-  pub accepted : verdict img ≡ 0
   pub all : ms ≡ marked (repeated_to img (nodes img)) (replicate nodes_most false)
   pub fits : count + length (strict_rows img) < 2 ^ 32
 
@@ -146,8 +135,3 @@ mode_rows img Strict = strict_rows img
 -- all rows
 abbrev pub all_rows : List ℕ → Table → Mode → List Row
 all_rows img t mode = plain_rows img t ++ mode_rows img mode
-
--- an accepted image, and lent rows that are long enough
-pub record Filled (img rows : List ℕ) : Type 0 where
-  pub accepted : verdict img ≡ 0
-  pub long : rows_length (nodes img) ≤ length rows

@@ -1,7 +1,7 @@
 // Position-local binding checks on rule bodies: the error rows.
 #![tactic(auto)]
 
-ghost use Rattle.std.specs.Prelude.{◌≡◌, true, false, [], ◌∷◌, ◌+◌, ◌<◌, ◌^◌, length, IfOk};
+ghost use Rattle.std.specs.Prelude.{◌≡◌, true, false, [], ◌∷◌, ◌+◌, ◌<◌, ◌≤◌, ◌^◌, length, IfOk};
 ghost use Rattle.std.proofs.Math.Option.{some};
 ghost use Rattle.ast.specs.Is.{Is};
 ghost use Rattle.ast.specs.Image as ImageSpec;
@@ -13,20 +13,19 @@ ghost use Rattle.error.specs.Kinds.{row_number};
 ghost use Rattle.error.specs.Refusals.{refusal_of};
 ghost use Rattle.table.specs.Table as TableSpec;
 ghost use Rattle.environment.specs.Layout.{nodes_most};
-ghost use Rattle.rows.specs.Rows.{row, Appends, Wrote};
+ghost use Rattle.environment.specs.Asked.{Asks};
+ghost use Rattle.environment.specs.Reading.{seen};
+ghost use Rattle.rows.specs.Rows.{row, rows_length, Appends, Wrote};
 ghost use Rattle.scopes.specs.Answers.{rowed_answer};
 ghost use Rattle.bindings.specs.Errors.{same_node, introduces, introduced_row, strict_rows, repeated_in, repeated_to, test_errors, errors};
-ghost use Rattle.bindings.specs.Promises.{Ready, ReadyAll, Asks, Defines, PlainVariable, IsMode, mode_of, seen, inside, of_stmts, of_decl, of_decls, of_defined, of_variable, of_head, of_pattern, of_case, of_args, of_arg, names_ctor, mode_rows, all_rows, marked, MarkedOne, Marks, Filled};
+ghost use Rattle.bindings.specs.Promises.{Ready, ReadyAll, Defines, PlainVariable, IsMode, mode_of, inside, of_stmts, of_decl, of_decls, of_defined, of_variable, of_head, of_pattern, of_case, of_args, of_arg, names_ctor, mode_rows, all_rows, marked, MarkedOne, Marks};
 
-use ast::NodeId;
 use ast::kind::Kind;
+use ast::{NODES, NodeId};
 use environment::{Environment, Scopes};
 use error::{ErrorKind, Refusal, Unresolved};
 use rows::Rows;
 use typed::nodes::*;
-
-// How many nodes there may be.
-const NODES: usize = 2048;
 
 // The modes of Errors.
 #[derive(Clone, Copy, Debug, PartialEq, Eq)]
@@ -50,8 +49,8 @@ impl TryFrom<u32> for Mode {
     }
 }
 
-// Errors: resolves, then writes the error rows. The mode as C hands it over. It begins as Once and Occurrences do, after tests of its
-// own: a function of what they share would hand back the words that it was lent, and is no plainer.
+// Errors: resolves, then writes the error rows. The mode as C hands it over. It begins as Once and Occurrences do: a function of
+// what the three share would lend the words on in `Scopes`, and no clause could say what is in them where a name is declared twice.
 pub fn check_bindings(
     image: &[u8],
     table: &mut [u32],
@@ -95,47 +94,45 @@ fn report(rows: &mut Rows, kind: ErrorKind, node: NodeId)
 #[derive(Drop)]
 struct BindingsChecker<'a> {
     scopes: Scopes<'a>,
+    ghost accepted: { TestsSpec.verdict scopes.image.now ≡ 0 },
 }
 
 impl<'a> BindingsChecker<'a> {
     // The error rows, with their count in front.
     fn write_rows(&self, words: &mut [u32], mode: Mode) -> u32
-        requires { Filled self.now.scopes.image.now words.old }
-        ensures { Wrote (ImageSpec.nodes self.now.scopes.image.now) (seen all_rows self.now mode) words.old result words.new }
+        requires { rows_length (ImageSpec.nodes self.now.scopes.image.now) ≤ length words.old }
+        ensures { Wrote (ImageSpec.nodes self.now.scopes.image.now) (seen all_rows self.now.scopes mode) words.old result words.new }
     {
         let n = ast::node_count(self.scopes.image);
         let mut rows = Rows::begin(words, n);
         self.walk_module(&mut rows, ModuleId(NodeId(n - 1)));
-        check_mode(self.scopes.image, &mut rows, mode);
+        self.check_mode(&mut rows, mode);
         rows.finish()
     }
 
     fn walk_module(&self, rows: &mut Rows, module: ModuleId)
-        requires { Ready self.now (kind_of module_kind) «module».0.0 (seen of_decl self.now «module».0.0) rows.old.count }
-        ensures { Appends (seen of_decl self.now «module».0.0) rows.old rows.new }
+        requires { Ready self.now.scopes (kind_of module_kind) «module».0.0 (seen of_decl self.now.scopes «module».0.0) rows.old.count }
+        ensures { Appends (seen of_decl self.now.scopes «module».0.0) rows.old rows.new }
     {
         let Module { decls } = typed::module(self.scopes.image, module);
         self.walk_decls(rows, decls);
     }
 
-    // The loops over declarations, statements, cases and terms stand apart, as in the Rust. One over a method of a trait is not covered
-    // by the check, since the method leads back to the loop; one over a closure would state of each item what its step asks and
-    // appends, which is no plainer.
+    // A loop over declarations, and one over statements, is a function, since several call it; the Rust has the loop in each.
     #[cycle(decls)]
     fn walk_decls(&self, rows: &mut Rows, decls: Ids<DeclId>)
-        requires { ReadyAll self.now decl_kind decls.list (seen of_decls self.now decls.list) rows.old.count }
-        ensures { Appends (seen of_decls self.now decls.list) rows.old rows.new }
+        requires { ReadyAll self.now.scopes decl_kind decls.list (seen of_decls self.now.scopes decls.list) rows.old.count }
+        ensures { Appends (seen of_decls self.now.scopes decls.list) rows.old rows.new }
     {
-        for i in 0..decls.list.count {
-            let decl = typed::nth(self.scopes.image, decls, i);
+        for decl in decls.of(self.scopes.image) {
             self.walk_decl(rows, decl);
         }
     }
 
     #[cycle(decls)]
     fn walk_decl(&self, rows: &mut Rows, decl: DeclId)
-        requires { Ready self.now (kind_of decl_kind) decl.0.0 (seen of_decl self.now decl.0.0) rows.old.count }
-        ensures { Appends (seen of_decl self.now decl.0.0) rows.old rows.new }
+        requires { Ready self.now.scopes (kind_of decl_kind) decl.0.0 (seen of_decl self.now.scopes decl.0.0) rows.old.count }
+        ensures { Appends (seen of_decl self.now.scopes decl.0.0) rows.old rows.new }
     {
         match typed::decl(self.scopes.image, decl) {
             Decl::Type(_) | Decl::Pred(_) | Decl::Func(_) | Decl::Const(_) | Decl::Enum(_) => {}
@@ -152,19 +149,18 @@ impl<'a> BindingsChecker<'a> {
 
     #[cycle(stmts)]
     fn walk_stmt_block(&self, rows: &mut Rows, stmts: Ids<StmtId>)
-        requires { ReadyAll self.now stmt_kind stmts.list (seen of_stmts self.now stmts.list) rows.old.count }
-        ensures { Appends (seen of_stmts self.now stmts.list) rows.old rows.new }
+        requires { ReadyAll self.now.scopes stmt_kind stmts.list (seen of_stmts self.now.scopes stmts.list) rows.old.count }
+        ensures { Appends (seen of_stmts self.now.scopes stmts.list) rows.old rows.new }
     {
-        for i in 0..stmts.list.count {
-            let stmt = typed::nth(self.scopes.image, stmts, i);
+        for stmt in stmts.of(self.scopes.image) {
             self.walk_stmt(rows, stmt);
         }
     }
 
     #[cycle(stmts)]
     fn walk_stmt(&self, rows: &mut Rows, stmt: StmtId)
-        requires { Ready self.now (kind_of stmt_kind) stmt.0.0 (seen inside self.now false stmt.0.0) rows.old.count }
-        ensures { Appends (seen inside self.now false stmt.0.0) rows.old rows.new }
+        requires { Ready self.now.scopes (kind_of stmt_kind) stmt.0.0 (seen inside self.now.scopes false stmt.0.0) rows.old.count }
+        ensures { Appends (seen inside self.now.scopes false stmt.0.0) rows.old rows.new }
     {
         match typed::stmt(self.scopes.image, stmt) {
             Stmt::If(_) => {}
@@ -179,34 +175,30 @@ impl<'a> BindingsChecker<'a> {
 
     #[cycle(stmts)]
     fn walk_branch(&self, rows: &mut Rows, id: BranchStmtId)
-        requires { Ready self.now (kind_of branch_stmt_kind) id.0.0 (seen inside self.now false id.0.0) rows.old.count }
-        ensures { Appends (seen inside self.now false id.0.0) rows.old rows.new }
+        requires { Ready self.now.scopes (kind_of branch_stmt_kind) id.0.0 (seen inside self.now.scopes false id.0.0) rows.old.count }
+        ensures { Appends (seen inside self.now.scopes false id.0.0) rows.old rows.new }
     {
         let BranchStmt { blocks } = typed::branch_stmt(self.scopes.image, id);
-        let mut place = blocks.list.first;
-        for i in 0..blocks.list.count {
-            let block = typed::block(self.scopes.image, blocks, place);
+        for block in blocks.of(self.scopes.image) {
             self.walk_stmt_block(rows, block);
-            place = block.list.first + block.list.count;
         }
     }
 
     #[cycle(stmts)]
     fn walk_match(&self, rows: &mut Rows, id: MatchStmtId)
-        requires { Ready self.now (kind_of match_stmt_kind) id.0.0 (seen inside self.now false id.0.0) rows.old.count }
-        ensures { Appends (seen inside self.now false id.0.0) rows.old rows.new }
+        requires { Ready self.now.scopes (kind_of match_stmt_kind) id.0.0 (seen inside self.now.scopes false id.0.0) rows.old.count }
+        ensures { Appends (seen inside self.now.scopes false id.0.0) rows.old rows.new }
     {
         let MatchStmt { cases, .. } = typed::match_stmt(self.scopes.image, id);
-        for i in 0..cases.list.count {
-            let case = typed::nth(self.scopes.image, cases, i);
+        for case in cases.of(self.scopes.image) {
             self.walk_match_case(rows, case);
         }
     }
 
     #[cycle(stmts)]
     fn walk_match_case(&self, rows: &mut Rows, case: MatchCaseId)
-        requires { Ready self.now (kind_of match_case_kind) case.0.0 (seen of_case self.now case.0.0) rows.old.count }
-        ensures { Appends (seen of_case self.now case.0.0) rows.old rows.new }
+        requires { Ready self.now.scopes (kind_of match_case_kind) case.0.0 (seen of_case self.now.scopes case.0.0) rows.old.count }
+        ensures { Appends (seen of_case self.now.scopes case.0.0) rows.old rows.new }
     {
         self.check_match_case_pattern(rows, case);
         let MatchCase { body, .. } = typed::match_case(self.scopes.image, case);
@@ -214,8 +206,8 @@ impl<'a> BindingsChecker<'a> {
     }
 
     fn check_then_atom(&self, rows: &mut Rows, atom: ThenAtomId)
-        requires { Ready self.now (kind_of then_atom_kind) atom.0.0 (seen inside self.now true atom.0.0) rows.old.count }
-        ensures { Appends (seen inside self.now true atom.0.0) rows.old rows.new }
+        requires { Ready self.now.scopes (kind_of then_atom_kind) atom.0.0 (seen inside self.now.scopes true atom.0.0) rows.old.count }
+        ensures { Appends (seen inside self.now.scopes true atom.0.0) rows.old rows.new }
     {
         match typed::then_atom(self.scopes.image, atom) {
             ThenAtom::Equal(id) => {
@@ -233,8 +225,8 @@ impl<'a> BindingsChecker<'a> {
     }
 
     fn check_then_defined(&self, rows: &mut Rows, atom: ThenAtomId, id: DefinedThenAtomId)
-        requires { Ready self.now (kind_of defined_then_atom_kind) id.0.0 (seen of_defined self.now atom.0.0 id.0.0) rows.old.count × Defines self.now.scopes.image.now atom.0.0 id.0.0 }
-        ensures { Appends (seen of_defined self.now atom.0.0 id.0.0) rows.old rows.new }
+        requires { Ready self.now.scopes (kind_of defined_then_atom_kind) id.0.0 (seen of_defined self.now.scopes atom.0.0 id.0.0) rows.old.count × Defines self.now.scopes.image.now atom.0.0 id.0.0 }
+        ensures { Appends (seen of_defined self.now.scopes atom.0.0 id.0.0) rows.old rows.new }
     {
         let DefinedThenAtom { var, term } = typed::defined_then_atom(self.scopes.image, id);
         if let Some(var) = var {
@@ -247,8 +239,8 @@ impl<'a> BindingsChecker<'a> {
     // error unless it was bound earlier.
     #[cycle(epic)]
     fn check_epic_term(&self, rows: &mut Rows, term: TermId)
-        requires { Ready self.now (kind_of term_kind) term.0.0 (seen inside self.now true term.0.0) rows.old.count }
-        ensures { Appends (seen inside self.now true term.0.0) rows.old rows.new }
+        requires { Ready self.now.scopes (kind_of term_kind) term.0.0 (seen inside self.now.scopes true term.0.0) rows.old.count }
+        ensures { Appends (seen inside self.now.scopes true term.0.0) rows.old rows.new }
     {
         match typed::term(self.scopes.image, term) {
             Term::Ident(id) => self.check_epic_ident(rows, term, id),
@@ -277,8 +269,8 @@ impl<'a> BindingsChecker<'a> {
 
     // Row 1, at an ident term that introduces its name.
     fn check_epic_ident(&self, rows: &mut Rows, term: TermId, id: IdentTermId)
-        requires { (rows.old.count + length (seen introduced_row self.now true term.0.0 id.0.0) < 2 ^ 32) × Asks self.now.scopes.image.now term.0.0 id.0.0 }
-        ensures { Appends (seen introduced_row self.now true term.0.0 id.0.0) rows.old rows.new }
+        requires { (rows.old.count + length (seen introduced_row self.now.scopes true term.0.0 id.0.0) < 2 ^ 32) × Asks self.now.scopes.image.now term.0.0 id.0.0 }
+        ensures { Appends (seen introduced_row self.now.scopes true term.0.0 id.0.0) rows.old rows.new }
     {
         if self.is_introduced(term, id) {
             report(rows, ErrorKind::VariableIntroducedInThenStmt, term.0);
@@ -288,7 +280,7 @@ impl<'a> BindingsChecker<'a> {
     // The ident term introduces its name.
     fn is_introduced(&self, term: TermId, id: IdentTermId) -> bool
         requires { Asks self.now.scopes.image.now term.0.0 id.0.0 }
-        ensures { result ≡ seen introduces self.now term.0.0 id.0.0 }
+        ensures { result ≡ seen introduces self.now.scopes term.0.0 id.0.0 }
     {
         let found = self.scopes.at_exit(term.0, id.0);
         let Some(binding) = found else {
@@ -298,14 +290,14 @@ impl<'a> BindingsChecker<'a> {
             && !self.binding_visible_before(term, id, IdentTermId(binding))
     }
 
+    // Not one with `check_pattern_args`: the loop would take as a parameter which check of a term it calls.
     #[cycle(epic)]
     fn check_epic_terms(&self, rows: &mut Rows, args: TermListId)
-        requires { Ready self.now (kind_of term_list_kind) args.0.0 (seen inside self.now true args.0.0) rows.old.count }
-        ensures { Appends (seen inside self.now true args.0.0) rows.old rows.new }
+        requires { Ready self.now.scopes (kind_of term_list_kind) args.0.0 (seen inside self.now.scopes true args.0.0) rows.old.count }
+        ensures { Appends (seen inside self.now.scopes true args.0.0) rows.old rows.new }
     {
         let TermList { terms } = typed::term_list(self.scopes.image, args);
-        for i in 0..terms.list.count {
-            let arg = typed::nth(self.scopes.image, terms, i);
+        for arg in terms.of(self.scopes.image) {
             self.check_epic_term(rows, arg);
         }
     }
@@ -313,8 +305,8 @@ impl<'a> BindingsChecker<'a> {
     // An app head that is an ident has the same scope at its entry and its exit, so it introduces nothing and gets no row.
     #[cycle(epic)]
     fn check_epic_app_head(&self, rows: &mut Rows, head: AppHeadId)
-        requires { Ready self.now (kind_of app_head_kind) head.0.0 (seen of_head self.now head.0.0) rows.old.count }
-        ensures { Appends (seen of_head self.now head.0.0) rows.old rows.new }
+        requires { Ready self.now.scopes (kind_of app_head_kind) head.0.0 (seen of_head self.now.scopes head.0.0) rows.old.count }
+        ensures { Appends (seen of_head self.now.scopes head.0.0) rows.old rows.new }
     {
         match typed::app_head(self.scopes.image, head) {
             AppHead::Ident(_) => {}
@@ -328,15 +320,15 @@ impl<'a> BindingsChecker<'a> {
 
     fn binding_visible_before(&self, term: TermId, id: IdentTermId, binding: IdentTermId) -> bool
         requires { Asks self.now.scopes.image.now term.0.0 id.0.0 }
-        ensures { result ≡ same_node (some binding.0.0) (seen TableSpec.at_entry self.now term.0.0 id.0.0) }
+        ensures { result ≡ same_node (some binding.0.0) (seen TableSpec.at_entry self.now.scopes term.0.0 id.0.0) }
     {
         self.scopes.at_entry(term.0, id.0) == Some(binding.0)
     }
 
     // The variable of a defined-then. A wildcard is fine; an identifier must not be in scope before the term is resolved.
     fn check_then_defined_var(&self, rows: &mut Rows, atom: ThenAtomId, var: TermId)
-        requires { PlainVariable self.now.scopes.image.now atom.0.0 var.0.0 (seen of_variable self.now atom.0.0 var.0.0) rows.old.count }
-        ensures { Appends (seen of_variable self.now atom.0.0 var.0.0) rows.old rows.new }
+        requires { PlainVariable self.now.scopes.image.now atom.0.0 var.0.0 (seen of_variable self.now.scopes atom.0.0 var.0.0) rows.old.count }
+        ensures { Appends (seen of_variable self.now.scopes atom.0.0 var.0.0) rows.old rows.new }
     {
         // An image with a variable of another case than Ident and Wildcard is refused.
         let Term::Ident(id) = typed::term(self.scopes.image, var) else {
@@ -351,8 +343,8 @@ impl<'a> BindingsChecker<'a> {
     // Variables that are arguments of a constructor in a pattern must be fresh. A pattern whose head names no constructor is
     // an ordinary term.
     fn check_match_case_pattern(&self, rows: &mut Rows, case: MatchCaseId)
-        requires { Ready self.now (kind_of match_case_kind) case.0.0 (seen of_pattern self.now case.0.0) rows.old.count }
-        ensures { Appends (seen of_pattern self.now case.0.0) rows.old rows.new }
+        requires { Ready self.now.scopes (kind_of match_case_kind) case.0.0 (seen of_pattern self.now.scopes case.0.0) rows.old.count }
+        ensures { Appends (seen of_pattern self.now.scopes case.0.0) rows.old rows.new }
     {
         let MatchCase { pattern, .. } = typed::match_case(self.scopes.image, case);
         let Term::App(app) = typed::term(self.scopes.image, pattern) else {
@@ -367,24 +359,23 @@ impl<'a> BindingsChecker<'a> {
     // The head of a pattern is an ident that names a constructor.
     fn is_ctor_head(&self, head: AppHeadId) -> bool
         requires { Is self.now.scopes.image.now (kind_of app_head_kind) head.0.0 }
-        ensures { result ≡ seen names_ctor self.now head.0.0 }
+        ensures { result ≡ seen names_ctor self.now.scopes head.0.0 }
     {
         match typed::app_head(self.scopes.image, head) {
             AppHead::Ident(id) => {
                 let found = self.scopes.at_exit(head.0, id.0);
-                table::is_kind(self.scopes.image, found, Kind::CtorDecl.number())
+                table::is_kind(self.scopes.image, found, u32::from(Kind::CtorDecl))
             }
             AppHead::Member(_) | AppHead::Term(_) => false,
         }
     }
 
     fn check_pattern_args(&self, rows: &mut Rows, args: TermListId)
-        requires { Ready self.now (kind_of term_list_kind) args.0.0 (seen of_args self.now args.0.0) rows.old.count }
-        ensures { Appends (seen of_args self.now args.0.0) rows.old rows.new }
+        requires { Ready self.now.scopes (kind_of term_list_kind) args.0.0 (seen of_args self.now.scopes args.0.0) rows.old.count }
+        ensures { Appends (seen of_args self.now.scopes args.0.0) rows.old rows.new }
     {
         let TermList { terms } = typed::term_list(self.scopes.image, args);
-        for i in 0..terms.list.count {
-            let arg = typed::nth(self.scopes.image, terms, i);
+        for arg in terms.of(self.scopes.image) {
             self.check_pattern_arg(rows, arg);
         }
     }
@@ -392,8 +383,8 @@ impl<'a> BindingsChecker<'a> {
     // Row 3, at an ident argument that is a Var at its own entry. (The Rust asks for a Var at the exit first: what is one at
     // the entry is one at the exit.)
     fn check_pattern_arg(&self, rows: &mut Rows, arg: TermId)
-        requires { Ready self.now (kind_of term_kind) arg.0.0 (seen of_arg self.now arg.0.0) rows.old.count }
-        ensures { Appends (seen of_arg self.now arg.0.0) rows.old rows.new }
+        requires { Ready self.now.scopes (kind_of term_kind) arg.0.0 (seen of_arg self.now.scopes arg.0.0) rows.old.count }
+        ensures { Appends (seen of_arg self.now.scopes arg.0.0) rows.old rows.new }
     {
         let Term::Ident(id) = typed::term(self.scopes.image, arg) else {
             return;
@@ -403,85 +394,81 @@ impl<'a> BindingsChecker<'a> {
             report(rows, ErrorKind::MatchPatternArgVarIsNotFresh, arg.0);
         }
     }
-}
 
-// The rows that the mode adds.
-fn check_mode(image: &[u8], rows: &mut Rows, mode: Mode)
-    requires { (TestsSpec.verdict image.now ≡ 0) × (rows.old.count + length (strict_rows image.now) < 2 ^ 32) }
-    ensures { Appends (mode_rows image.now mode) rows.old rows.new }
-{
-    match mode {
-        Mode::Plain => {}
-        Mode::Strict => check_strict(image, rows),
+    // The rows that the mode adds.
+    fn check_mode(&self, rows: &mut Rows, mode: Mode)
+        requires { rows.old.count + length (strict_rows self.now.scopes.image.now) < 2 ^ 32 }
+        ensures { Appends (mode_rows self.now.scopes.image.now mode) rows.old rows.new }
+    {
+        match mode {
+            Mode::Plain => {}
+            Mode::Strict => self.check_strict(rows),
+        }
     }
-}
 
-fn check_strict(image: &[u8], rows: &mut Rows)
-    requires { (TestsSpec.verdict image.now ≡ 0) × (rows.old.count + length (strict_rows image.now) < 2 ^ 32) }
-    ensures { Appends (strict_rows image.now) rows.old rows.new }
-{
-    // fixed memory, since there is no heap
-    let mut marks = [false; NODES];
-    mark_lists(image, &mut marks);
-    put_marked(image, &marks, rows);
-}
-
-// The image stands beside the marks: in one struct each step would owe that it is the same. That it is accepted is asked of each: a
-// struct that says so would be made in check_strict alone, and opened at once.
-fn mark_lists(image: &[u8], marks: &mut [bool; NODES])
-    requires { TestsSpec.verdict image.now ≡ 0 }
-    ensures { marks.new ≡ marked (repeated_to image.now (ImageSpec.nodes image.now)) marks.old }
-{
-    for m in 0..ast::node_count(image) {
-        mark_list(image, marks, NodeId(m));
+    fn check_strict(&self, rows: &mut Rows)
+        requires { rows.old.count + length (strict_rows self.now.scopes.image.now) < 2 ^ 32 }
+        ensures { Appends (strict_rows self.now.scopes.image.now) rows.old rows.new }
+    {
+        // fixed memory, since there is no heap
+        let mut marks = [false; NODES];
+        self.mark_lists(&mut marks);
+        self.put_marked(&marks, rows);
     }
-}
 
-// The arguments of a list, if the node is one.
-fn mark_list(image: &[u8], marks: &mut [bool; NODES], node: NodeId)
-    requires { (TestsSpec.verdict image.now ≡ 0) × (node.0 < ImageSpec.nodes image.now) }
-    ensures { marks.new ≡ marked (repeated_in image.now node.0) marks.old }
-{
-    if !ast::is_kind(image, node, Kind::ArgDeclList) {
-        return;
+    fn mark_lists(&self, marks: &mut [bool; NODES])
+        ensures { marks.new ≡ marked (repeated_to self.now.scopes.image.now (ImageSpec.nodes self.now.scopes.image.now)) marks.old }
+    {
+        for m in 0..ast::node_count(self.scopes.image) {
+            self.mark_list(marks, NodeId(m));
+        }
     }
-    let ArgDeclList { args } = typed::arg_decl_list(image, ArgDeclListId(node));
-    let mut near = None;
-    for i in 0..args.list.count {
-        let arg = typed::nth(image, args, i);
-        near = mark_argument(image, marks, arg, near);
-    }
-}
 
-// An argument is marked where its name is that of the nearest earlier named one, `near`. What is `near` for the next one
-// is handed back.
-fn mark_argument(
-    image: &[u8],
-    marks: &mut [bool; NODES],
-    arg: ArgDeclId,
-    near: Option<u32>,
-) -> Option<u32>
-    requires { arg.0.0 < nodes_most }
-    ensures { MarkedOne image.now arg.0.0 (name_word near) marks.old (name_word result) marks.new }
-{
-    let ArgDecl { name, .. } = typed::arg_decl(image, arg);
-    let Some(number) = name else {
-        return near;
-    };
-    if near == Some(number) {
-        marks[arg.0.0 as usize] = true;
+    // The arguments of a list, if the node is one.
+    fn mark_list(&self, marks: &mut [bool; NODES], node: NodeId)
+        requires { node.0 < ImageSpec.nodes self.now.scopes.image.now }
+        ensures { marks.new ≡ marked (repeated_in self.now.scopes.image.now node.0) marks.old }
+    {
+        if !ast::is_kind(self.scopes.image, node, Kind::ArgDeclList) {
+            return;
+        }
+        let ArgDeclList { args } = typed::arg_decl_list(self.scopes.image, ArgDeclListId(node));
+        let mut near = None;
+        for arg in args.of(self.scopes.image) {
+            near = self.mark_argument(marks, arg, near);
+        }
     }
-    name
-}
 
-// Row 4 at each marked node, by rising node number.
-fn put_marked(image: &[u8], marks: &[bool; NODES], rows: &mut Rows)
-    requires { Marks image.now marks.now rows.old.count }
-    ensures { Appends (strict_rows image.now) rows.old rows.new }
-{
-    for m in 0..ast::node_count(image) {
-        if marks[m as usize] {
-            report(rows, ErrorKind::RepeatedArgument, NodeId(m));
+    // An argument is marked where its name is that of the nearest earlier named one, `near`. What is `near` for the next one
+    // is handed back.
+    fn mark_argument(
+        &self,
+        marks: &mut [bool; NODES],
+        arg: ArgDeclId,
+        near: Option<u32>,
+    ) -> Option<u32>
+        requires { arg.0.0 < nodes_most }
+        ensures { MarkedOne self.now.scopes.image.now arg.0.0 (name_word near) marks.old (name_word result) marks.new }
+    {
+        let ArgDecl { name, .. } = typed::arg_decl(self.scopes.image, arg);
+        let Some(number) = name else {
+            return near;
+        };
+        if near == Some(number) {
+            marks[arg.0.0 as usize] = true;
+        }
+        name
+    }
+
+    // Row 4 at each marked node, by rising node number.
+    fn put_marked(&self, marks: &[bool; NODES], rows: &mut Rows)
+        requires { Marks self.now.scopes.image.now marks.now rows.old.count }
+        ensures { Appends (strict_rows self.now.scopes.image.now) rows.old rows.new }
+    {
+        for m in 0..ast::node_count(self.scopes.image) {
+            if marks[m as usize] {
+                report(rows, ErrorKind::RepeatedArgument, NodeId(m));
+            }
         }
     }
 }

@@ -1,5 +1,7 @@
 -- Lookup by a name's bytes meets lookup by its number: the number of a name's own bytes is the name, and so Lookup, on the table that
 -- Occurrences leaves, gives each listed binding.
+use Rattle.scopes.proofs.Namings.{symbol-below}
+use Rattle.names.proofs.Names.{same_true}
 use mathlib.Core.Path.{◌≡◌, refl, sym, ap, subst, ◌∙◌}
 use mathlib.Core.Bool.{Bool, true, false, ◌&&◌}
 use mathlib.Core.List.{List, [], ◌∷◌}
@@ -49,17 +51,6 @@ unfolding same
 same_self [] = refl
 same_self (x ∷ xs) = ap (λ (b : Bool). elim b [ true ↦ same xs xs | false ↦ false ]) (eq-eqb x x refl) ∙ same_self xs
 
-same-equal : (xs ys : List ℕ) → same xs ys ≡ true → xs ≡ ys
-unfolding same
-same-equal [] [] e = refl
-same-equal [] (y ∷ ys) e = absurd (let z : ◌≡◌ {A = Bool} false true = e in let w : ◌≡◌ {A = ℕ} 0 1 = cc in omega arith)
-same-equal (x ∷ xs) [] e = absurd (let z : ◌≡◌ {A = Bool} false true = e in let w : ◌≡◌ {A = ℕ} 0 1 = cc in omega arith)
-same-equal (x ∷ xs) (y ∷ ys) e = go (eqb x y) refl (same-equal xs ys) e
-  where
-    go : (b : Bool) → eqb x y ≡ b → (same xs ys ≡ true → xs ≡ ys) → elim b [ true ↦ same xs ys | false ↦ false ] ≡ true → x ∷ xs ≡ y ∷ ys
-    go true p f q = let h = eqb-true x y p in let t = f q in cc
-    go false p f q = absurd (let w : ◌≡◌ {A = ℕ} 0 1 = cc in omega arith)
-
 module _ (img : List ℕ) (accepted : verdict img ≡ 0) where
   from-own : (x : ℕ) → x < names img → (c i : ℕ) → i ≤ x → x < i + c → number_from img c i (name_bytes img x) ≡ some x
   unfolding number_from
@@ -71,7 +62,7 @@ module _ (img : List ℕ) (accepted : verdict img ≡ 0) where
 
       other : (b : Bool) → same (name_bytes img i) (name_bytes img x) ≡ b → (i ≡ x → ⊥) → More
           → elim b [ true ↦ some i | false ↦ number_from img c (i + 1) (name_bytes img x) ] ≡ some x
-      other true p n f = absurd (names-differ img accepted i x (omega arith) l n (same-equal (name_bytes img i) (name_bytes img x) p))
+      other true p n f = absurd (names-differ img accepted i x (omega arith) l n (same_true (name_bytes img i) (name_bytes img x) p))
       other false p n f = f (omega arith) (omega arith)
 
       go : Dec (i ≡ x) → More → elim (same (name_bytes img i) (name_bytes img x)) [ true ↦ some i | false ↦ number_from img c (i + 1) (name_bytes img x) ] ≡ some x
@@ -84,15 +75,6 @@ module _ (img : List ℕ) (accepted : verdict img ≡ 0) where
   pub number-own : (x : ℕ) → x < names img → number_of img (name_bytes img x) ≡ some x
   unfolding number_of
   number-own x l = from-own x l (names img) 0 (omega arith) (let z = zero-add (names img) in omega arith)
-
--- a symbol is a node
-symbol-node : (img : List ℕ) (n : ℕ) → is_symbol img n ≡ true → n < nodes img
-unfolding is_symbol
-symbol-node img n e = go (ltb n (nodes img)) _ refl e
-  where
-    go : (b c : Bool) → ltb n (nodes img) ≡ b → b && c ≡ true → n < nodes img
-    go true c p q = ltb-true n (nodes img) p
-    go false c p q = absurd (let w : ◌≡◌ {A = ℕ} 0 1 = cc in omega arith)
 
 -- Lookup, where it refuses nothing, of a name by its own bytes ---------------------------------------------------------------
 lookup-own : (img tab : List ℕ) (s x b : ℕ) → verdict img ≡ 0 → test_lookup img tab s ≡ 0 → x < names img → lookup img (table_in img tab) s x ≡ some b
@@ -148,7 +130,7 @@ module _ (img tab rows : List ℕ) where
         let d = walked-ended img tab passed ended.0 ended.1 in
         let t = left-table img tab passed ended.1 in
         let g = f.within in
-        symbol-node img w.right
+        symbol-below img w.right
         (ap (is_symbol img) (sym f.node ∙ ap (λ (vs : List ℕ). node_at (nodes img) vs f.row) table_is ∙ headed-word img ended.0.table (node_place (nodes img) f.row) (omega arith))
         ∙ d.good.symbols f.row (subst (λ (y : ℕ). f.row < y) (ap (λ (vs : List ℕ). (table_in img vs).symbols) table_is ∙ ap (λ (u : Table). u.symbols) t) g))
 

@@ -1,5 +1,5 @@
 -- A scope left: row by row its names stand again for what they do in its parent. And back up a path of such scopes.
-use mathlib.Core.Path.{◌≡◌, refl, sym, ap, ap₂, ◌∙◌, subst}
+use mathlib.Core.Path.{◌≡◌, refl, ap, ◌∙◌, subst}
 use mathlib.Core.Logic.{◌≢◌}
 use mathlib.Core.Bool.{Bool, true, false}
 use mathlib.Core.List.{List}
@@ -16,10 +16,8 @@ use Rattle.table.specs.Table.{Table, row_is, find_from, find, lookup}
 use Rattle.table.proofs.Frame.{lookup-child}
 use Rattle.environment.specs.Layout.{names_most, standing}
 use Rattle.environment.specs.Stands.{Tells, Says, Stands, above, First, Path, here, up}
-use Rattle.environment.specs.Builder.{Keeps, table_of, walked_of}
+use Rattle.environment.specs.Builder.{Keeps, table_of}
 use Rattle.environment.specs.declared.ScopeBuilder.{ScopeBuilder}
-use Rattle.table.specs.declared.ScopeId.{ScopeId}
-use Rattle.environment.proofs.Steps.{keeps_same}
 
 module _ (img : List ℕ) where
   -- no row of the scope with the name
@@ -53,10 +51,6 @@ module _ (img : List ℕ) where
     pub first_is : First img t s first
     pub from : first ≤ row
     pub words : (x : ℕ) → x < names_most → Word t s first row env x
-
-  pub leaving-start : {e : Walked} {env : List ℕ} (first : ℕ) → Stands img e env → First img e.table e.scope first → Leaving e.table e.scope first env first
-  leaving-start first h f =
-      record { says = h.says; live = h.live; first_is = f; from = (omega arith); words = λ x l. still (h.here x l) (λ j a b. absurd (omega arith)) }
 
   -- no row more of the scope
   module _ {e : Walked} {first : ℕ} {env : List ℕ} {row : ℕ} (h : Leaving e.table e.scope first env row)
@@ -99,9 +93,6 @@ module _ (img : List ℕ) where
     pub same : table_of new ≡ table_of old
     pub keeps : Keeps old new
 
-  pub leaves-start : (b : ScopeBuilder) (s : ScopeId) (first : ℕ) → Stands img (walked_of b s) b.env.now → First img (table_of b) s.0 first → Leaves b b s.0 first first
-  leaves-start b s first h f = record { rows = leaving-start first h f; same = refl; keeps = keeps_same b }
-
   pub leaves-done : {old new : ScopeBuilder} {s first row : ℕ} → Leaves old new s first row
       → (row < old.symbols → scope_of (nodes img) new.table.now row ≡ s → ⊥) → Stands img (above img (record { scope = s; table = table_of old })) new.env.now
   leaves-done {old} {new} {s} h done =
@@ -109,7 +100,7 @@ module _ (img : List ℕ) where
       subst (λ (t : Table). Stands img (above img (record { scope = s; table = t })) new.env.now) h.same
       (leaving-done {e = record { scope = s; table = table_of new }} h.rows (λ l r. done (omega arith) r))
 
-  -- the first step of a path, and where a path ends
+  -- the first step of a path
   pub record Step (t : Table) (to s : ℕ) : Type 0 where
     pub within : s ≤ t.scopes
     pub rows : t.scopes - s ≤ t.symbols
@@ -120,10 +111,6 @@ module _ (img : List ℕ) where
   step here l = absurd (omega arith)
   step (up a b c f p) l = record { within = b; rows = c; first = f; rest = p }
 
-  ends : {t : Table} {to s : ℕ} → Path img t to s → s ≤ to → s ≡ to
-  ends here l = refl
-  ends (up a b c f p) l = absurd (omega arith)
-
   -- back up a path, in the same table
   pub record Going (t : Table) (to : ℕ) (e : Walked) (env : List ℕ) : Type 0 where
     pub table : e.table ≡ t
@@ -132,17 +119,3 @@ module _ (img : List ℕ) where
 
   pub going_step : {t : Table} {to : ℕ} {e : Walked} {env : List ℕ} → Going t to e env → to < e.scope → Step e.table to e.scope
   going_step h l = step h.path l
-
-  pub going-up : {t : Table} {to : ℕ} {e g : Walked} {env out : List ℕ} → Going t to e env → to < e.scope → g ≡ above img e → Stands img (above img e) out → Going t to g out
-  going-up {t} {to} {e} {g} {env} {out} h l q s =
-      subst (λ w. Going t to w out) (sym q) (record { table = h.table; stands = s; path = (step h.path l).rest })
-
-  pub going_less : {t : Table} {to : ℕ} {e g : Walked} {env : List ℕ} → Going t to e env → to < e.scope → g ≡ above img e → g.scope < e.scope
-  going_less {e = e} h l q = subst (λ (w : Walked). w.scope < e.scope) (sym q) (step h.path l).first.lower
-
-  pub going_end : {t : Table} {to : ℕ} {e : Walked} {env : List ℕ} → Going t to e env → e.scope ≤ to → e ≡ record { scope = to; table = t }
-  going_end h l = ap₂ (λ (s : ℕ) (u : Table). record { scope = s; table = u }) (ends h.path l) h.table
-
-  -- the walk in the parent of its scope, in the same table
-  pub outside-is : (e : Walked) {p : ℕ} {u : Table} → p ≡ parent_at (nodes img) e.table.words e.scope → u ≡ e.table → record { scope = p; table = u } ≡ above img e
-  outside-is e p q = ap₂ (λ (s : ℕ) (t : Table). record { scope = s; table = t }) p q

@@ -1,6 +1,5 @@
 pub mod Parts
 pub mod Steps
-pub mod Words
 pub mod Asking
 pub mod Laws
 pub mod Leaving

@@ -53,7 +53,7 @@ module _ (img : List ℕ) (m s : ℕ) (t u : Table) where
 
 -- the words that a builder was lent stay lent
 pub keeps_same : (b : ScopeBuilder) → Keeps b b
-keeps_same b = record { table = refl; env = refl; long = refl }
+keeps_same b = record { image = refl; table = refl; env = refl; long = refl }
 
 pub keeps-then : {a b c : ScopeBuilder} → Keeps a b → Keeps b c → Keeps a c
-keeps-then p q = record { table = q.table ∙ p.table; env = q.env ∙ p.env; long = q.long ∙ p.long }
+keeps-then p q = record { image = q.image ∙ p.image; table = q.table ∙ p.table; env = q.env ∙ p.env; long = q.long ∙ p.long }

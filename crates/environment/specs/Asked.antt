@@ -1,10 +1,11 @@
 -- The name that the checks ask for at a node.
 use Rattle.std.proofs.Math.Bool.{true, false}
-use Rattle.std.specs.Prelude.{List, eqb}
+use Rattle.std.specs.Prelude.{◌≡◌, ◌<◌, List, eqb}
 use Rattle.std.proofs.Math.Option.{Option, none, some}
 use Prim.Native.Nat.{ℕ, zero, suc}
-use Rattle.ast.specs.Image.{kind_at, field, name_of}
+use Rattle.ast.specs.Image.{nodes, kind_at, field, name_of}
 use Rattle.ast.specs.Named.{term_kind, app_head_kind, then_atom_kind}
+use Rattle.environment.specs.Layout.{names_most}
 
 module _ (img : List ℕ) where
   -- of a Term or an AppHead of case Ident: its ident's
@@ -33,3 +34,10 @@ module _ (img : List ℕ) where
               | false ↦ elim (eqb (kind_at img n) then_atom_kind) [ true ↦ defined_name n | false ↦ none ]
             ]
       ]
+
+  -- the name of the IdentTerm i is asked for at the node n, and is a name of the image: a predicate, since it is of the image and both
+  -- nodes
+  pub record Asks (n i : ℕ) : Type 0 where
+    pub low : n < nodes img
+    pub is : asked n ≡ some (name_of img i)
+    pub below : name_of img i < names_most

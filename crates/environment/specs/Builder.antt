@@ -1,4 +1,4 @@
--- What a walk fills, as the definitions see it, and what the checks read.
+-- What a walk fills, as the definitions see it.
 use Rattle.std.specs.Prelude.{◌≡◌, length}
 use Rattle.table.specs.State.{Walked}
 use Rattle.table.specs.Table.{Table}
@@ -13,8 +13,9 @@ table_of b = record { words = b.table.now; scopes = b.scopes; symbols = b.symbol
 abbrev pub walked_of : ScopeBuilder → ScopeId → Walked
 walked_of b s = record { scope = s.0; table = table_of b }
 
--- the words that a builder was lent are lent to it still, and as many
+-- the image that a builder was lent, and the words, are lent to it still, and as many
 pub record Keeps (old new : ScopeBuilder) : Type 0 where
+  pub image : new.image.now ≡ old.image.now
   pub table : new.table.ghost_name ≡ old.table.ghost_name
   pub env : new.env.ghost_name ≡ old.env.ghost_name
   pub long : length new.table.now ≡ length old.table.now

@@ -1,5 +1,5 @@
 -- The environment's words: by name what it stands for here, by symbol row what the row hides, by node what was noted there.
-use Rattle.std.specs.Prelude.{List, ℕ, ◌+◌, get_or, set}
+use Rattle.std.specs.Prelude.{List, Option, Some, None, ℕ, ◌+◌, get_or, set}
 
 -- how many names and how many nodes there may be
 abbrev pub names_most : ℕ
@@ -20,6 +20,11 @@ exit_note n = 5120 + n
 -- how many words an environment has
 abbrev pub environment_length : ℕ
 environment_length = 7168
+
+-- the word of a symbol row that a name stands for, and of none
+abbrev pub standing_of : Option ℕ → ℕ
+standing_of (Some j) = j + 1
+standing_of None = 0
 
 -- the word of a name
 abbrev pub standing : List ℕ → ℕ → ℕ

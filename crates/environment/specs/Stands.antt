@@ -47,7 +47,7 @@ module _ (img : List ℕ) where
   abbrev pub At : Table → ℕ → List ℕ → Type 0
   At t s env = (x : ℕ) → x < names_most → Tells t (standing env x) (lookup img t s x)
 
-  -- what a walk keeps of its environment
+  -- what a walk keeps of its environment: a predicate and no invariant, since it fails between a store in the table and its store here
   pub record Stands (e : Walked) (env : List ℕ) : Type 0 where
     pub says : Says e.table env
     pub live : e.scope < e.table.scopes

@@ -1,15 +1,14 @@
 // What the checks ask of a resolved image. Apart from the struct, whose ghost field may not lead to its own definitions.
 ghost use Rattle.std.specs.Prelude.{◌≡◌, ◌<◌};
-ghost use Rattle.std.proofs.Math.Option.{some};
 ghost use Rattle.ast.specs.Image as ImageSpec;
 ghost use Rattle.table.specs.Table as TableSpec;
 ghost use Rattle.table.specs.Values.{option_of};
 ghost use Rattle.environment.specs.Layout.{names_most, standing};
-ghost use Rattle.environment.specs.Asked.{asked};
+ghost use Rattle.environment.specs.Asked.{Asks};
 ghost use Rattle.environment.specs.Reading.{table_in};
 ghost use Rattle.environment.specs.Stands.{told};
 
-use crate::{Scopes, found};
+use crate::{Scopes, Standing, found};
 use ast::NodeId;
 use table::ScopeId;
 
@@ -17,7 +16,7 @@ impl<'a> Scopes<'a> {
     // What the name of an IdentTerm is at a node's entry, and at its exit, where it is asked for there. Two methods: which end it is
     // would be a switch handed over.
     pub fn at_entry(&self, node: NodeId, ident: NodeId) -> Option<NodeId>
-        requires { (node.0 < ImageSpec.nodes self.now.image.now) × (asked self.now.image.now node.0 ≡ some (ImageSpec.name_of self.now.image.now ident.0)) × (ImageSpec.name_of self.now.image.now ident.0 < names_most) }
+        requires { Asks self.now.image.now node.0 ident.0 }
         ensures { option_of result ≡ TableSpec.at_entry self.now.image.now (table_in self.now) node.0 ident.0 }
     {
         let scope = table::entry_of(self.image, self.table, node);
@@ -25,15 +24,15 @@ impl<'a> Scopes<'a> {
     }
 
     pub fn at_exit(&self, node: NodeId, ident: NodeId) -> Option<NodeId>
-        requires { (node.0 < ImageSpec.nodes self.now.image.now) × (asked self.now.image.now node.0 ≡ some (ImageSpec.name_of self.now.image.now ident.0)) × (ImageSpec.name_of self.now.image.now ident.0 < names_most) }
+        requires { Asks self.now.image.now node.0 ident.0 }
         ensures { option_of result ≡ TableSpec.at_exit self.now.image.now (table_in self.now) node.0 ident.0 }
     {
         let scope = table::exit_of(self.image, self.table, node);
         self.found_at(scope, self.env.exit(node), ident)
     }
 
-    // The symbol that the noted word tells of; at the module's own scope, where nothing is noted, that of the name's word.
-    fn found_at(&self, scope: ScopeId, noted: u16, ident: NodeId) -> Option<NodeId>
+    // The symbol that was noted; at the module's own scope, where nothing is noted, the one that the name stands for.
+    fn found_at(&self, scope: ScopeId, noted: Standing, ident: NodeId) -> Option<NodeId>
         requires { ImageSpec.name_of self.now.image.now ident.0 < names_most }
         ensures module { (scope.0 ≡ 0) → (option_of result ≡ told self.now.image.now self.now.table.now (standing self.now.env.now (ImageSpec.name_of self.now.image.now ident.0))) }
         ensures below { (0 < scope.0) → (option_of result ≡ told self.now.image.now self.now.table.now noted) }

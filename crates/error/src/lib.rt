@@ -1,4 +1,5 @@
-// Why a call gives no result, and the five kinds of error.rs that the scope resolver and its checks give, with their row numbers.
+// Why a call gives no result, and the kinds of error: five of error.rs, which the scope resolver and its checks give, and strict mode's
+// own, with their row numbers.
 #![tactic(auto)]
 
 ghost use Rattle.std.specs.Prelude.{◌≡◌};
@@ -36,12 +37,12 @@ pub enum Refusal {
     UnknownScope,
 }
 
-impl Refusal {
-    // Its number in the table.
-    pub fn number(self) -> u32
-        ensures { result ≡ refusal_number self }
-    {
-        self as u32
+// Its number in the table.
+impl From<Refusal> for u32 {
+    ghost from_gives = { λ refusal number. number ≡ refusal_number refusal };
+
+    fn from(refusal: Refusal) -> u32 {
+        refusal as u32
     }
 }
 
@@ -76,7 +77,8 @@ impl From<SymbolDeclaredTwice> for Unresolved {
     }
 }
 
-// The kinds of error.rs, and strict mode's own.
+// The kinds of error.rs, and strict mode's own. Document 01 names them all. The code makes only those with a row number: what the other
+// two tell is handed back in types of its own, `SymbolDeclaredTwice` and `Lone` of `occurrences`.
 #[derive(Clone, Copy, Debug, PartialEq, Eq)]
 pub enum ErrorKind {
     // Resolve's "twice".

@@ -7,7 +7,7 @@ use Rattle.scopes.specs.Resolve.{Outcome}
 use Rattle.scopes.specs.Calls.{RowsOutcome}
 use Rattle.exports.specs.Packed.{packed, Leaves, LeavesRows}
 
--- what a call leaves, from the packed answer of the code's enum
+-- what a call leaves, from the packed answer of the code's result
 pub leaves : {o : Outcome} {answer : Answer} {ws : List ℕ} {r : ℕ} → o ≡ record { answer = answer; table = ws } → Fits o.answer → r ≡ packed answer → Leaves o r ws
 leaves e f p =
     record {

@@ -31,10 +31,10 @@ fn pack(tag: u64, a: u32, b: u32, c: u32) -> u64
 fn pack_refused(refusal: Refusal) -> u64
     ensures { result ≡ packed (refused (refusal_number refusal)) }
 {
-    pack(0, 0, 0, refusal.number())
+    pack(0, 0, 0, u32::from(refusal))
 }
 
-// A refusal, or the finding "twice".
+// A refusal, or the finding "twice". That its numbers fit is asked for: a `Result` can have no invariant.
 fn pack_unresolved(answer: Unresolved) -> u64
     requires { Fits (unresolved_answer answer) }
     ensures { result ≡ packed (unresolved_answer answer) }
@@ -62,7 +62,7 @@ fn pack_looked(answer: Result<Option<Looked>, Refusal>) -> u64
     ensures { result ≡ packed (looked_answer answer) }
 {
     match answer {
-        Ok(Some(looked)) => pack(2, 0, looked.symbol.number(), looked.node.0),
+        Ok(Some(looked)) => pack(2, 0, u32::from(looked.symbol), looked.node.0),
         Ok(None) => pack(3, 0, 0, 0),
         Err(refusal) => pack_refused(refusal),
     }

@@ -14,7 +14,7 @@ const TOO_MANY: usize = 61457;
 const MOST_REPORT_BYTES: usize = 65536;
 
 // The rule files.
-const RULES: [&str; 12] = [
+const RULES: &[&str] = &[
     // ★A: `if x = x`
     "if_equal",
     // ★Module alone
@@ -42,7 +42,7 @@ const RULES: [&str; 12] = [
 ];
 
 // The byte strings at the limits of size.
-const SIZES: [&str; 7] = [
+const SIZES: &[&str] = &[
     // four sizes alone, N = 2,048: passes 2
     "nodes_2048",
     // N = 2,049: 2
@@ -59,7 +59,8 @@ const SIZES: [&str; 7] = [
     "full",
 ];
 
-// The input's front, of at most so many bytes; a read that fails ends it.
+// The input's front, of at most so many bytes; a read that fails ends it. (Not `fs::read`, which then gives nothing of what came
+// before, where this program compares it.)
 fn read_front<R: Read>(alloc: Global, input: &mut R, most: usize) -> Result<Vec<u8>, AllocError> {
     let mut bytes = vec![in alloc; 0; most]?;
     let count = input::read_full(input, &mut bytes);
@@ -95,6 +96,6 @@ fn run<R: Files + Print + AllocGlobal>(rt: &R, names: &[&str]) -> io::Result<()>
 }
 
 fn main(rt: HostRuntime) -> io::Result<()> {
-    run(&rt, &RULES)?;
-    run(&rt, &SIZES)
+    run(&rt, RULES)?;
+    run(&rt, SIZES)
 }

@@ -1,37 +1,64 @@
--- Laws of rows as lines: one row more.
-use mathlib.Core.Path.{◌≡◌, sym, ap, ap₂, ◌∙◌}
+-- Laws of rows as lines: what is left to put, and that the whole follows from it.
+use mathlib.Core.Path.{◌≡◌, refl, sym, ap, ◌∙◌}
 use mathlib.Core.List.{List, [], ◌∷◌, ◌++◌, append-nil, append_assoc}
 use Prim.Native.Nat.{ℕ, zero, suc, ◌+◌, ◌*◌, ◌≤◌}
 use native.Mathlib.Omega.{arith}
 use lib.ListN.{length, get_or}
+use Rattle.rows.specs.declared.Written.{Written}
+use Rattle.rows.specs.declared.Pairs.{Pairs}
+use Rattle.rows.specs.Rows.{Row, read_rows, shown, pairs_left}
+use Rattle.rows.proofs.Reading.{read_length}
 use Rattle.lines.specs.declared.Printer.{Printer}
 use Rattle.lines.specs.Bytes.{numbers}
 use Rattle.lines.specs.Out.{rows_from, Wrote}
-use Rattle.lines.proofs.Puts.{wrote-next, wrote_as}
+use Rattle.lines.proofs.Puts.{wrote_none, wrote-next, wrote_as}
 
-module _ (word rows : List ℕ) (n : ℕ) where
-  -- the row as a line
-  abbrev row_line : ℕ → ℕ → List ℕ
-  row_line a b = word ++ numbers (a ∷ b ∷ [])
+module _ (word : List ℕ) where
+  -- rows as lines
+  unfoldable pub lines_of : List Row → List ℕ
+  lines_of [] = []
+  lines_of (w ∷ l) = (word ++ numbers (w.left ∷ w.right ∷ [])) ++ lines_of l
 
-  rows_more : (c i : ℕ) → rows_from word rows n c i ++ row_line (get_or rows (1 + (c + i)) 0) (get_or rows (1 + n + (c + i)) 0) ≡ rows_from word rows n (c + 1) i
-  unfolding rows_from
-  rows_more zero i =
-      let e : 0 + i ≡ i = omega arith in
-      ap (λ (j : ℕ). row_line (get_or rows (1 + j) 0) (get_or rows (1 + n + j) 0)) e ∙ sym (append-nil (row_line (get_or rows (1 + i) 0) (get_or rows (1 + n + i) 0)))
-  rows_more (suc c) i =
-      let e : suc c + i ≡ c + (i + 1) = omega arith in
-      ap (λ (j : ℕ). rows_from word rows n (suc c) i ++ row_line (get_or rows (1 + j) 0) (get_or rows (1 + n + j) 0)) e
-      ∙ append_assoc (row_line (get_or rows (1 + i) 0) (get_or rows (1 + n + i) 0)) (rows_from word rows n c (i + 1)) _
-      ∙ ap (λ (l : List ℕ). row_line (get_or rows (1 + i) 0) (get_or rows (1 + n + i) 0) ++ l) (rows_more c (i + 1))
-      ∙ ap (λ (j : ℕ). rows_from word rows n j i) (let g : suc (c + 1) ≡ suc c + 1 = omega arith in g)
+  from-read : (ws : List ℕ) (n c i : ℕ) → lines_of (read_rows n ws c i) ≡ rows_from word ws n c i
+  unfolding rows_from read_rows lines_of
+  from-read ws n zero i = refl
+  from-read ws n (suc c) i = ap (λ (l : List ℕ). (word ++ numbers (get_or ws (1 + i) 0 ∷ get_or ws (1 + n + i) 0 ∷ [])) ++ l) (from-read ws n c (i + 1))
 
-  -- the first i rows: one more, with its two words as the code has read them
-  pub wrote_row : (i : ℕ) {a b : ℕ} {o p q : Printer} → length word ≤ 5 → a ≡ get_or rows (1 + i) 0 → b ≡ get_or rows (1 + n + i) 0 → Wrote (rows_from word rows n i 0) (28 * i) o p → Wrote (word ++ numbers (a ∷ b ∷ [])) (length word + 11 * 2 + 1) p q
-      → Wrote (rows_from word rows n (i + 1) 0) (28 * (i + 1)) o q
-  wrote_row i few e f g h =
-      let z : i ≡ i + 0 = omega arith in
-      wrote_as
-      (ap (λ (l : List ℕ). rows_from word rows n i 0 ++ l) (ap₂ row_line e f ∙ ap (λ (j : ℕ). row_line (get_or rows (1 + j) 0) (get_or rows (1 + n + j) 0)) z) ∙ rows_more i 0)
-      (omega arith)
-      (wrote-next g h)
+  module _ (rows : Written) where
+    -- some lines are put, and those of the rows of p are left
+    pub record LinesLeft (p : Pairs) (start now : Printer) : Type 0 where
+      pub bytes : List ℕ
+      pub most : ℕ
+      pub wrote : Wrote bytes most start now
+      pub whole : lines_of (shown rows) ≡ bytes ++ lines_of (pairs_left p)
+      pub room : most + 28 * length (pairs_left p) ≤ 28 * rows.count
+
+    pub lines-start : {p : Pairs} (o : Printer) → pairs_left p ≡ shown rows → LinesLeft p o o
+    lines-start o e =
+        record {
+          bytes = [];
+          most = 0;
+          wrote = wrote_none o;
+          whole = ap lines_of (sym e);
+          room = (let a = ap length e in let b = read_length rows.nodes rows.words.now rows.count 0 in omega arith);
+        }
+
+    pub lines-next : {p q : Pairs} {w : Row} {o a b : Printer} → length word ≤ 5 → LinesLeft p o a → pairs_left p ≡ w ∷ pairs_left q
+        → Wrote (word ++ numbers (w.left ∷ w.right ∷ [])) (length word + 11 * 2 + 1) a b → LinesLeft q o b
+    unfolding lines_of
+    lines-next {p} {q} {w} few k e h =
+        record {
+          bytes = k.bytes ++ (word ++ numbers (w.left ∷ w.right ∷ []));
+          most = k.most + (length word + 11 * 2 + 1);
+          wrote = wrote-next k.wrote h;
+          whole = k.whole ∙ ap (λ (l : List Row). k.bytes ++ lines_of l) e ∙ sym (append_assoc k.bytes (word ++ numbers (w.left ∷ w.right ∷ [])) (lines_of (pairs_left q)));
+          room = (let a = ap length e in let b = k.room in omega arith);
+        }
+
+    pub lines-end : {p : Pairs} {o a : Printer} → LinesLeft p o a → pairs_left p ≡ [] → Wrote (rows_from word rows.words.now rows.nodes rows.count 0) (28 * rows.count) o a
+    unfolding lines_of
+    lines-end {p} k e =
+        wrote_as
+        (sym (append-nil k.bytes) ∙ sym (ap (λ (l : List Row). k.bytes ++ lines_of l) e) ∙ sym k.whole ∙ from-read rows.words.now rows.nodes rows.count 0)
+        (let b = k.room in omega arith)
+        k.wrote

@@ -11,16 +11,15 @@ use error::Unresolved;
 use itoa::Buffer;
 use rows::Written;
 
-// The words that the report lends to a call, all 0 and enough for any image: those of a table, and 1 + 2N, at N = 2,048. Fixed
+// The words that the report lends to a call, all 0 and enough for any image: those of a table, and those of rows. Fixed
 // memory, since there is no heap.
-const TABLE: usize = table::COUNTS + table::ARRAYS * 2048;
-
-const ROWS: usize = 4097;
+const TABLE: usize = table::COUNTS + table::ARRAYS * ast::NODES;
 
 // No report is longer: a first and a last line of 31 bytes, 28 bytes for each of 2,048 error rows and 2,048 occurrences.
 pub const LONGEST: usize = 114750;
 
-// The lent buffer, and the place of its next byte: no Vec, since there is no heap.
+// The lent buffer, and the place of its next byte: no Vec, since there is no heap, and no `Cursor`, whose `write` does not say that the
+// same memory is lent still, so that nothing could be said of the buffer after.
 #[derive(Drop)]
 struct Printer<'a> {
     bytes: &'a mut [u8],
@@ -72,8 +71,8 @@ impl<'a> Printer<'a> {
         requires { length word.now ≤ 5 }
         ensures { Wrote (rows_from word.now rows.entry.words.now rows.entry.nodes rows.entry.count 0) (28 * rows.entry.count) self.old self.new }
     {
-        for i in 0..rows.count {
-            self.put_line(word, &[rows.left(i), rows.right(i)]);
+        for (left, right) in rows.pairs() {
+            self.put_line(word, &[left, right]);
         }
     }
 
@@ -82,7 +81,7 @@ impl<'a> Printer<'a> {
         ensures { Wrote (lines_bytes (error_lines image.now)) 57344 self.old self.new }
     {
         let mut table = [0; TABLE];
-        let mut words = [0; ROWS];
+        let mut words = [0; rows::MOST_WORDS];
         if let Ok(count) = bindings::check_bindings(image, &mut table, &mut words, 1) {
             let nodes = ast::node_count(image);
             self.put_rows(
@@ -102,7 +101,7 @@ impl<'a> Printer<'a> {
         ensures { Wrote (lines_bytes (var_lines image.now)) 57344 self.old self.new }
     {
         let mut table = [0; TABLE];
-        let mut words = [0; ROWS];
+        let mut words = [0; rows::MOST_WORDS];
         if let Ok(count) = occurrences::occurrences(image, &mut table, &mut words) {
             let nodes = ast::node_count(image);
             self.put_rows(
@@ -147,7 +146,7 @@ impl<'a> Printer<'a> {
                 self.put_line(b"resolved", &[resolved.scopes, resolved.symbols]);
                 self.put_body(image);
             }
-            Err(Unresolved::Refused(refusal)) => self.put_line(b"refused", &[refusal.number()]),
+            Err(Unresolved::Refused(refusal)) => self.put_line(b"refused", &[u32::from(refusal)]),
             Err(Unresolved::Twice(twice)) => self.put_line(
                 b"twice",
                 &[twice.name, twice.first.0, twice.second.0],

@@ -116,7 +116,7 @@ same-is (x ∷ xs) (y ∷ ys) = go (eqb x y) (same-is xs ys)
 pub same-names : (j i : ℕ) (img : List ℕ) {xs ys : List ℕ} {b : Bool} → xs ≡ name_bytes img j → ys ≡ name_bytes img i → b ≡ pointwise eqb xs ys → same (name_bytes img j) (name_bytes img i) ≡ b
 same-names j i img {xs} {ys} {b} e f h = rw (← e, ← f) (sym (h ∙ same-is xs ys))
 
-same_true : (xs ys : List ℕ) → same xs ys ≡ true → xs ≡ ys
+pub same_true : (xs ys : List ℕ) → same xs ys ≡ true → xs ≡ ys
 same_true xs ys e = (bytes_eq-Decides xs ys).0 (same-is xs ys ∙ e)
 
 -- the hash
@@ -138,9 +138,6 @@ module _ (img : List ℕ) (i first : ℕ) (next : List ℕ) where
   pub record ChainLeft (j : ℕ) : Type 0 where
     pub low : j ≤ i
     pub left : (m : ℕ) → Reach next first m → (same (name_bytes img m) (name_bytes img i) ≡ false) ⊎ Reach next j m
-
-  pub chain-begin : first ≤ i → ChainLeft first
-  chain-begin h = record { low = h; left = λ m r. inr r }
 
   pub chain_next : (t : ℕ) → ChainLeft t → (j : ℕ) → 1 ≤ t → j ≡ t - 1 → ((k : ℕ) → k < i → get_or next k 0 ≤ k)
       → same (name_bytes img j) (name_bytes img i) ≡ false → ChainLeft (get_or next j 0)

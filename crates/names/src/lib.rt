@@ -109,7 +109,7 @@ fn bucket(name: &[u8]) -> usize
 }
 
 // A name before i of the chain from `first` on that has the bytes of i.
-fn meets(names: &NamedImage, i: u32, name: &[u8], first: u32, next: &[u16; 1024]) -> bool
+fn meets(names: &NamedImage, i: u32, name: &[u8], first: u32, next: &[u16; ast::NAMES]) -> bool
     requires { Chain names.now.sized.image.now i first next.now
         × (name.now ≡ ImageSpec.name_bytes names.now.sized.image.now i) }
     ensures { Met names.now.sized.image.now i first next.now result }
@@ -131,7 +131,7 @@ fn test_twice(names: &NamedImage) -> Result<(), Refusal>
     ensures { refusal_of result ≡ TestsSpec.test_twice names.now.sized.image.now }
 {
     let mut heads = [0u16; 1024];
-    let mut next = [0u16; 1024];
+    let mut next = [0u16; ast::NAMES];
     for i in 0..names.sized.sizes.names {
         let name = names.bytes(i);
         let h = bucket(name);
@@ -152,15 +152,22 @@ fn test_names(image: &SizedImage) -> Result<(), Refusal>
     test_twice(&NamedImage { sized: *image })
 }
 
-// The image test: the first refusal of 1 to 12, or else the image with its sizes.
-pub fn verdict(image: &[u8]) -> Result<SizedImage<'_>, Refusal>
+// An image that 1 to 12 accept.
+#[derive(Clone, Copy)]
+pub struct AcceptedImage<'a> {
+    pub sized: SizedImage<'a>,
+    ghost accepted: { TestsSpec.verdict sized.image.now ≡ 0 },
+}
+
+// The image test: the first refusal of 1 to 12, or else the accepted image.
+pub fn verdict(image: &[u8]) -> Result<AcceptedImage<'_>, Refusal>
     ensures code { refusal_of result ≡ TestsSpec.verdict image.now }
-    ensures image { IfOk result (λ sized. sized.image.now ≡ image.now) }
+    ensures image { IfOk result (λ accepted. accepted.sized.image.now ≡ image.now) }
 {
     let sized = tests::test_sizes(image)?;
     test_names(&sized)?;
     tests::test_nodes(&sized)?;
-    Ok(sized)
+    Ok(AcceptedImage { sized })
 }
 
 // Where the bytes of a name stand in the image; none where Name is empty.
@@ -168,7 +175,7 @@ pub fn name_place(image: &[u8], number: u32) -> Option<NamePlace>
     ensures given { IsSome result ↔ IsTrue (has_name image.now number) }
     ensures place { place_of result ≡ name_place image.now number }
 {
-    let Ok(sized) = verdict(image) else {
+    let Ok(AcceptedImage { sized }) = verdict(image) else {
         return None;
     };
     if sized.sizes.names <= number {
@@ -178,24 +185,25 @@ pub fn name_place(image: &[u8], number: u32) -> Option<NamePlace>
     Some(named.place(number))
 }
 
-// Name: the name's own bytes, a part of the image; empty for a number not below S, or where the image is refused.
+// Name: the name's own bytes, a part of the image; empty for a number not below S, or where the image is refused. An empty part and no
+// Option, as document 01 gives Name an answer for all inputs; whether there is a name `name_place` tells.
 pub fn name(image: &[u8], number: u32) -> &[u8]
     ensures bytes { result.now ≡ name_call image.now number }
     ensures part { PartAt image.entry (name_place image.now number) result }
 {
-    let place = name_place(image, number).unwrap_or(NamePlace { start: 0, len: 0 });
-    let end = place.start + place.len;
-    &image[place.start..end]
+    match name_place(image, number) {
+        Some(place) => {
+            let end = place.start + place.len;
+            &image[place.start..end]
+        }
+        None => &image[..0],
+    }
 }
 
 // The number of the name with these bytes.
-pub fn number_of(image: &[u8], name: &[u8]) -> Option<u32>
-    requires { TestsSpec.verdict image.now ≡ 0 }
-    ensures { number_in result ≡ number_of image.now name.now }
+pub fn number_of(image: &AcceptedImage, name: &[u8]) -> Option<u32>
+    ensures { number_in result ≡ number_of image.now.sized.image.now name.now }
 {
-    let sizes = ast::sizes_of(image);
-    let names = NamedImage {
-        sized: SizedImage { image, sizes },
-    };
-    (0..sizes.names).find(|&i| names.bytes(i) == name)
+    let names = NamedImage { sized: image.sized };
+    (0..names.sized.sizes.names).find(|&i| names.bytes(i) == name)
 }

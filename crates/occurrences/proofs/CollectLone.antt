@@ -3,7 +3,7 @@ use mathlib.Core.Path.{◌≡◌, refl, sym, ap, ap₂, subst, ◌∙◌}
 use mathlib.Core.Bool.{Bool, true, false, cond, not}
 use mathlib.Core.List.{List, [], ◌∷◌, ◌++◌}
 use mathlib.Core.Option.{Option, none as nothing, some}
-use Prim.Native.Nat.{ℕ, zero, suc, ◌+◌, ◌-◌, ◌<◌, ◌≤◌}
+use Prim.Native.Nat.{ℕ, zero, suc, ◌+◌, ◌<◌, ◌≤◌}
 use native.Mathlib.Omega.{arith}
 use native.Mathlib.Decide.{dec_lt}
 use lib.Dec.{eqb, ltb, leb}
@@ -11,12 +11,11 @@ use lib.ListN.{length, length-append, get_or, set, replicate, length-set, length
 use lib.Seq.{get_or-set_same, get_or-set_other, ext_get_or}
 use borrow.Author.Tests.{eqb-true, eqb-false, le-leb, lt-leb}
 use Rattle.std.specs.Prelude.{Option as Given, Some, None, Result, Ok, Err, IsErrAnd}
-use Rattle.std.specs.List.{find, range_with_len}
-use Rattle.std.specs.Option.{option_map}
-use Rattle.ast.specs.Image.{nodes, field}
+use Rattle.std.specs.List.{find}
+use Rattle.ast.specs.Image.{nodes}
 use Rattle.ast.specs.Kinds.{kind_of}
 use Rattle.ast.specs.Items.{items}
-use Rattle.ast.specs.Named.{rule_decl_kind}
+use Rattle.ast.specs.Named.{decl_kind, rule_decl_kind}
 use Rattle.ast.specs.Promises.{bump, claim_all}
 use Rattle.ast.specs.Tests.{is, times}
 use Rattle.ast.proofs.Accepted.{sized}
@@ -25,16 +24,21 @@ use Rattle.ast.proofs.Runs.{sat, claimed-times}
 use Rattle.ast.proofs.Unfold.{All, nil, cons, All-map}
 use Rattle.typed.specs.RowShapes.{WordList}
 use Rattle.typed.specs.declared.nodes.NodeList.{NodeList}
+use Rattle.typed.specs.declared.items.Items.{Items}
+use Rattle.typed.specs.Items.{trees_of}
+use Rattle.typed.proofs.Lists.{Within, begun, none-left}
 use Rattle.table.specs.Table.{Table, is_var}
 use Rattle.rows.specs.declared.Rows.{Rows}
 use Rattle.rows.specs.declared.Written.{Written}
-use Rattle.rows.specs.Rows.{Row, row, rights, Appends, Starts, Shows, read_rows, shown}
-use Rattle.rows.proofs.Reading.{shown-appends, read_more, read-end}
+use Rattle.rows.specs.declared.Pairs.{Pairs}
+use Rattle.rows.specs.Rows.{Row, row, rights, Appends, Starts, Shows, shown, pairs_left}
+use Rattle.rows.proofs.Reading.{shown-appends}
 use Rattle.occurrences.specs.Spots.{Spot, spots_seq}
 use Rattle.occurrences.specs.Occurrences.{found, listed, rows_for, times_bound, lone_in, lone}
-use Rattle.occurrences.specs.Promises.{rows_at, rows_of, joined, lists_in, lists_of, Listing, ListingAll, Nodes, under, uncounted, lone_of}
+use Rattle.occurrences.specs.Promises.{rows_at, rows_of, joined, lists_in, lists_at, lists_of, Listing, ListingAll, Nodes, under, uncounted, lone_of}
 use Rattle.occurrences.specs.declared.Lone.{Lone}
-use Rattle.occurrences.proofs.CollectRules.{joined-append, lists_left, lists-done, lists-all, RuleRun, rule_run, DeclItem, decl_item}
+use Rattle.occurrences.proofs.CollectSteps.{Gave}
+use Rattle.occurrences.proofs.CollectRules.{joined-append, seq_lists, seq-lists-none, RuleRun, rule_run, DeclItem, decl_item}
 use Rattle.occurrences.proofs.Few.{lookup-low}
 
 -- under two times
@@ -44,60 +48,42 @@ few-is (suc zero) = refl
 few-is (suc (suc x)) = le-leb 2 (suc (suc x)) (omega arith) ∙ ap not (sym (lt-leb (suc (suc (suc x))) 2 (omega arith)))
 
 -- the loops -----------------------------------------------------------------------------------------------------------------
-module _ (rows : Written) where
-  -- the rows that are left after i, and their bindings
-  abbrev rest : ℕ → List Row
-  rest i = read_rows rows.nodes rows.words.now (rows.count - i) i
+-- the counts us came to vs, each binding's by a step, with the rows of p left: what is left to count from there is the whole
+module _ (rows : Written) (count_all : List ℕ → List ℕ → List ℕ) (step : ℕ → ℕ) where
+  pub record Counted (p : Pairs) (us vs : List ℕ) : Type 0 where
+    pub left : count_all (rights (shown rows)) us ≡ count_all (rights (pairs_left p)) vs
 
-  more : (i : ℕ) → i < rows.count → rest i ≡ row (get_or rows.words.now (1 + i) 0) (get_or rows.words.now (1 + rows.nodes + i) 0) ∷ rest (i + 1)
-  more i h = read_more rows.nodes rows.words.now rows.count i h
+  pub counted-start : {p : Pairs} (us : List ℕ) → pairs_left p ≡ shown rows → Counted p us us
+  counted-start us e = record { left = ap (λ (l : List Row). count_all (rights l) us) (sym e) }
 
-  done : (i : ℕ) → rows.count ≤ i → rest i ≡ []
-  done i h = read-end rows.nodes rows.words.now rows.count i h
+  pub counted-next : ((b : ℕ) (bs us : List ℕ) → count_all (b ∷ bs) us ≡ count_all bs (set us b (step (get_or us b 0)))) → {p q : Pairs} {w : Row} {us vs zs : List ℕ} → Counted p us vs
+      → pairs_left p ≡ w ∷ pairs_left q → zs ≡ set vs w.right (step (get_or vs w.right 0)) → Counted q us zs
+  unfolding rights
+  counted-next one {p} {q} {w} {us} {vs} {zs} k e h =
+      record { left = k.left ∙ ap (λ (l : List Row). count_all (rights l) vs) e ∙ one w.right (rights (pairs_left q)) vs ∙ ap (count_all (rights (pairs_left q))) (sym h) }
 
-  -- the counts us came to vs after i rows, each binding's by a step: what is left to count from there is the whole
-  module _ (count_all : List ℕ → List ℕ → List ℕ) (step : ℕ → ℕ) where
-    pub record Counted (i : ℕ) (us vs : List ℕ) : Type 0 where
-      pub left : count_all (rights (shown rows)) us ≡ count_all (rights (rest i)) vs
+  pub counted-end : ((us : List ℕ) → count_all [] us ≡ us) → {p : Pairs} {us vs : List ℕ} → Counted p us vs → pairs_left p ≡ [] → vs ≡ count_all (rights (shown rows)) us
+  unfolding rights
+  counted-end none {p} {us} {vs} k e = sym (k.left ∙ ap (λ (l : List Row). count_all (rights l) vs) e ∙ none vs)
 
-    pub counted-next : ((b : ℕ) (bs us : List ℕ) → count_all (b ∷ bs) us ≡ count_all bs (set us b (step (get_or us b 0)))) → {i b : ℕ} {us vs zs : List ℕ} → Counted i us vs → i < rows.count
-        → b ≡ get_or rows.words.now (1 + rows.nodes + i) 0 → zs ≡ set vs b (step (get_or vs b 0)) → Counted (i + 1) us zs
-    unfolding rights
-    counted-next one {i} {b} {us} {vs} {zs} k h q e =
-        record {
-          left = k.left ∙ ap (λ (l : List Row). count_all (rights l) vs) (more i h) ∙ ap (λ (x : ℕ). count_all (x ∷ rights (rest (i + 1))) vs) (sym q) ∙ one b (rights (rest (i + 1))) vs
-              ∙ ap (count_all (rights (rest (i + 1)))) (sym e);
-        }
+abbrev pub row_of : Given Row → Option Row
+row_of None = nothing
+row_of (Some w) = some w
 
-    pub counted-end : ((us : List ℕ) → count_all [] us ≡ us) → {i : ℕ} {us vs : List ℕ} → Counted i us vs → rows.count ≤ i → vs ≡ count_all (rights (shown rows)) us
-    unfolding rights
-    counted-end none {i} {us} {vs} k h = sym (k.left ∙ ap (λ (l : List Row). count_all (rights l) vs) (done i h) ∙ none vs)
+-- the search for the first whose binding is counted under two times
+module _ (us : List ℕ) where
+  abbrev pub is_few : Row → Bool
+  is_few w = ltb (get_or us w.right 0) 2
 
-  -- the search for the first whose binding is counted under two times
-  module _ (us : List ℕ) where
-    abbrev pub is_few : ℕ → Bool
-    is_few i = ltb (get_or us (get_or rows.words.now (1 + rows.nodes + i) 0) 0) 2
-
-    abbrev pub row_at : Given ℕ → Option Row
-    row_at None = nothing
-    row_at (Some i) = some (row (get_or rows.words.now (1 + i) 0) (get_or rows.words.now (1 + rows.nodes + i) 0))
-
-    under-from : (c i : ℕ) → row_at (find is_few (range_with_len i c)) ≡ under us (read_rows rows.nodes rows.words.now c i)
-    unfolding under read_rows
-    under-from zero i = refl
-    under-from (suc c) i = go (is_few i) (few-is (get_or us (get_or rows.words.now (1 + rows.nodes + i) 0) 0)) (under-from c (i + 1))
-      where
-        w : Row
-        w = row (get_or rows.words.now (1 + i) 0) (get_or rows.words.now (1 + rows.nodes + i) 0)
-
-        go : (b : Bool) → leb 2 (get_or us w.right 0) ≡ not b → row_at (find is_few (range_with_len (i + 1) c)) ≡ under us (read_rows rows.nodes rows.words.now c (i + 1))
-            → row_at (cond b (Some i) (find is_few (range_with_len (i + 1) c))) ≡ elim (leb 2 (get_or us w.right 0)) as (λ _. Option Row) [ true ↦ under us (read_rows rows.nodes rows.words.now c (i + 1)) | false ↦ some w ]
-        go true e r = rw e
-        go false e r = rw e r
-
-    pub under-found : (r : Given ℕ) → option_map (λ x. x) r ≡ find is_few (range_with_len 0 rows.count) → row_at r ≡ under us (shown rows)
-    under-found None e = ap row_at e ∙ under-from rows.count 0
-    under-found (Some i) e = ap row_at e ∙ under-from rows.count 0
+  pub under-find : (l : List Row) → row_of (find is_few l) ≡ under us l
+  unfolding under
+  under-find [] = refl
+  under-find (w ∷ l) = go (is_few w) (few-is (get_or us w.right 0)) (under-find l)
+    where
+      go : (b : Bool) → leb 2 (get_or us w.right 0) ≡ not b → row_of (find is_few l) ≡ under us l
+          → row_of (cond b (Some w) (find is_few l)) ≡ elim (leb 2 (get_or us w.right 0)) as (λ _. Option Row) [ true ↦ under us l | false ↦ some w ]
+      go true e r = rw e refl
+      go false e r = rw e r
 
 -- one more binding counted, and none
 pub claim-one : (b : ℕ) (bs us : List ℕ) → claim_all (b ∷ bs) us ≡ claim_all bs (set us b (bump (get_or us b 0)))
@@ -235,38 +221,43 @@ lone-passed (Err x) l h = ap (λ (y : Lone). some (row y.node.0 y.binding.0)) h
 pub lone-nothing : {a : List (List Row)} → a ≡ [] → nothing ≡ lone a
 lone-nothing e = lone-none ∙ sym (ap lone e)
 
-module _ (img : List ℕ) (t : Table) where
-  -- a loop over declarations that found none yet, and nothing counted
-  pub record ChecksLeft (l : NodeList) (i : ℕ) (cs us : List ℕ) : Type 0 where
-    pub few : 0 + length (joined (lists_left img t l i)) ≤ nodes img
-    pub same : lone (lists_of img t l) ≡ lone (lists_left img t l i)
+module _ {T : Type 0} (img : List ℕ) (t : Table) where
+  -- a loop over declarations that found none yet, with s left, and nothing counted
+  pub record ChecksLeft (l : NodeList) (s : Items T) (cs us : List ℕ) : Type 0 where
+    pub within : Within img decl_kind l.node.0 s
+    pub few : 0 + length (joined (seq_lists img t (trees_of s))) ≤ nodes img
+    pub same : lone (lists_of img t l) ≡ lone (seq_lists img t (trees_of s))
     pub clean : us ≡ cs
 
-  pub checks-end : {i : ℕ} {l : NodeList} {cs us : List ℕ} → ChecksLeft l i cs us → l.count ≤ i → nothing ≡ lone (lists_of img t l)
-  checks-end {i} {l} k h = lone-nothing (lists-done img t l i h) ∙ sym k.same
+  pub checks-end : {l : NodeList} {s : Items T} {cs us : List ℕ} → ChecksLeft l s cs us → s.left.list.count ≡ 0 → nothing ≡ lone (lists_of img t l)
+  checks-end {s = s} k e = lone-nothing (seq-lists-none img t (none-left s e)) ∙ sym k.same
 
-  pub checks-start : {l : NodeList} (cs : List ℕ) → ListingAll img t l 0 → ChecksLeft l 0 cs cs
-  checks-start {l} cs p =
-      let e = lists-all img t l in
-      record { few = subst (λ (k : List (List Row)). 0 + length (joined k) ≤ nodes img) e p.few; same = ap lone e; clean = refl }
+  pub checks-start : {l : NodeList} {s begin : Items T} (cs : List ℕ) → begin ≡ s → ListingAll img t l 0 → (s.image.now ≡ img) × (s.left.list ≡ l) → ChecksLeft l begin cs cs
+  unfolding lists_at
+  checks-start cs e p h =
+      let o = begun e refl p.run h in
+      let w = ap (seq_lists img t) o.trees in
+      record { within = o.within; few = subst (λ (k : List (List Row)). 0 + length (joined k) ≤ nodes img) w p.few; same = ap lone w; clean = refl }
 
-  pub checks-item : {i x : ℕ} {l : NodeList} {cs us : List ℕ} → ListingAll img t l 0 → ChecksLeft l i cs us → i < l.count → x ≡ field img l.node.0 (l.first + i) → DeclItem img t l i x 0
-  checks-item p k h q = decl_item img t p h q k.few
+  pub checks-item : {x : ℕ} {l : NodeList} {s s2 : Items T} {cs us : List ℕ} → ChecksLeft l s cs us → Gave s x s2 → DeclItem img t l.node.0 x 0 s s2
+  checks-item k o = decl_item img t k.within o k.few
 
-  pub checks-next : {i x : ℕ} {l : NodeList} {cs us os : List ℕ} → ChecksLeft l i cs us → DeclItem img t l i x 0 → nothing ≡ lone (lists_in img t x) → os ≡ us → ChecksLeft l (i + 1) cs os
-  checks-next {i} {x} {l} k d f e =
+  pub checks-next : {x : ℕ} {l : NodeList} {s s2 : Items T} {cs us os : List ℕ} → ChecksLeft l s cs us → DeclItem img t l.node.0 x 0 s s2 → nothing ≡ lone (lists_in img t x) → os ≡ us → ChecksLeft l s2 cs os
+  checks-next {x} {s2 = s2} k d f e =
       record {
+        within = d.rest;
         few = (let g = k.few in let a = ap (λ (m : List (List Row)). length (joined m)) d.more ∙ ap length (joined-append (lists_in img t x) rest) ∙ length-append (joined (lists_in img t x)) (joined rest) in omega arith);
         same = k.same ∙ ap lone d.more ∙ lone-skip (lists_in img t x) rest (sym f);
         clean = e ∙ k.clean;
       }
     where
       rest : List (List Row)
-      rest = lists_left img t l (i + 1)
+      rest = seq_lists img t (trees_of s2)
 
-  pub checks-found : {i x : ℕ} {l : NodeList} {cs us : List ℕ} {w : Row} → ChecksLeft l i cs us → DeclItem img t l i x 0 → some w ≡ lone (lists_in img t x) → some w ≡ lone (lists_of img t l)
-  checks-found {i} {x} {l} {w = w} k d f = sym (k.same ∙ ap lone d.more ∙ lone-hit (lists_in img t x) (lists_left img t l (i + 1)) w (sym f))
+  pub checks-found : {x : ℕ} {l : NodeList} {s s2 : Items T} {cs us : List ℕ} {w : Row} → ChecksLeft l s cs us → DeclItem img t l.node.0 x 0 s s2 → some w ≡ lone (lists_in img t x) → some w ≡ lone (lists_of img t l)
+  checks-found {x} {s2 = s2} {w = w} k d f = sym (k.same ∙ ap lone d.more ∙ lone-hit (lists_in img t x) (seq_lists img t (trees_of s2)) w (sym f))
 
+module _ (img : List ℕ) (t : Table) where
   -- a rule: its rows collected, to be counted, searched and counted 0 times again
   pub record RuleShown (rule : ℕ) (w : Written) (cs : List ℕ) : Type 0 where
     pub lone_is : {us : List ℕ} {o : Option Row} → us ≡ claim_all (rights (shown w)) cs → o ≡ under us (shown w) → o ≡ lone (lists_in img t rule)

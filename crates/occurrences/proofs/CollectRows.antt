@@ -1,10 +1,9 @@
 -- The rows of a tree by the form of its row: those of its children, one after another.
 use mathlib.Core.Path.{◌≡◌, refl, sym, ap, ◌∙◌}
-use mathlib.Core.Bool.{Bool, true, false}
+use mathlib.Core.Bool.{Bool, true, false, false≢true}
 use mathlib.Core.List.{List, [], ◌∷◌, ◌++◌, append-nil}
 use mathlib.Core.Option.{Option, none as nothing, some}
-use Prim.Native.Nat.{ℕ, zero, suc, ◌+◌, ◌-◌, ◌<◌, ◌≤◌}
-use native.Mathlib.Omega.{arith}
+use Prim.Native.Nat.{ℕ, zero, suc}
 use lib.Dec.{eqb}
 use lib.ListN.{get_or}
 use Rattle.ast.specs.Image.{kind_at, field}
@@ -14,12 +13,13 @@ use Rattle.ast.specs.Tree.{Tree, node, block, Trees, none, ◌◂◌, swap, orde
 use Rattle.ast.specs.Items.{items, blocks, below}
 use Rattle.ast.specs.Is.{Is, kind_by}
 use Rattle.ast.proofs.Row.{append, append-none, all_kids, shapes, node_of}
-use Rattle.ast.proofs.Shapes.{tree_of, items_more, case_kids, case-kids, case-one}
+use Rattle.ast.proofs.Shapes.{tree_of, case_kids, case-kids, case-one}
+use Rattle.typed.specs.declared.nodes.NodeList.{NodeList}
 use Rattle.table.specs.Table.{Table, is_var}
 use Rattle.rows.specs.Rows.{Row, row}
 use Rattle.occurrences.specs.Spots.{Spot, spots, spots_seq, spots_back, spots_first}
 use Rattle.occurrences.specs.Occurrences.{listed, found, rows_for}
-use Rattle.occurrences.specs.Promises.{spot, ident_rows, rows_in, rows_at}
+use Rattle.occurrences.specs.Promises.{spot, ident_rows, rows_in, rows_at, rows_of}
 
 -- any class but an IdentTerm's: its spots do not depend on the node above
 unfoldable pub bare : Class → Bool
@@ -49,15 +49,12 @@ threads (inner if_var) = true
 threads (inner defined_then) = false
 threads (inner arg) = false
 
-never : {A : Type 0} → false ≡ true → A
-never p = absurd (let z : ◌≡◌ {A = ℕ} 0 1 = cc in omega arith)
-
 owner-class : (c : Class) (n k : ℕ) (sh : List ℕ) (ts : Trees) → bare c ≡ true → (o p : ℕ) → spots o (node n k c sh ts) ≡ spots p (node n k c sh ts)
 unfolding bare spots
 owner-class (outer c) n k sh ts b o p = refl
 owner-class (inner plain) n k sh ts b o p = refl
 owner-class (inner term) n k sh ts b o p = refl
-owner-class (inner ident) n k sh ts b o p = never b
+owner-class (inner ident) n k sh ts b o p = absurd (false≢true b)
 owner-class (inner head) n k sh ts b o p = refl
 owner-class (inner head_member) n k sh ts b o p = refl
 owner-class (inner member) n k sh ts b o p = refl
@@ -68,17 +65,17 @@ owner-class (inner arg) n k sh ts b o p = refl
 
 threads-class : (c : Class) (n k : ℕ) (sh : List ℕ) (ts : Trees) → threads c ≡ true → (o : ℕ) → spots o (node n k c sh ts) ≡ spots_seq n ts
 unfolding threads spots
-threads-class (outer c) n k sh ts b o = never b
+threads-class (outer c) n k sh ts b o = absurd (false≢true b)
 threads-class (inner plain) n k sh ts b o = refl
 threads-class (inner term) n k sh ts b o = refl
-threads-class (inner ident) n k sh ts b o = never b
+threads-class (inner ident) n k sh ts b o = absurd (false≢true b)
 threads-class (inner head) n k sh ts b o = refl
-threads-class (inner head_member) n k sh ts b o = never b
-threads-class (inner member) n k sh ts b o = never b
+threads-class (inner head_member) n k sh ts b o = absurd (false≢true b)
+threads-class (inner member) n k sh ts b o = absurd (false≢true b)
 threads-class (inner case) n k sh ts b o = refl
 threads-class (inner if_var) n k sh ts b o = refl
-threads-class (inner defined_then) n k sh ts b o = never b
-threads-class (inner arg) n k sh ts b o = never b
+threads-class (inner defined_then) n k sh ts b o = absurd (false≢true b)
+threads-class (inner arg) n k sh ts b o = absurd (false≢true b)
 
 module _ (img : List ℕ) (t : Table) where
   listed-append : (n : ℕ) (o : Option ℕ) (l k : List Row) → listed img t n o (l ++ k) ≡ listed img t n o l ++ k
@@ -118,19 +115,19 @@ module _ (img : List ℕ) (t : Table) where
       ∙ sym (ap (λ (u : Tree). rows_for img t (spots 0 u)) (tree_of img is))
 
   -- the rows of trees one after another
-  abbrev seq_rows : ℕ → Trees → List Row
+  abbrev pub seq_rows : ℕ → Trees → List Row
   seq_rows o ts = rows_for img t (spots_seq o ts)
 
-  seq-none : (o : ℕ) → seq_rows o none ≡ []
+  pub seq-none : (o : ℕ) {us : Trees} → us ≡ none → seq_rows o us ≡ []
   unfolding spots_seq rows_for
-  seq-none o = refl
+  seq-none o e = ap (seq_rows o) e
 
   seq_more : (o : ℕ) (u : Tree) (us : Trees) → seq_rows o (u ◂ us) ≡ rows_for img t (spots o u) ++ seq_rows o us
   unfolding spots_seq
   seq_more o u us = rows_append (spots o u) (spots_seq o us)
 
   seq-one : (o : ℕ) (u : Tree) → seq_rows o (u ◂ none) ≡ rows_for img t (spots o u)
-  seq-one o u = seq_more o u none ∙ ap (λ (l : List Row). rows_for img t (spots o u) ++ l) (seq-none o) ∙ append-nil _
+  seq-one o u = seq_more o u none ∙ ap (λ (l : List Row). rows_for img t (spots o u) ++ l) (seq-none o refl) ∙ append-nil _
 
   seq-two : (o : ℕ) (u v : Tree) → seq_rows o (u ◂ (v ◂ none)) ≡ rows_for img t (spots o u) ++ rows_for img t (spots o v)
   seq-two o u v = seq_more o u (v ◂ none) ∙ ap (λ (l : List Row). rows_for img t (spots o u) ++ l) (seq-one o v)
@@ -163,7 +160,7 @@ module _ (img : List ℕ) (t : Table) where
   -- a plain node with a name alone
   pub leaf-rows : {n : ℕ} → Is img (kind_by (inner plain) (name ∷ [])) n → rows_in img t n ≡ []
   unfolding threads all_kids ordered
-  leaf-rows {n} is = inside is refl ∙ ap (seq_rows n) (kids-are is) ∙ seq-none n
+  leaf-rows {n} is = inside is refl ∙ ap (seq_rows n) (kids-are is) ∙ seq-none n refl
 
   -- a member and an app head's member: the receiver alone
   pub first_rows : (cl : Class) {k : ℕ} {fs : List Field} {n : ℕ} → Is img (kind_by cl (child k ∷ fs)) n → ((ts : Trees) → ordered cl ts ≡ ts)
@@ -202,24 +199,15 @@ module _ (img : List ℕ) (t : Table) where
 
   pub case-none : (cl : Class) (ks : List ℕ) {n : ℕ} → Is img (kind_by cl (cases ks ∷ [])) n → threads cl ≡ true → ((ts : Trees) → ordered cl ts ≡ ts)
       → (c : ℕ) → c ≡ field img n 0 → eqb (get_or ks c no_child) no_child ≡ true → rows_in img t n ≡ []
-  case-none cl ks {n} is b straight c q s = inside is b ∙ ap (seq_rows n) (case-kids img cl ks is straight c q ∙ rw (s, case_kids)) ∙ seq-none n
+  case-none cl ks {n} is b straight c q s = inside is b ∙ ap (seq_rows n) (case-kids img cl ks is straight c q ∙ rw (s, case_kids)) ∙ seq-none n refl
 
-  -- a list: its items; and what is left of them
+  -- a list: its items; and the first of what is left of them
   pub list-rows : {k n : ℕ} → Is img (kind_by (inner plain) (list k ∷ [])) n → rows_in img t n ≡ rows_at img t n (field img n 0) 1
   unfolding threads all_kids ordered rows_at
   list-rows {k} {n} is = inside is refl ∙ ap (seq_rows n) (kids-are is ∙ append-none _)
 
-  pub items-rows : {kd : Kind} (n j count i : ℕ) → i < count → Is img kd (field img n (j + i)) → bare kd.class ≡ true
-      → rows_at img t n (count - i) (j + i) ≡ rows_in img t (field img n (j + i)) ++ rows_at img t n (count - (i + 1)) (j + (i + 1))
-  unfolding rows_at
-  items-rows n j count i h is b =
-      ap (seq_rows n) (items_more img n j count i h)
-      ∙ seq_more n (tree_at img (field img n (j + i))) (items img n (count - (i + 1)) (j + (i + 1)))
-      ∙ ap (λ (l : List Row). l ++ seq_rows n (items img n (count - (i + 1)) (j + (i + 1)))) (owner is b n)
-
-  pub items-none : (n j count i : ℕ) → count ≤ i → rows_at img t n (count - i) (j + i) ≡ []
-  unfolding rows_at items
-  items-none n j count i h = let z : count - i ≡ 0 = omega arith in ap (λ (c : ℕ). seq_rows n (items img n c (j + i))) z ∙ seq-none n
+  pub items-more : {kd : Kind} (n x : ℕ) {us vs : Trees} → Is img kd x → bare kd.class ≡ true → us ≡ tree_at img x ◂ vs → seq_rows n us ≡ rows_in img t x ++ seq_rows n vs
+  items-more n x {vs = vs} is b e = ap (seq_rows n) e ∙ seq_more n (tree_at img x) vs ∙ ap (λ (l : List Row). l ++ seq_rows n vs) (owner is b n)
 
   -- a child and a list: a match case, a match
   pub child-list-rows : (cl : Class) {k l n : ℕ} → Is img (kind_by cl (child k ∷ list l ∷ [])) n → threads cl ≡ true → ((ts : Trees) → ordered cl ts ≡ ts)
@@ -228,18 +216,14 @@ module _ (img : List ℕ) (t : Table) where
   child-list-rows cl {k} {l} {n} is b straight =
       inside is b ∙ ap (seq_rows n) (kids-are is ∙ straight _) ∙ seq-after n (tree_at img (field img n 0)) (items img n (field img n 1) 2)
 
-  -- the rows of c blocks from place j on
-  unfoldable pub block_rows : (n c j : ℕ) → List Row
-  block_rows n c j = seq_rows n (blocks img n c j)
-
-  pub branch-rows : {n : ℕ} → Is img (kind_of branch_stmt_kind) n → rows_in img t n ≡ block_rows n (field img n 0) 1
-  unfolding threads all_kids ordered block_rows kind_of
+  -- a branch: its blocks; and the first of what is left of them
+  pub branch-rows : {n : ℕ} → Is img (kind_of branch_stmt_kind) n → rows_in img t n ≡ seq_rows n (blocks img n (field img n 0) 1)
+  unfolding threads all_kids ordered kind_of
   branch-rows {n} is = inside is refl ∙ ap (seq_rows n) (kids-are is ∙ append-none _)
 
-  pub block_more : (n c j : ℕ) → block_rows n (suc c) j ≡ rows_at img t n (field img n j) (j + 1) ++ block_rows n c (j + 1 + field img n j)
-  unfolding block_rows blocks rows_at spots
-  block_more n c j = seq_more n (block (items img n (field img n j) (j + 1))) (blocks img n c (j + 1 + field img n j))
-
-  pub block_none : (n j : ℕ) → block_rows n 0 j ≡ []
-  unfolding block_rows blocks
-  block_none n j = seq-none n
+  pub blocks-more : {n : ℕ} (b : NodeList) {us vs : Trees} → b.node.0 ≡ n → us ≡ block (items img b.node.0 b.count b.first) ◂ vs → seq_rows n us ≡ rows_of img t b ++ seq_rows n vs
+  unfolding rows_at spots
+  blocks-more {n} b {vs = vs} m e =
+      ap (seq_rows n) e
+      ∙ seq_more n (block (items img b.node.0 b.count b.first)) vs
+      ∙ ap (λ (o : ℕ). seq_rows o (items img b.node.0 b.count b.first) ++ seq_rows n vs) (sym m)

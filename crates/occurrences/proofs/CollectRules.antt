@@ -3,9 +3,9 @@ use mathlib.Core.Path.{◌≡◌, refl, sym, ap, ap₂, subst, ◌∙◌}
 use mathlib.Core.Bool.{false}
 use mathlib.Core.List.{List, [], ◌∷◌, ◌++◌, append_assoc, append-nil}
 use mathlib.Core.Option.{Option, none as nothing}
-use Prim.Native.Nat.{ℕ, zero, suc, ◌+◌, ◌-◌, ◌<◌, ◌≤◌}
+use Prim.Native.Nat.{ℕ, zero, suc, ◌+◌, ◌<◌, ◌≤◌}
 use native.Mathlib.Omega.{arith}
-use native.Mathlib.Nat.{sub-zero, add-zero}
+use native.Mathlib.Nat.{add-zero}
 use denote.Enum.Declared.{tag_of}
 use types.Run.{OneOf, miss}
 use lib.Dec.{eqb}
@@ -17,8 +17,8 @@ use Rattle.ast.specs.Items.{items, below}
 use Rattle.ast.specs.Is.{Is, kind_by}
 use Rattle.ast.specs.Named.{const_decl_kind, ctor_decl_kind, decl_kind, enum_decl_kind, func_decl_kind, model_decl_kind, pred_decl_kind, rule_decl_kind, stmt_kind, type_decl_kind}
 use Rattle.ast.specs.Tests.{verdict}
-use Rattle.ast.proofs.Row.{append, append-none, Child, Items, FormedFields, all_kids, next, ends, node_of}
-use Rattle.ast.proofs.Shapes.{tree_of, row, child-is, case-kids, case-one, case-child, run-item, run-list, run-tail}
+use Rattle.ast.proofs.Row.{append, append-none, Child, Items as RowItems, FormedFields, all_kids, next, ends, node_of}
+use Rattle.ast.proofs.Shapes.{tree_of, row, child-is, case-kids, case-one, case-child, run-list, run-tail}
 use Rattle.ast.proofs.Accepted.{sized}
 use Rattle.typed.specs.Nodes.{decl_at}
 use Rattle.typed.specs.RowShapes.{Listed, WordList}
@@ -27,7 +27,9 @@ use Rattle.typed.specs.declared.nodes.Decl.{Decl}
 use Rattle.typed.specs.declared.nodes.Decl.TheVariants as in_decl
 use Rattle.typed.specs.contracts.nodes.Decl as Decls
 use Rattle.typed.proofs.Enums.{DeclIs, decl-is}
-use Rattle.typed.proofs.Lists.{at-list}
+use Rattle.typed.specs.declared.items.Items.{Items}
+use Rattle.typed.specs.Items.{trees_of}
+use Rattle.typed.proofs.Lists.{at-list, Within, begun, taken, none-left}
 use Rattle.table.specs.Table.{Table}
 use Rattle.rows.specs.declared.Rows.{Rows}
 use Rattle.rows.specs.Rows.{Row, Appends}
@@ -38,7 +40,7 @@ use Rattle.ast.specs.Rules.{Rule, rules, rules_all, rules_of, module_rules}
 use Rattle.occurrences.specs.Occurrences.{rows_for, rule_rows, all_rows, occurrence_rows, rows_by_rule}
 use Rattle.occurrences.specs.Promises.{rows_at, rows_of, joined, lists_in, lists_at, lists_of, module_lists, ReadyRun, ReadyAll, Listing, ListingRun, ListingAll, Whole}
 use Rattle.occurrences.proofs.CollectRows.{bare, rows_append, owner}
-use Rattle.occurrences.proofs.CollectSteps.{left-count}
+use Rattle.occurrences.proofs.CollectSteps.{left-count, Gave}
 
 pub joined-append : (a b : List (List Row)) → joined (a ++ b) ≡ joined a ++ joined b
 unfolding joined
@@ -86,26 +88,21 @@ module _ (img : List ℕ) (t : Table) where
   unfolding lists_at items rules rows_by_rule
   lists-none n j = refl
 
+  -- the lists of declarations one after another
+  abbrev pub seq_lists : Trees → List (List Row)
+  seq_lists us = rows_by_rule img t (rules_all img unmeant us)
+
+  pub seq-lists-none : {us : Trees} → us ≡ none → seq_lists us ≡ []
+  unfolding rules rows_by_rule
+  seq-lists-none e = ap seq_lists e
+
+  seq-lists-more : (x : ℕ) {us vs : Trees} → us ≡ tree_at img x ◂ vs → seq_lists us ≡ lists_in img t x ++ seq_lists vs
+  unfolding lists_in rules
+  seq-lists-more x {vs = vs} e = ap seq_lists e ∙ lists-append img t (rules img unmeant (tree_at img x)) (rules_all img unmeant vs)
+
   lists-more : (n c j : ℕ) → lists_at img t n (suc c) j ≡ lists_in img t (field img n j) ++ lists_at img t n c (j + 1)
-  unfolding lists_at lists_in items rules
-  lists-more n c j = lists-append img t (rules img unmeant (tree_at img (field img n j))) (rules_all img unmeant (items img n c (j + 1)))
-
-  items-lists : (n j count i : ℕ) → i < count
-      → lists_at img t n (count - i) (j + i) ≡ lists_in img t (field img n (j + i)) ++ lists_at img t n (count - (i + 1)) (j + (i + 1))
-  items-lists n j count i h =
-      ap (λ (c : ℕ). lists_at img t n c (j + i)) (let z : count - i ≡ suc (count - (i + 1)) = omega arith in z)
-      ∙ lists-more n (count - (i + 1)) (j + i)
-      ∙ ap (λ (k : ℕ). lists_in img t (field img n (j + i)) ++ lists_at img t n (count - (i + 1)) k) (let z : j + i + 1 ≡ j + (i + 1) = omega arith in z)
-
-  -- what is left of a list after i of its declarations
-  abbrev pub lists_left : NodeList → ℕ → List (List Row)
-  lists_left l i = lists_at img t l.node.0 (l.count - i) (l.first + i)
-
-  pub lists-done : (l : NodeList) (i : ℕ) → l.count ≤ i → lists_left l i ≡ []
-  lists-done l i h = ap (λ (c : ℕ). lists_at img t l.node.0 c (l.first + i)) (let z : l.count - i ≡ 0 = omega arith in z) ∙ lists-none l.node.0 (l.first + i)
-
-  pub lists-all : (l : NodeList) → lists_of img t l ≡ lists_left l 0
-  lists-all l = ap₂ (lists_at img t l.node.0) (sym (sub-zero l.count)) (sym (add-zero l.first))
+  unfolding lists_at items
+  lists-more n c j = seq-lists-more (field img n j) refl
 
   lists-one : (u : Tree) → rows_by_rule img t (rules_all img unmeant (u ◂ none)) ≡ rows_by_rule img t (rules img unmeant u)
   unfolding rules
@@ -125,7 +122,7 @@ module _ (img : List ℕ) (t : Table) where
   unfolding lists_in rules rows_by_rule node_of
   signature-none is = ap (λ (u : Tree). rows_by_rule img t (rules img unmeant u)) (tree_of img is)
 
-  ctors-none : {kd : Kind} {n : ℕ} → Is img kd n → (c j : ℕ) → Items img n ctor_decl_kind c j → lists_at img t n c j ≡ []
+  ctors-none : {kd : Kind} {n : ℕ} → Is img kd n → (c j : ℕ) → RowItems img n ctor_decl_kind c j → lists_at img t n c j ≡ []
   unfolding kind_of
   ctors-none is zero j h = lists-none _ j
   ctors-none {n = n} is (suc c) j h =
@@ -142,7 +139,7 @@ module _ (img : List ℕ) (t : Table) where
 
   -- a rule: its statements ---------------------------------------------------------------------------------------------------
   -- statements do not depend on the node above
-  items-owner : {kd : Kind} {n : ℕ} → Is img kd n → (c j : ℕ) → Items img n stmt_kind c j → rows_for img t (spots_seq 0 (items img n c j)) ≡ rows_at img t n c j
+  items-owner : {kd : Kind} {n : ℕ} → Is img kd n → (c j : ℕ) → RowItems img n stmt_kind c j → rows_for img t (spots_seq 0 (items img n c j)) ≡ rows_at img t n c j
   unfolding rows_at items spots kind_of bare
   items-owner is zero j h = refl
   items-owner {n = n} is (suc c) j h =
@@ -165,14 +162,6 @@ module _ (img : List ℕ) (t : Table) where
       ap (λ (u : Tree). rows_by_rule img t (rules img unmeant u)) (tree_of img is)
       ∙ free_all img t _ unmeant (append (items img n (field img n 1) 2) none)
       ∙ ap (λ (us : Trees). rows_by_rule img t (rules_all img unmeant us)) (append-none (items img n (field img n 1) 2))
-
-  -- the loop that collects the rows of a list of declarations: after i of them the rows are `now`
-  pub record DeclsLeft (l : NodeList) (i : ℕ) (start now : Rows) : Type 0 where
-    pub left : Left (joined (lists_of img t l)) (joined (lists_left l i)) start now
-
-  pub decls-end : {i : ℕ} {l : NodeList} {start now : Rows} → DeclsLeft l i start now → l.count ≤ i → Appends (joined (lists_of img t l)) start now
-  unfolding joined
-  decls-end {i} {l = l} k h = left_end k.left (ap joined (lists-done l i h))
 
   -- the module --------------------------------------------------------------------------------------------------------------
   module-lists : verdict img ≡ 0 → rows_by_rule img t (module_rules img) ≡ lists_at img t (last img) (field img (last img) 0) 1
@@ -280,43 +269,55 @@ module _ (img : List ℕ) (t : Table) where
         whole = at-list img (λ m j k. lists_in img t n ≡ lists_at img t m k j) q.list w;
       }
 
-  -- the i-th declaration of a list, where d rows stand before
-  pub record DeclItem (l : NodeList) (i x d : ℕ) : Type 0 where
-    pub low : x < l.node.0
+-- the loops over lists of declarations
+module _ {T : Type 0} (img : List ℕ) (t : Table) where
+  -- a loop over what is left in s of the declarations below n, that appends the rows `whole`
+  pub record DeclsLeft (n : ℕ) (whole : List Row) (s : Items T) (start now : Rows) : Type 0 where
+    pub within : Within img decl_kind n s
+    pub left : Left whole (joined (seq_lists img t (trees_of s))) start now
+
+  pub decls-end : {n : ℕ} {whole : List Row} {s : Items T} {start now : Rows} → DeclsLeft n whole s start now → s.left.list.count ≡ 0 → Appends whole start now
+  unfolding joined
+  decls-end {s = s} p e = left_end p.left (ap joined (seq-lists-none img t (none-left s e)))
+
+  -- a declaration x taken from what is left in s, where d rows stand before
+  pub record DeclItem (n x d : ℕ) (s s2 : Items T) : Type 0 where
+    pub low : x < n
     pub listing : Listing img t (kind_of decl_kind) x d
-    pub more : lists_left img t l i ≡ lists_in img t x ++ lists_left img t l (i + 1)
+    pub rest : Within img decl_kind n s2
+    pub more : seq_lists img t (trees_of s) ≡ lists_in img t x ++ seq_lists img t (trees_of s2)
 
-  pub decl_item : {i x c d : ℕ} {l : NodeList} → ListingAll img t l c → i < l.count → x ≡ field img l.node.0 (l.first + i) → d + length (joined (lists_left img t l i)) ≤ nodes img → DeclItem l i x d
-  decl_item {i} {x} {d = d} {l} p h q f =
-      subst (λ (y : ℕ). DeclItem l i y d) (sym q)
-      (record {
-        low = o.0.below;
+  pub decl_item : {n x d : ℕ} {s s2 : Items T} → Within img decl_kind n s → Gave s x s2 → d + length (joined (seq_lists img t (trees_of s))) ≤ nodes img → DeclItem n x d s s2
+  decl_item {n} {x} {d} {s = s} {s2} p o f =
+      let g = taken p o.0 o.1 in
+      let m = seq-lists-more img t x g.trees in
+      record {
+        low = g.low;
         listing = record {
-          is = o.1;
-          few = (let g = subst (λ (k : List Row). d + length k ≤ nodes img) (ap joined m ∙ joined-append (lists_in img t y) (lists_left img t l (i + 1))) f in let a = length-append (joined (lists_in img t y)) (joined (lists_left img t l (i + 1))) in omega arith);
+          is = g.is;
+          few = (let h = subst (λ (k : List Row). d + length k ≤ nodes img) (ap joined m ∙ joined-append (lists_in img t x) (seq_lists img t (trees_of s2))) f in let a = length-append (joined (lists_in img t x)) (joined (seq_lists img t (trees_of s2))) in omega arith);
         };
+        rest = g.rest;
         more = m;
-      })
-    where
-      y : ℕ
-      y = field img l.node.0 (l.first + i)
+      }
 
-      o : Child img l.node.0 decl_kind y × Is img (kind_of decl_kind) y
-      o = run-item img p.run h refl
+  pub decls-start : {l : NodeList} {s begin : Items T} (rows : Rows) → begin ≡ s → ListingAll img t l rows.count → (s.image.now ≡ img) × (s.left.list ≡ l)
+      → DeclsLeft l.node.0 (joined (lists_of img t l)) begin rows rows
+  unfolding lists_at
+  decls-start {l} rows e p h =
+      let o = begun e refl p.run h in
+      record { within = o.within; left = left-start rows (ap (λ (us : Trees). joined (seq_lists img t us)) o.trees) (let f = p.few in let z = (sized img p.run.accepted).few_nodes in omega arith) }
 
-      m : lists_left img t l i ≡ lists_in img t y ++ lists_left img t l (i + 1)
-      m = items-lists img t l.node.0 l.first l.count i h
+  pub decls-item : {x : ℕ} {l : NodeList} {s s2 : Items T} {start now : Rows} → ListingAll img t l start.count → DeclsLeft l.node.0 (joined (lists_of img t l)) s start now → Gave s x s2
+      → DeclItem l.node.0 x now.count s s2
+  decls-item p k o = decl_item k.within o (let e = left-count k.left in let f = p.few in omega arith)
 
-  pub decls-start : {l : NodeList} (rows : Rows) → ListingAll img t l rows.count → DeclsLeft img t l 0 rows rows
-  decls-start {l} rows p =
-      record { left = left-start rows (ap joined (lists-all img t l)) (let f = p.few in let z = (sized img p.run.accepted).few_nodes in omega arith) }
+  pub decls-next : {n x : ℕ} {whole : List Row} {s s2 : Items T} {start now next : Rows} → DeclsLeft n whole s start now → DeclItem n x now.count s s2 → Appends (joined (lists_in img t x)) now next
+      → DeclsLeft n whole s2 start next
+  decls-next {x = x} {s2 = s2} k o a =
+      record { within = o.rest; left = left-next k.left (ap joined o.more ∙ joined-append (lists_in img t x) (seq_lists img t (trees_of s2))) a }
 
-  pub decls-item : {i x : ℕ} {l : NodeList} {start now : Rows} → ListingAll img t l start.count → DeclsLeft img t l i start now → i < l.count → x ≡ field img l.node.0 (l.first + i) → DeclItem l i x now.count
-  decls-item p k h q = decl_item p h q (let e = left-count k.left in let f = p.few in omega arith)
-
-  pub decls-next : {i x : ℕ} {l : NodeList} {start now next : Rows} → DeclsLeft img t l i start now → DeclItem l i x now.count → Appends (joined (lists_in img t x)) now next → DeclsLeft img t l (i + 1) start next
-  decls-next {i} {x} {l} k o a = record { left = left-next k.left (ap joined o.more ∙ joined-append (lists_in img t x) (lists_left img t l (i + 1))) a }
-
+module _ (img : List ℕ) (t : Table) where
   pub record ModuleRun (l : NodeList) : Type 0 where
     pub run : ListingAll img t l 0
     pub by_rule : module_lists img t ≡ lists_of img t l

@@ -3,9 +3,9 @@ use mathlib.Core.Path.{◌≡◌, refl, sym, ap, ap₂, subst, ◌∙◌}
 use mathlib.Core.Bool.{true, false}
 use mathlib.Core.List.{List, [], ◌∷◌, ◌++◌}
 use mathlib.Core.Option.{some}
-use Prim.Native.Nat.{ℕ, suc, ◌+◌, ◌-◌, ◌<◌, ◌≤◌, ◌^◌}
+use Prim.Native.Nat.{ℕ, suc, ◌+◌, ◌<◌, ◌^◌}
 use native.Mathlib.Omega.{arith}
-use native.Mathlib.Nat.{sub-zero, add-zero}
+use native.Mathlib.Nat.{add-zero}
 use lib.Dec.{eqb}
 use lib.ListN.{length, get_or, length-append}
 use Rattle.std.specs.Prelude.{Option as Given, Some, None}
@@ -15,23 +15,27 @@ use Rattle.ast.specs.Named.{app_head_kind, app_head_member_kind, app_term_kind, 
 use Rattle.ast.specs.Tree.{Trees, ordered, tree_at}
 use Rattle.ast.specs.Is.{Is, kind_by, one_term, two_terms}
 use Rattle.ast.proofs.Row.{Child, FormedFields, next}
-use Rattle.ast.proofs.Shapes.{one_more, row, child-is, case-child, run-item, run-list, run-tail}
-use Rattle.ast.proofs.Blocks.{BlocksFrom, blocks_from, blocks-place as place-of-blocks, NextBlock, next-block}
+use Rattle.ast.proofs.Shapes.{row, child-is, case-child, run-list, run-tail}
 use Rattle.typed.specs.Nodes.{term_word}
 use Rattle.typed.specs.RowShapes.{One, Two, Listed, WordList}
 use Rattle.typed.specs.declared.nodes.NodeList.{NodeList}
 use Rattle.typed.specs.declared.nodes.TermId.{TermId}
-use Rattle.typed.proofs.Lists.{at-list}
+use Rattle.typed.specs.declared.nodes.Ids.{Ids}
+use Rattle.typed.specs.declared.nodes.StmtId.{StmtId}
+use Rattle.typed.specs.declared.items.Items.{Items}
+use Rattle.typed.specs.declared.items.Blocks.{Blocks}
+use Rattle.typed.specs.Items.{Others, trees_of, OtherBlocks, block_trees}
+use Rattle.typed.proofs.Lists.{at-list, Within, begun, begun-row, taken, none-left, BlocksWithin, blocks-begun, block-taken, no-block-left}
 use Rattle.table.specs.Table.{Table, is_var}
-use Rattle.environment.specs.Asked.{asked}
+use Rattle.environment.specs.Asked.{asked, Asks}
 use Rattle.environment.proofs.Asking.{ident-below}
 use Rattle.rows.specs.declared.Rows.{Rows}
 use Rattle.rows.specs.Rows.{Row, row as row_of, put_rows, Appends}
-use Rattle.rows.proofs.Parts.{appends-as, appends-no, Left, left-start, left-next, left_end}
+use Rattle.rows.proofs.Parts.{appends-as, appends-no, Left, left-start, left-next, left-room, left_end}
 use Rattle.occurrences.specs.Spots.{spots}
 use Rattle.occurrences.specs.Occurrences.{found, rows_for}
-use Rattle.occurrences.specs.Promises.{spot, ident_rows, rows_in, rows_at, rows_of, Room, Asks, Ready, ReadyRun, ReadyAll}
-use Rattle.occurrences.proofs.CollectRows.{bare, threads, ident-var, ident-rows, owner, one-rows, two-rows, first_rows, if_var-rows, undefined-rows, defined-rows, case_rows, list-rows, items-rows, items-none, child-list-rows, block_rows, branch-rows, block_more, block_none}
+use Rattle.occurrences.specs.Promises.{spot, ident_rows, rows_in, rows_at, rows_of, Room, Ready, ReadyRun, ReadyAll}
+use Rattle.occurrences.proofs.CollectRows.{bare, threads, ident-var, ident-rows, owner, one-rows, two-rows, first_rows, if_var-rows, undefined-rows, defined-rows, case_rows, seq_rows, seq-none, list-rows, items-more, child-list-rows, branch-rows, blocks-more}
 
 -- rows that are equal to what was appended
 pub appends-to : {l k : List Row} {a b : Rows} → l ≡ k → Appends k a b → Appends l a b
@@ -47,41 +51,17 @@ module _ (img : List ℕ) (t : Table) where
   pub ident-put : (n i : ℕ) {b : ℕ} {old new : Rows} → found img t (spot n i) ≡ some b → is_var img (some b) ≡ true → Appends (row_of n b ∷ []) old new → Appends (ident_rows img t n i) old new
   ident-put n i {b} e k a = appends-to (ident-var img t n i b e k) a
 
-  -- the rows of what is left of a list after i of its nodes
-  abbrev rest_of : NodeList → ℕ → List Row
-  rest_of l i = rows_at img t l.node.0 (l.count - i) (l.first + i)
-
-  -- a loop over a list: after i nodes the rows are `now`
-  pub record RowsLeft (l : NodeList) (i : ℕ) (start now : Rows) : Type 0 where
-    pub left : Left (rows_of img t l) (rest_of l i) start now
-
-  pub rows_end : {i : ℕ} {l : NodeList} {start now : Rows} → RowsLeft l i start now → l.count ≤ i → Appends (rows_of img t l) start now
-  rows_end {i} {l = l} s h = left_end s.left (items-none img t l.node.0 l.first l.count i h)
-
-  -- a loop over the blocks of a branch: after i of them it stands at place j
-  pub record BlocksLeft (l : NodeList) (i j : ℕ) (start now : Rows) : Type 0 where
-    pub from : BlocksFrom img l.node.0 l.count i j
-    pub left : Left (rows_in img t l.node.0) (block_rows img t l.node.0 (l.count - i) j) start now
-
-  pub blocks-place : {i j : ℕ} {l : NodeList} {start now : Rows} → BlocksLeft l i j start now → j ≤ 8192
-  blocks-place b = place-of-blocks img b.from
-
-  pub blocks-end : {n i j : ℕ} {l : NodeList} {start now : Rows} → Listed img n 0 l → BlocksLeft l i j start now → l.count ≤ i → Appends (rows_in img t n) start now
-  blocks-end {n} {i} {j} {l} q b h =
-      appends-to (ap (rows_in img t) (sym q.node))
-      (left_end b.left (ap (λ (x : ℕ). block_rows img t l.node.0 x j) (let z : l.count - i ≡ 0 = omega arith in z) ∙ block_none img t l.node.0 j))
-
 -- what a collector asks
+room_as : {l k : List Row} {c : ℕ} → l ≡ k → Room l c → Room k c
+room_as {c = c} e h = subst (λ (l : List Row). Room l c) e h
+
+room-first : (l k : List Row) {c : ℕ} → Room (l ++ k) c → Room l c
+room-first l k h = record { fits = (let f = h.fits in let g = length-append l k in omega arith) }
+
+room-second : (l k : List Row) {c r : ℕ} → Room (l ++ k) c → r ≡ c + length l → Room k r
+room-second l k h e = record { fits = (let f = h.fits in let g = length-append l k in omega arith) }
+
 module _ (img : List ℕ) (t : Table) where
-  room_as : {l k : List Row} {c : ℕ} → l ≡ k → Room l c → Room k c
-  room_as {c = c} e h = subst (λ (l : List Row). Room l c) e h
-
-  room-first : (l k : List Row) {c : ℕ} → Room (l ++ k) c → Room l c
-  room-first l k h = record { fits = (let f = h.fits in let g = length-append l k in omega arith) }
-
-  room-second : (l k : List Row) {c r : ℕ} → Room (l ++ k) c → r ≡ c + length l → Room k r
-  room-second l k h e = record { fits = (let f = h.fits in let g = length-append l k in omega arith) }
-
   -- one child, whose rows are the node's
   pub record Sub (kd : Kind) (n d c : ℕ) : Type 0 where
     pub low : d < n
@@ -242,87 +222,100 @@ module _ (img : List ℕ) (t : Table) where
   pub ident-fits : (n i : ℕ) {b c : ℕ} → found img t (spot n i) ≡ some b → is_var img (some b) ≡ true → Room (ident_rows img t n i) c → c + 1 < 2 ^ 32
   ident-fits n i {b} e k p = (room_as (ident-var img t n i b e k) p).fits
 
-  -- lists -------------------------------------------------------------------------------------------------------------------------
-  pub rows_start : {k : ℕ} {l : NodeList} (rows : Rows) → ReadyAll img t k l rows.count → RowsLeft img t l 0 rows rows
-  rows_start {l = l} rows p =
-      record { left = left-start rows (ap₂ (rows_at img t l.node.0) (sym (sub-zero l.count)) (sym (add-zero l.first))) p.room.fits }
+-- lists ---------------------------------------------------------------------------------------------------------------------------
+-- a call gave the node x from what is left in s
+abbrev pub Gave : {T : Type 0} → Items T → ℕ → Items T → Type 0
+Gave s x s2 = Others s s2 × (x ≡ field s.image.now s.left.list.node.0 s.left.list.first)
 
-  -- the i-th node, where the loop stands at d
-  pub record Item (k : ℕ) (l : NodeList) (i x d : ℕ) : Type 0 where
-    pub low : x < l.node.0
+module _ {T : Type 0} (img : List ℕ) (t : Table) where
+  -- a loop over what is left in s of the children of n, of kind k, that appends the rows `whole`
+  pub record RowsLeft (k n : ℕ) (whole : List Row) (s : Items T) (start now : Rows) : Type 0 where
+    pub within : Within img k n s
+    pub left : Left whole (seq_rows img t n (trees_of s)) start now
+
+  pub rows_end : {k n : ℕ} {whole : List Row} {s : Items T} {start now : Rows} → RowsLeft k n whole s start now → s.left.list.count ≡ 0 → Appends whole start now
+  rows_end {n = n} {s = s} p e = left_end p.left (seq-none img t n (none-left s e))
+
+  -- a loop begins: over a list that is given, and over one that is read from the row of n
+  pub rows_start : {k : ℕ} {l : NodeList} {s begin : Items T} (rows : Rows) → begin ≡ s → ReadyAll img t k l rows.count → (s.image.now ≡ img) × (s.left.list ≡ l)
+      → RowsLeft k l.node.0 (rows_of img t l) begin rows rows
+  unfolding rows_at
+  rows_start {l = l} rows e p h =
+      let o = begun e refl p.run h in
+      record { within = o.within; left = left-start rows (ap (seq_rows img t l.node.0) o.trees) p.room.fits }
+
+  pub row_start : {k n j : ℕ} {whole : List Row} {l : NodeList} {s begin : Items T} (rows : Rows) → begin ≡ s → ReadyRun img t k n (j + 1) (field img n j) rows.count
+      → whole ≡ rows_at img t n (field img n j) (j + 1) → Listed img n j l → (s.image.now ≡ img) × (s.left.list ≡ l) → RowsLeft k n whole begin rows rows
+  unfolding rows_at
+  row_start {n = n} rows e p w q h =
+      let o = begun-row e q p.run h in
+      record { within = o.within; left = left-start rows (w ∙ ap (seq_rows img t n) o.trees) (room_as (sym w) p.room).fits }
+
+  -- a node x taken from what is left in s, where the loop stands at d
+  pub record Item (k n x d : ℕ) (s s2 : Items T) : Type 0 where
+    pub low : x < n
     pub ready : Ready img t (kind_of k) x d
-    pub more : rest_of img t l i ≡ rows_in img t x ++ rest_of img t l (i + 1)
+    pub rest : Within img k n s2
+    pub more : seq_rows img t n (trees_of s) ≡ rows_in img t x ++ seq_rows img t n (trees_of s2)
 
-  item_of : {k i x b : ℕ} {l : NodeList} {start now : Rows} → bare (kind_of k).class ≡ true → ReadyAll img t k l b → RowsLeft img t l i start now → i < l.count
-      → x ≡ field img l.node.0 (l.first + i) → Item k l i x now.count
-  item_of {k} {i} {x} {l = l} {now = now} u p s h q =
-      subst (λ (y : ℕ). Item k l i y now.count) (sym q)
-      (record {
-        low = o.0.below;
-        ready = record { is = o.1; room = room-first _ _ (room_as more (record { fits = s.left.fits })) };
-        more = more;
-      })
-    where
-      o : Child img l.node.0 k (field img l.node.0 (l.first + i)) × Is img (kind_of k) (field img l.node.0 (l.first + i))
-      o = run-item img p.run h refl
+  item_of : {k n x : ℕ} {whole : List Row} {s s2 : Items T} {start now : Rows} → bare (kind_of k).class ≡ true → RowsLeft k n whole s start now
+      → Gave s x s2 → Item k n x now.count s s2
+  item_of {n = n} {x} u p o =
+      let g = taken p.within o.0 o.1 in
+      let m = items-more img t n x g.is u g.trees in
+      record { low = g.low; ready = record { is = g.is; room = record { fits = left-room _ _ p.left m } }; rest = g.rest; more = m }
 
-      more : rest_of img t l i ≡ rows_in img t (field img l.node.0 (l.first + i)) ++ rest_of img t l (i + 1)
-      more = items-rows img t l.node.0 l.first l.count i h o.1 u
-
-  pub term-item : {i x b : ℕ} {l : NodeList} {start now : Rows} → ReadyAll img t term_kind l b → RowsLeft img t l i start now → i < l.count
-      → x ≡ field img l.node.0 (l.first + i) → Item term_kind l i x now.count
+  pub term-item : {n x : ℕ} {whole : List Row} {s s2 : Items T} {start now : Rows} → RowsLeft term_kind n whole s start now
+      → Gave s x s2 → Item term_kind n x now.count s s2
   unfolding kind_of bare
-  term-item p s h q = item_of refl p s h q
+  term-item p o = item_of refl p o
 
-  pub stmt-item : {i x b : ℕ} {l : NodeList} {start now : Rows} → ReadyAll img t stmt_kind l b → RowsLeft img t l i start now → i < l.count
-      → x ≡ field img l.node.0 (l.first + i) → Item stmt_kind l i x now.count
+  pub stmt-item : {n x : ℕ} {whole : List Row} {s s2 : Items T} {start now : Rows} → RowsLeft stmt_kind n whole s start now
+      → Gave s x s2 → Item stmt_kind n x now.count s s2
   unfolding kind_of bare
-  stmt-item p s h q = item_of refl p s h q
+  stmt-item p o = item_of refl p o
 
-  pub case-item : {i x b : ℕ} {l : NodeList} {start now : Rows} → ReadyAll img t match_case_kind l b → RowsLeft img t l i start now → i < l.count
-      → x ≡ field img l.node.0 (l.first + i) → Item match_case_kind l i x now.count
+  pub case-item : {n x : ℕ} {whole : List Row} {s s2 : Items T} {start now : Rows} → RowsLeft match_case_kind n whole s start now
+      → Gave s x s2 → Item match_case_kind n x now.count s s2
   unfolding kind_of bare
-  case-item p s h q = item_of refl p s h q
+  case-item p o = item_of refl p o
 
-  pub rows_next : {k i x : ℕ} {l : NodeList} {start now next : Rows} → RowsLeft img t l i start now → Item k l i x now.count → Appends (rows_in img t x) now next → RowsLeft img t l (i + 1) start next
-  rows_next s o a = record { left = left-next s.left o.more a }
+  pub rows_next : {k n x : ℕ} {whole : List Row} {s s2 : Items T} {start now next : Rows} → RowsLeft k n whole s start now → Item k n x now.count s s2
+      → Appends (rows_in img t x) now next → RowsLeft k n whole s2 start next
+  rows_next p o a = record { within = o.rest; left = left-next p.left o.more a }
 
+module _ (img : List ℕ) (t : Table) where
   -- a term list: its terms
-  pub record ListRun (k n : ℕ) (l : NodeList) (c : ℕ) : Type 0 where
-    pub node : l.node.0 ≡ n
-    pub run : ReadyAll img t k l c
-    pub whole : rows_in img t n ≡ rows_of img t l
+  pub record ListRun (k n c : ℕ) : Type 0 where
+    pub run : ReadyRun img t k n 1 (field img n 0) c
+    pub whole : rows_in img t n ≡ rows_at img t n (field img n 0) 1
 
-  list_run : {k n c : ℕ} {l : NodeList} → Ready img t (kind_by (inner plain) (list k ∷ [])) n c → Listed img n 0 l → ListRun k n l c
-  list_run {k} {n} {c} p q =
+  list_run : {k n c : ℕ} → Ready img t (kind_by (inner plain) (list k ∷ [])) n c → ListRun k n c
+  list_run {k} {n} {c} p =
       let w = list-rows img t p.is in
-      record {
-        node = q.node;
-        run = at-list img (λ m j s. ReadyRun img t k m j s c) q (record { run = run-list img p.is refl; room = room_as w p.room });
-        whole = at-list img (λ m j s. rows_in img t n ≡ rows_at img t m s j) q w;
-      }
+      record { run = record { run = run-list img p.is refl; room = room_as w p.room }; whole = w }
 
-  pub term_list : {n c : ℕ} {l : NodeList} → Ready img t (kind_of term_list_kind) n c → Listed img n 0 l → ListRun term_kind n l c
+  pub term_list : {n c : ℕ} → Ready img t (kind_of term_list_kind) n c → ListRun term_kind n c
   unfolding kind_of
-  term_list p q = list_run p q
+  term_list p = list_run p
 
-  -- a term, then a list: a match case and a match
-  pub record ThenList (k n a : ℕ) (l : NodeList) (c : ℕ) : Type 0 where
-    pub node : l.node.0 ≡ n
+  -- a term a, then the s nodes from place j of the row of m on: a match case and a match
+  pub record ThenList (k n a c m j s : ℕ) : Type 0 where
+    pub node : m ≡ n
     pub first : Ready img t (kind_of term_kind) a c
-    pub second : {r : ℕ} → r ≡ c + length (rows_in img t a) → ReadyAll img t k l r
-    pub whole : rows_in img t n ≡ rows_in img t a ++ rows_of img t l
+    pub second : {r : ℕ} → r ≡ c + length (rows_in img t a) → ReadyRun img t k m j s r
+    pub whole : rows_in img t n ≡ rows_in img t a ++ rows_at img t m s j
 
-  then_list : (cl : Class) {k n a c : ℕ} {l : NodeList} → threads cl ≡ true → ((ts : Trees) → ordered cl ts ≡ ts) → Ready img t (kind_by cl (child term_kind ∷ list k ∷ [])) n c
-      → WordList img n a l → ThenList k n a l c
+  then_list : (cl : Class) {k n a c : ℕ} → threads cl ≡ true → ((ts : Trees) → ordered cl ts ≡ ts) → Ready img t (kind_by cl (child term_kind ∷ list k ∷ [])) n c
+      → a ≡ field img n 0 → ThenList k n a c n 2 (field img n 1)
   unfolding FormedFields next kind_of bare
-  then_list cl {k} {n} {a} {c} {l} u straight p q =
-      subst (λ (x : ℕ). ThenList k n x l c) (sym q.first)
+  then_list cl {k} {n} {a} {c} u straight p q =
+      subst (λ (x : ℕ). ThenList k n x c n 2 (field img n 1)) (sym q)
       (record {
-        node = q.list.node;
+        node = refl;
         first = record { is = is; room = room-first _ _ room };
-        second = λ {r} e. at-list img (λ m j s. ReadyRun img t k m j s r) q.list (record { run = run-tail img p.is refl refl; room = room-second (rows_in img t (field img n 0)) (rows_at img t n (field img n 1) 2) room e });
-        whole = at-list img (λ m j s. rows_in img t n ≡ rows_in img t (field img n 0) ++ rows_at img t m s j) q.list w;
+        second = λ {r} e. record { run = run-tail img p.is refl refl; room = room-second (rows_in img t (field img n 0)) (rows_at img t n (field img n 1) 2) room e };
+        whole = w;
       })
     where
       h : Child img n term_kind (field img n 0)
@@ -337,51 +330,42 @@ module _ (img : List ℕ) (t : Table) where
       room : Room (rows_in img t (field img n 0) ++ rows_at img t n (field img n 1) 2) c
       room = room_as w p.room
 
-  pub match_case : {n a c : ℕ} {l : NodeList} → Ready img t (kind_of match_case_kind) n c → WordList img n a l → ThenList stmt_kind n a l c
+  pub match_case : {n a c : ℕ} {l : NodeList} → Ready img t (kind_of match_case_kind) n c → WordList img n a l → ThenList stmt_kind n a c l.node.0 l.first l.count
   unfolding kind_of threads ordered
-  match_case p q = then_list (inner case) refl (λ ts. refl) p q
+  match_case {n} {a} {c} p q = at-list img (ThenList stmt_kind n a c) q.list (then_list (inner case) refl (λ ts. refl) p q.first)
 
-  pub match_of : {n a c : ℕ} {l : NodeList} → Ready img t (kind_of match_stmt_kind) n c → WordList img n a l → ThenList match_case_kind n a l c
+  pub match_of : {n a c : ℕ} → Ready img t (kind_of match_stmt_kind) n c → a ≡ field img n 0 → ThenList match_case_kind n a c n 2 (field img n 1)
   unfolding kind_of threads ordered
   match_of p q = then_list (inner plain) refl (λ ts. refl) p q
 
-  pub blocks_start : {n : ℕ} {l : NodeList} (rows : Rows) → Ready img t (kind_of branch_stmt_kind) n rows.count → Listed img n 0 l → BlocksLeft img t l 0 l.first rows rows
-  blocks_start {n} {l} rows p q =
-      subst (λ (j : ℕ). BlocksLeft img t l 0 j rows rows) (sym q.first)
-      (record {
-        from = blocks_from img o.is e;
-        left = left-start rows (branch-rows img t o.is ∙ ap (λ (x : ℕ). block_rows img t l.node.0 x 1) (sym e ∙ sym (sub-zero l.count))) o.room.fits;
-      })
-    where
-      o : Ready img t (kind_of branch_stmt_kind) l.node.0 rows.count
-      o = subst (λ (x : ℕ). Ready img t (kind_of branch_stmt_kind) x rows.count) (sym q.node) p
+  -- a loop over what is left in s of the blocks of the branch n
+  pub record BlocksLeft (n : ℕ) (s : Blocks) (start now : Rows) : Type 0 where
+    pub within : BlocksWithin img n s
+    pub left : Left (rows_in img t n) (seq_rows img t n (block_trees s)) start now
 
-      e : l.count ≡ field img l.node.0 0
-      e = q.count ∙ ap (λ (x : ℕ). field img x 0) (sym q.node)
+  pub blocks-end : {n : ℕ} {s : Blocks} {start now : Rows} → BlocksLeft n s start now → s.left.list.count ≡ 0 → Appends (rows_in img t n) start now
+  blocks-end {n} {s} p e = left_end p.left (seq-none img t n (no-block-left s e))
 
-  -- the block k at the place where the loop stands
-  pub record Block (l : NodeList) (i : ℕ) (start now : Rows) (k : NodeList) : Type 0 where
-    pub node : k.node.0 ≡ l.node.0
-    pub run : ReadyAll img t stmt_kind k now.count
-    pub more : {end : Rows} → Appends (rows_of img t k) now end → BlocksLeft img t l (i + 1) (k.first + k.count) start end
+  pub blocks_start : {n : ℕ} {l : NodeList} {s begin : Blocks} (rows : Rows) → begin ≡ s → Ready img t (kind_of branch_stmt_kind) n rows.count → Listed img n 0 l
+      → (s.image.now ≡ img) × (s.left.list ≡ l) → BlocksLeft n begin rows rows
+  blocks_start {n} rows e p q h =
+      let o = blocks-begun e p.is q h in
+      record { within = o.within; left = left-start rows (branch-rows img t p.is ∙ ap (seq_rows img t n) o.trees) p.room.fits }
 
-  pub block_of : {n i j b : ℕ} {l k : NodeList} {start now : Rows} → Ready img t (kind_of branch_stmt_kind) n b → BlocksLeft img t l i j start now → i < l.count → Listed img l.node.0 j k → Block l i start now k
-  block_of {i = i} {j} {l = l} {k} {start} {now} p b h q =
-      record {
-        node = q.node;
-        run = at-list img (λ m x s. ReadyRun img t stmt_kind m x s now.count) q (record { run = o.run; room = room-first _ _ (room_as m (record { fits = b.left.fits })) });
-        more = λ {end} g. at-list img (λ x y s. Appends (rows_at img t x s y) now end → BlocksLeft img t l (i + 1) (y + s) start end) q
-            (λ f. record { from = o.from; left = left-next b.left m f }) g;
-      }
-    where
-      z : ℕ
-      z = field img l.node.0 j
+  -- a block k taken from what is left in s, where the loop stands at d
+  pub record Block (n : ℕ) (k : NodeList) (d : ℕ) (s s2 : Blocks) : Type 0 where
+    pub node : k.node.0 ≡ n
+    pub run : ReadyAll img t stmt_kind k d
+    pub rest : BlocksWithin img n s2
+    pub more : seq_rows img t n (block_trees s) ≡ rows_of img t k ++ seq_rows img t n (block_trees s2)
 
-      rest : ℕ
-      rest = l.count - (i + 1)
+  pub block_of : {n : ℕ} {k : Ids StmtId} {s s2 : Blocks} {start now : Rows} → BlocksLeft n s start now
+      → OtherBlocks s k s2 × Listed s.image.now s.left.list.node.0 s.left.list.first k.list → Block n k.list now.count s s2
+  block_of {k = k} p o =
+      let g = block-taken p.within o.0 o.1 in
+      let m = blocks-more img t k.list g.node g.trees in
+      record { node = g.node; run = record { run = g.run; room = record { fits = left-room _ _ p.left m } }; rest = g.rest; more = m }
 
-      o : NextBlock img l.node.0 l.count i j
-      o = next-block img b.from h
-
-      m : block_rows img t l.node.0 (l.count - i) j ≡ rows_at img t l.node.0 z (j + 1) ++ block_rows img t l.node.0 rest (j + 1 + z)
-      m = ap (λ (x : ℕ). block_rows img t l.node.0 x j) (one_more h) ∙ block_more img t l.node.0 rest j
+  pub blocks_next : {n : ℕ} {k : NodeList} {s s2 : Blocks} {start now next : Rows} → BlocksLeft n s start now → Block n k now.count s s2
+      → Appends (rows_of img t k) now next → BlocksLeft n s2 start next
+  blocks_next p o a = record { within = o.rest; left = left-next p.left o.more a }

@@ -2,7 +2,7 @@
 -- collector asks before it starts; how bindings are counted.
 use Rattle.std.specs.Prelude.{◌≡◌, true, false, List, [], ◌∷◌, ◌++◌, ℕ, ◌+◌, ◌<◌, ◌≤◌, ◌^◌, leb, length, get_or, set, Result, Ok, Err}
 use Rattle.std.proofs.Math.Option.{Option, none as nothing, some}
-use Rattle.ast.specs.Image.{nodes, name_of}
+use Rattle.ast.specs.Image.{nodes}
 use Rattle.ast.specs.Kinds.{Kind}
 use Rattle.ast.specs.Tree.{tree_at}
 use Rattle.ast.specs.Items.{items}
@@ -12,19 +12,11 @@ use Rattle.ast.specs.Tests.{verdict}
 use Rattle.typed.specs.declared.nodes.NodeList.{NodeList}
 use Rattle.table.specs.Table.{Table}
 use Rattle.table.specs.Rising.{node_at}
-use Rattle.environment.specs.Layout.{names_most}
-use Rattle.environment.specs.Asked.{asked}
-use Rattle.environment.specs.Reading.{table_in}
-use Rattle.environment.specs.declared.Scopes.{Scopes}
 use Rattle.rows.specs.Rows.{Row, row}
 use Rattle.occurrences.specs.Spots.{Spot, spots, spots_seq}
 use Rattle.ast.specs.Rules.{rules, rules_all, module_rules}
 use Rattle.occurrences.specs.Occurrences.{rows_for, occurrence_rows, rows_by_rule}
 use Rattle.occurrences.specs.declared.Lone.{Lone}
-
--- what a definition says of the image and the table that are read
-abbrev pub seen {ℓ} : {A : Type ℓ} → (List ℕ → Table → A) → Scopes → A
-seen f s = f s.image.now (table_in s)
 
 abbrev pub spot : ℕ → ℕ → Spot
 spot n i = record { node = n; ident = i }
@@ -70,13 +62,8 @@ joined (l ∷ ls) = l ++ joined ls
 pub record Room (l : List Row) (c : ℕ) : Type 0 where
   pub fits : c + length l < 2 ^ 32
 
--- n is a Term or AppHead of case Ident, with the ident i: its name is asked for there
-pub record Asks (img : List ℕ) (n i : ℕ) : Type 0 where
-  pub low : n < nodes img
-  pub is : asked img n ≡ some (name_of img i)
-  pub below : name_of img i < names_most
-
--- what a collector asks: the node is of its kind, and there is room for the rows of its tree
+-- what a collector asks: the node is of its kind, and there is room for the rows of its tree. A predicate, since it is of image, node
+-- and count together
 pub record Ready (img : List ℕ) (t : Table) (kd : Kind) (n c : ℕ) : Type 0 where
   pub is : Is img kd n
   pub room : Room (rows_in img t n) c

@@ -3,20 +3,24 @@
 // its own, and a walk for both would take as a parameter all that it does.
 #![tactic(auto)]
 
-ghost use Rattle.std.specs.Prelude.{◌≡◌, ◌≤◌, length, get_or, set, replicate};
+ghost use Rattle.std.specs.Prelude.{◌≡◌, ◌≤◌, length, get_or, set, replicate, ltb};
 ghost use Rattle.ast.specs.Image as ImageSpec;
 ghost use Rattle.ast.specs.Kinds.{kind_of};
 ghost use Rattle.ast.specs.Named.{app_head_kind, branch_stmt_kind, decl_kind, if_atom_kind, match_case_kind, match_stmt_kind, pred_expr_kind, rule_decl_kind, stmt_kind, term_kind, term_list_kind, then_atom_kind, type_expr_kind};
 ghost use Rattle.ast.specs.Promises.{bump, claim_all};
 ghost use Rattle.ast.specs.Rules.{module_rules};
+ghost use Rattle.ast.specs.Times.{counts};
+ghost use Rattle.environment.specs.Asked.{Asks};
+ghost use Rattle.environment.specs.Reading.{seen};
 ghost use Rattle.rows.specs.Rows.{rights, rows_length, Appends, Wrote, shown};
 ghost use Rattle.scopes.specs.Answers.{rowed_answer};
 ghost use Rattle.occurrences.specs.Answers.{once_answer};
 ghost use Rattle.occurrences.specs.Occurrences as OccurrencesSpec;
 ghost use Rattle.occurrences.specs.Occurrences.{occurrence_rows, lone};
-ghost use Rattle.occurrences.specs.Promises.{seen, ident_rows, rows_in, rows_of, Room, Asks, Ready, ReadyAll, joined, lists_in, lists_of, module_lists, Listing, ListingAll, Whole, under, uncounted, lone_of};
+ghost use Rattle.occurrences.specs.Promises.{ident_rows, rows_in, rows_of, Room, Ready, ReadyAll, joined, lists_in, lists_of, module_lists, Listing, ListingAll, Whole, under, uncounted, lone_of};
 
-use ast::NodeId;
+use ast::times::Times;
+use ast::{NODES, NodeId};
 use environment::{Environment, Scopes};
 use error::Unresolved;
 use rows::{Rows, Written};
@@ -30,7 +34,8 @@ pub struct Lone {
     pub binding: NodeId,
 }
 
-// Once: resolves, then looks for the first lone occurrence.
+// Once: resolves, then looks for the first lone occurrence. It begins as Occurrences and Errors do: a function of what the three
+// share would lend the words on in `Scopes`, and no clause could say what is in them where a name is declared twice.
 pub fn check_occurrences(image: &[u8], table: &mut [u32]) -> Result<Option<Lone>, Unresolved>
     ensures { OccurrencesSpec.once image.now table.old ≡ record { answer = once_answer result; table = table.new } }
 {
@@ -61,8 +66,8 @@ struct OccurrencesChecker<'a> {
 // fixed. That all counts are 0 between two rules is no fact of the struct, since it fails while a rule is counted.
 #[derive(Drop)]
 struct Scratch {
-    rows: [u32; 4097],
-    counts: [u32; 2048],
+    rows: [u32; rows::MOST_WORDS],
+    counts: [Times; NODES],
 }
 
 impl<'a> OccurrencesChecker<'a> {
@@ -72,24 +77,21 @@ impl<'a> OccurrencesChecker<'a> {
         let module = ModuleId(NodeId(ast::node_count(self.scopes.image) - 1));
         let Module { decls } = typed::module(self.scopes.image, module);
         let mut scratch = Scratch {
-            rows: [0; 4097],
-            counts: [0; 2048],
+            rows: [0; rows::MOST_WORDS],
+            counts: [Times::Never; NODES],
         };
         self.check_decls(&mut scratch, decls)
     }
 
-    // The loops over declarations, statements, cases and terms stand apart, as in the Rust. One over a method of a trait is not
-    // covered by the check, since the method leads back to the loop; one over a closure would state of each item what its step
-    // asks and appends, which is no plainer.
+    // A loop over declarations, and one over statements, is a function, since several call it; the Rust has the loop in each.
     #[cycle(check)]
     fn check_decls(&self, scratch: &mut Scratch, decls: Ids<DeclId>) -> Result<(), Lone>
         requires listing { seen ListingAll self.now.scopes decls.list 0 }
-        requires clean { scratch.old.counts ≡ replicate 2048 0 }
+        requires clean { counts scratch.old.counts ≡ replicate 2048 0 }
         ensures lone { lone_of result ≡ lone (seen lists_of self.now.scopes decls.list) }
-        ensures clean { scratch.new.counts ≡ scratch.old.counts }
+        ensures clean { counts scratch.new.counts ≡ counts scratch.old.counts }
     {
-        for i in 0..decls.list.count {
-            let decl = typed::nth(self.scopes.image, decls, i);
+        for decl in decls.of(self.scopes.image) {
             self.check_decl(scratch, decl)?;
         }
         Ok(())
@@ -98,9 +100,9 @@ impl<'a> OccurrencesChecker<'a> {
     #[cycle(check)]
     fn check_decl(&self, scratch: &mut Scratch, decl: DeclId) -> Result<(), Lone>
         requires listing { seen Listing self.now.scopes (kind_of decl_kind) decl.0.0 0 }
-        requires clean { scratch.old.counts ≡ replicate 2048 0 }
+        requires clean { counts scratch.old.counts ≡ replicate 2048 0 }
         ensures lone { lone_of result ≡ lone (seen lists_in self.now.scopes decl.0.0) }
-        ensures clean { scratch.new.counts ≡ scratch.old.counts }
+        ensures clean { counts scratch.new.counts ≡ counts scratch.old.counts }
     {
         match typed::decl(self.scopes.image, decl) {
             Decl::Type(_) | Decl::Pred(_) | Decl::Func(_) | Decl::Const(_) | Decl::Enum(_) => Ok(
@@ -118,9 +120,9 @@ impl<'a> OccurrencesChecker<'a> {
     // counts are 0 again.
     fn check_rule(&self, scratch: &mut Scratch, rule: RuleDeclId) -> Result<(), Lone>
         requires listing { seen Listing self.now.scopes (kind_of rule_decl_kind) rule.0.0 0 }
-        requires clean { scratch.old.counts ≡ replicate 2048 0 }
+        requires clean { counts scratch.old.counts ≡ replicate 2048 0 }
         ensures lone { lone_of result ≡ lone (seen lists_in self.now.scopes rule.0.0) }
-        ensures clean { scratch.new.counts ≡ scratch.old.counts }
+        ensures clean { counts scratch.new.counts ≡ counts scratch.old.counts }
     {
         let RuleDecl { body, .. } = typed::rule_decl(self.scopes.image, rule);
         let mut rows = Rows::empty(&mut scratch.rows, ast::node_count(self.scopes.image));
@@ -137,8 +139,7 @@ impl<'a> OccurrencesChecker<'a> {
         requires { seen ReadyAll self.now.scopes stmt_kind stmts.list rows.old.count }
         ensures { Appends (seen rows_of self.now.scopes stmts.list) rows.old rows.new }
     {
-        for i in 0..stmts.list.count {
-            let stmt = typed::nth(self.scopes.image, stmts, i);
+        for stmt in stmts.of(self.scopes.image) {
             self.collect_stmt(rows, stmt);
         }
     }
@@ -168,11 +169,8 @@ impl<'a> OccurrencesChecker<'a> {
         ensures { Appends (seen rows_in self.now.scopes id.0.0) rows.old rows.new }
     {
         let BranchStmt { blocks } = typed::branch_stmt(self.scopes.image, id);
-        let mut place = blocks.list.first;
-        for i in 0..blocks.list.count {
-            let block = typed::block(self.scopes.image, blocks, place);
+        for block in blocks.of(self.scopes.image) {
             self.collect_stmts(rows, block);
-            place = block.list.first + block.list.count;
         }
     }
 
@@ -183,8 +181,7 @@ impl<'a> OccurrencesChecker<'a> {
     {
         let MatchStmt { term, cases } = typed::match_stmt(self.scopes.image, id);
         self.collect_term(rows, term);
-        for i in 0..cases.list.count {
-            let case = typed::nth(self.scopes.image, cases, i);
+        for case in cases.of(self.scopes.image) {
             self.collect_match_case(rows, case);
         }
     }
@@ -199,6 +196,7 @@ impl<'a> OccurrencesChecker<'a> {
         self.collect_stmts(rows, body);
     }
 
+    // Atoms, and below types and predicates: an arm for each case, as in the Rust; two enums share no arm but by its text.
     fn collect_if_atom(&self, rows: &mut Rows, atom: IfAtomId)
         requires { seen Ready self.now.scopes (kind_of if_atom_kind) atom.0.0 rows.old.count }
         ensures { Appends (seen rows_in self.now.scopes atom.0.0) rows.old rows.new }
@@ -316,8 +314,7 @@ impl<'a> OccurrencesChecker<'a> {
         ensures { Appends (seen rows_in self.now.scopes list.0.0) rows.old rows.new }
     {
         let TermList { terms } = typed::term_list(self.scopes.image, list);
-        for i in 0..terms.list.count {
-            let term = typed::nth(self.scopes.image, terms, i);
+        for term in terms.of(self.scopes.image) {
             self.collect_term(rows, term);
         }
     }
@@ -349,49 +346,67 @@ impl<'a> OccurrencesChecker<'a> {
     }
 }
 
-// The binding of each row counted.
-fn count_bindings(rows: Written, counts: &mut [u32; 2048])
-    ensures { counts.new ≡ claim_all (rights (shown rows.entry)) counts.old }
+// The binding of each row counted. A loop here and in `clear_bindings`: a closure for the one call is no shorter.
+fn count_bindings(rows: Written, times: &mut [Times; NODES])
+    ensures { counts times.new ≡ claim_all (rights (shown rows.entry)) (counts times.old) }
 {
-    for i in 0..rows.count {
-        count_binding(counts, rows.right(i) as usize);
+    for (_, binding) in rows.pairs() {
+        count_binding(times, binding as usize);
     }
 }
 
-// One more for the binding: 0, 1, or 2 for several. A number, as in the Rust: an enum that is compared with two is no plainer.
-fn count_binding(counts: &mut [u32; 2048], binding: usize)
-    ensures { counts.new ≡ set counts.old binding (bump (get_or counts.old binding 0)) }
+// The binding counted once more.
+fn count_binding(times: &mut [Times; NODES], binding: usize)
+    ensures { counts times.new ≡ set (counts times.old) binding (bump (get_or (counts times.old) binding 0)) }
 {
-    if table::get(counts, binding) == 0 {
-        table::put(counts, binding, 1);
-    } else {
-        table::put(counts, binding, 2);
+    if binding < times.len() {
+        times[binding] = times[binding].more();
     }
 }
 
-// The binding of each row counted 0 times again.
-fn clear_bindings(rows: Written, counts: &mut [u32; 2048])
-    ensures { counts.new ≡ uncounted (rights (shown rows.entry)) counts.old }
+// No binding of a row counted any more.
+fn clear_bindings(rows: Written, times: &mut [Times; NODES])
+    ensures { counts times.new ≡ uncounted (rights (shown rows.entry)) (counts times.old) }
 {
-    for i in 0..rows.count {
-        table::put(counts, rows.right(i) as usize, 0);
+    for (_, binding) in rows.pairs() {
+        clear_binding(times, binding as usize);
     }
+}
+
+// The binding not counted any more.
+fn clear_binding(times: &mut [Times; NODES], binding: usize)
+    ensures { counts times.new ≡ set (counts times.old) binding 0 }
+{
+    if binding < times.len() {
+        times[binding] = Times::Never;
+    }
+}
+
+// Whether the binding is counted under two times.
+fn is_lone(times: &[Times; NODES], binding: usize) -> bool
+    ensures { result ≡ ltb (get_or (counts times.now) binding 0) 2 }
+{
+    times.len() <= binding || times[binding] != Times::Several
 }
 
 // The first row whose binding is counted under two times.
-fn first_lone(rows: Written, counts: &[u32; 2048]) -> Result<(), Lone>
-    ensures { lone_of result ≡ under counts.now (shown rows.entry) }
+fn first_lone(rows: Written, times: &[Times; NODES]) -> Result<(), Lone>
+    ensures { lone_of result ≡ under (counts times.now) (shown rows.entry) }
 {
-    match (0..rows.count).find(|&i| table::get(counts, rows.right(i) as usize) < 2) {
-        Some(i) => Err(Lone {
-            node: NodeId(rows.left(i)),
-            binding: NodeId(rows.right(i)),
+    match rows
+        .pairs()
+        .find(|&(_, binding)| is_lone(times, binding as usize))
+    {
+        Some((node, binding)) => Err(Lone {
+            node: NodeId(node),
+            binding: NodeId(binding),
         }),
         None => Ok(()),
     }
 }
 
-// Occurrences: resolves, then lists every variable occurrence with its binding.
+// Occurrences: resolves, then lists every variable occurrence with its binding. It begins as Once and Errors do: a function of
+// what the three share would lend the words on in `Scopes`, and no clause could say what is in them where a name is declared twice.
 pub fn occurrences(image: &[u8], table: &mut [u32], rows: &mut [u32]) -> Result<u32, Unresolved>
     ensures { OccurrencesSpec.occurrences image.now table.old rows.old ≡ record { answer = rowed_answer result; table = table.new; rows = rows.new } }
 {
@@ -431,13 +446,13 @@ impl<'a> OccurrencesChecker<'a> {
         self.collect_decls(rows, decls);
     }
 
+    // Not one with check_decls: a trait for what is done at a rule was tried; its two predicates and five laws are longer.
     #[cycle(decls)]
     fn collect_decls(&self, rows: &mut Rows, decls: Ids<DeclId>)
         requires { seen ListingAll self.now.scopes decls.list rows.old.count }
         ensures { Appends (joined (seen lists_of self.now.scopes decls.list)) rows.old rows.new }
     {
-        for i in 0..decls.list.count {
-            let decl = typed::nth(self.scopes.image, decls, i);
+        for decl in decls.of(self.scopes.image) {
             self.collect_decl(rows, decl);
         }
     }

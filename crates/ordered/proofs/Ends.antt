@@ -6,9 +6,9 @@ use Prim.Native.Nat.{ℕ, ◌+◌, ◌-◌, ◌<◌}
 use native.Mathlib.Omega.{arith}
 use Rattle.ast.specs.Image.{nodes, field}
 use Rattle.ast.specs.Is.{Is, kind_by}
-use Rattle.ast.specs.Items.{items, blocks}
+use Rattle.ast.specs.Items.{items}
 use Rattle.ast.specs.Kinds.{inner, plain, name, Field, kind_of}
-use Rattle.ast.specs.Tree.{◌◂◌, tree_at}
+use Rattle.ast.specs.Tree.{block, ◌◂◌, tree_at}
 use Rattle.typed.specs.RowShapes.{WordList}
 use Rattle.typed.specs.declared.nodes.NodeList.{NodeList}
 use Rattle.table.specs.Table.{new_scope, new_symbol}
@@ -19,12 +19,13 @@ use Rattle.environment.specs.Stands.{Stands, Path}
 use Rattle.environment.specs.Builder.{walked_of}
 use Rattle.environment.specs.declared.ScopeBuilder.{ScopeBuilder}
 use Rattle.environment.proofs.Asking.{loud_fields, quiet}
-use Rattle.ordered.specs.Walk.{occurs, declares, walk, walk_seq}
+use Rattle.ordered.specs.Walk.{occurs, declares, walk}
 use Rattle.ordered.specs.Promises.{over, inside, rest, over_all, Ends, Room, Ready, ReadyRun}
 use Rattle.ordered.proofs.Steps.{plain-whole}
 use Rattle.ordered.proofs.Atoms.{leaf-step, if_var_of}
 use Rattle.ordered.proofs.Args.{arg_of}
-use Rattle.ordered.proofs.Stmts.{match_case, match_of, branch-whole}
+use Rattle.ordered.proofs.Stmts.{match_case}
+use Rattle.ordered.proofs.Lists.{rest-start}
 use Rattle.ordered.proofs.Idents.{ends-left, ends-then}
 use Rattle.ordered.proofs.Paths.{seq-path}
 
@@ -76,17 +77,11 @@ module _ (img : List ℕ) where
       let a = r.scopes in let b = r.symbols in
       (omega arith, omega arith)
 
-  -- a branch, after its blocks
-  pub branch-ends : {n : ℕ} {e f g : Walked} {env env' : List ℕ} → Ready img (kind_of 39) n e → Ends img (walk_seq img occurs (blocks img n (field img n 0) 1) e) f env
-      → g ≡ marked img n e.scope f → env' ≡ env → Ends img (over img n e) g env'
-  unfolding kind_of loud_fields
-  branch-ends {e = e} p h w k = ends-left img e.scope p.is.below (quiet img refl p.is) (branch-whole img e p.is) w k h
-
-  -- a match: its term, then its cases
-  pub match-ends : {n c : ℕ} {l : NodeList} {e f g h : Walked} {env env' env'' : List ℕ} → Ready img (kind_of 40) n e → WordList img n c l → Ends img (over img c e) f env
-      → Ends img (over_all img occurs l f) g env' → h ≡ marked img n e.scope g → env'' ≡ env' → Ends img (over img n e) h env''
-  unfolding kind_of loud_fields
-  match-ends {l = l} {e} p q a b w k = ends-left img e.scope p.is.below (quiet img refl p.is) (match_of img p q).whole w k (ends-then img (over_all img occurs l) a.same b)
+  -- a block of a branch, back from its statements
+  pub block-ends : (l : NodeList) (e : Walked) {f g : Walked} {env env' : List ℕ} → Ends img (over_all img occurs l e) f env → g ≡ back img e.scope f → Stands img g env'
+      → Ends img (walk img occurs (block (items img l.node.0 l.count l.first)) e) g env'
+  unfolding walk
+  block-ends l e h w s = record { same = w ∙ ap (back img e.scope) (h.same ∙ sym (rest-start img occurs l.node.0 l.first l.count e)); stands = s }
 
   -- a match case, back from its pattern and its statements
   pub case-ends : {n c : ℕ} {l : NodeList} {e f g h k : Walked} {env env' env'' env''' : List ℕ} → Ready img (kind_of 35) n e → WordList img n c l → Ends img (over img c e) f env

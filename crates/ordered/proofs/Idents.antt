@@ -3,18 +3,17 @@ use mathlib.Core.Path.{◌≡◌, refl, sym, ap, subst, ◌∙◌}
 use mathlib.Core.Bool.{Bool, true, false}
 use mathlib.Core.List.{List, [], ◌∷◌}
 use mathlib.Core.Option.{none, some}
-use Prim.Native.Nat.{ℕ, suc, ◌+◌, ◌<◌}
+use Prim.Native.Nat.{ℕ, suc, ◌<◌}
 use native.Mathlib.Omega.{arith}
 use lib.Dec.{eqb}
 use lib.ListN.{get_or}
 use Rattle.ast.specs.Image.{nodes, field, name_of}
-use Rattle.ast.specs.Is.{Is, Run, kind_by}
-use Rattle.ast.specs.Kinds.{inner, plain, child, list, no_child, kind_of}
+use Rattle.ast.specs.Is.{Is, kind_by}
+use Rattle.ast.specs.Kinds.{inner, plain, child, no_child, kind_of}
 use Rattle.ast.specs.Tree.{tree_at}
-use Rattle.ast.proofs.Shapes.{run-item, head_kinds, term_kinds}
+use Rattle.ast.proofs.Shapes.{head_kinds, term_kinds}
 use Rattle.ast.proofs.Small.{tree-small}
-use Rattle.typed.specs.RowShapes.{Two, Listed, WordList}
-use Rattle.typed.specs.declared.nodes.NodeList.{NodeList}
+use Rattle.typed.specs.RowShapes.{Two}
 use Rattle.table.specs.Table.{lookup, is_var, mark, new_scope, new_symbol}
 use Rattle.ast.specs.declared.NodeId.{NodeId}
 use Rattle.typed.proofs.Enums.{Cased}
@@ -25,9 +24,9 @@ use Rattle.environment.specs.Stands.{told, Tells, Stands, Named, Asking}
 use Rattle.environment.proofs.Asking.{loud_fields, quiet, quiet-term, quiet-head, quiet_then, asked-term, asked-head, asked-then, ident-named}
 use Rattle.environment.proofs.Laws.{left, left-bare, Older, tells-later}
 use Rattle.ordered.specs.Walk.{Role, occurs, declares, names, defines, walk_ident, walk}
-use Rattle.ordered.specs.Promises.{asks, from, over, inside, over_all, unless, Ends, Few, Ready, Variable, Defining}
+use Rattle.ordered.specs.Promises.{asks, from, over, inside, unless, Ends, Few, Ready, Variable, Defining}
 use Rattle.ordered.proofs.Steps.{ident-step, name-step, one, two, member_of, term-whole, term-wild, plain-whole, head-whole, head-case, term-wrapped, head-wrapped, head-ident}
-use Rattle.ordered.proofs.Lists.{list_of, head_member_of}
+use Rattle.ordered.proofs.Lists.{in_member, member-whole}
 use Rattle.ordered.proofs.Atoms.{plain-wrapped, var-ident, var-other, Defined, defined_of}
 use Rattle.ordered.proofs.Paths.{walk-older}
 
@@ -40,7 +39,7 @@ module _ (img : List ℕ) where
   pub ends-then : {f g : Walked} (h : Walked → Walked) {b : Walked} {env : List ℕ} → f ≡ b → Ends img (h f) g env → Ends img (h b) g env
   ends-then h q e = record { same = e.same ∙ ap h q; stands = e.stands }
 
-  -- nodes with one child, with two, and with a list
+  -- nodes with one child, and with two
   pub one-ends : {k n c : ℕ} {e f g : Walked} {env env' : List ℕ} → Ready img (kind_by (inner plain) (child k ∷ [])) n e → c ≡ field img n 0 → Ends img (over img c e) f env
       → g ≡ marked img n e.scope f → env' ≡ env → Ends img (over img n e) g env'
   unfolding loud_fields
@@ -50,11 +49,6 @@ module _ (img : List ℕ) where
       → Ends img (over img c e) f env → Ends img (over img d f) g env' → h ≡ marked img n e.scope g → env'' ≡ env' → Ends img (over img n e) h env''
   unfolding loud_fields
   two_ends {d = d} {e} p q q2 a b w k = ends-left e.scope p.is.below (quiet img refl p.is) (two img p q q2).whole w k (ends-then (over img d) a.same b)
-
-  pub list-ends : {k n : ℕ} {l : NodeList} {e f g : Walked} {env env' : List ℕ} → Ready img (kind_by (inner plain) (list k ∷ [])) n e → Listed img n 0 l
-      → Ends img (over_all img occurs l e) f env → g ≡ marked img n e.scope f → env' ≡ env → Ends img (over img n e) g env'
-  unfolding loud_fields
-  list-ends {e = e} p q h w k = ends-left e.scope p.is.below (quiet img refl p.is) (list_of img p q).whole w k h
 
   -- a term that is no ident, after what is below it
   pub other-ends : {n : ℕ} {e f g : Walked} {env env' : List ℕ} → Ready img (kind_of 12) n e → (field img n 0 ≡ 0 → ⊥) → Ends img (inside img occurs n e) f env → g ≡ marked img n e.scope f → env' ≡ env → Ends img (over img n e) g env'
@@ -81,12 +75,9 @@ module _ (img : List ℕ) where
   unfolding kind_of loud_fields
   ident-quiet is = quiet img refl is
 
-  -- a name that introduces nothing, of a run of them
-  pub name-ends : {n j count i c : ℕ} {e f : Walked} {env env' : List ℕ} → Run img 13 n j count → i < count → c ≡ field img n (j + i) → f ≡ marked img c e.scope e → env' ≡ env
-      → Stands img e env → Ends img (walk img names (tree_at img c) e) f env'
-  name-ends {e = e} p l q w k s =
-      let is = (run-item img p l q).1 in
-      ends-left e.scope is.below (ident-quiet is) (name-step img e is) w k (record { same = refl; stands = s })
+  -- a name that introduces nothing
+  pub name-ends : {c : ℕ} {e f : Walked} {env env' : List ℕ} → Is img (kind_of 13) c → f ≡ marked img c e.scope e → env' ≡ env → Stands img e env → Ends img (walk img names (tree_at img c) e) f env'
+  name-ends {e = e} is w k s = ends-left e.scope is.below (ident-quiet is) (name-step img e is) w k (record { same = refl; stands = s })
 
   pub member-ends : {n c d : ℕ} {e f g h : Walked} {env env' env'' : List ℕ} → Ready img (kind_of 17) n e → c ≡ field img n 0 → d ≡ field img n 1 → Ends img (over img c e) f env
       → g ≡ marked img d f.scope f → env' ≡ env → h ≡ marked img n e.scope g → env'' ≡ env' → Ends img (over img n e) h env''
@@ -96,12 +87,11 @@ module _ (img : List ℕ) where
       ends-left e.scope p.is.below (quiet img refl p.is) o.whole w2 k2
       (ends-left f.scope o.second.below (ident-quiet o.second) (ap (λ (v : Walked). marked img d v.scope v) (sym a.same)) w k (record { same = refl; stands = a.stands }))
 
-  pub head-member-ends : {n c : ℕ} {l : NodeList} {e f g h : Walked} {env env' env'' : List ℕ} → Ready img (kind_of 16) n e → WordList img n c l → Ends img (over img c e) f env
-      → Ends img (over_all img names l f) g env' → h ≡ unmarked img n g → env'' ≡ env' → Ends img (over img n e) h env''
+  pub head-member-ends : {n : ℕ} {e g h : Walked} {env env' : List ℕ} → Ready img (kind_of 16) n e → Ends img (in_member img n e) g env → h ≡ unmarked img n g → env' ≡ env → Ends img (over img n e) h env'
   unfolding kind_of loud_fields
-  head-member-ends {n} {l = l} {h = h} p q a b w k =
+  head-member-ends {n} {e} p b w k =
       record {
-        same = w ∙ ap (unmarked img n) (b.same ∙ ap (over_all img names l) a.same) ∙ sym (head_member_of img p q).whole;
+        same = w ∙ ap (unmarked img n) b.same ∙ sym (member-whole img e p.is);
         stands = left-bare img p.is.below (quiet img refl p.is) w k b.stands;
       }
 

@@ -1,13 +1,11 @@
 -- The way from the end of a walk up to its start, and what the table at the end keeps of the one at the start.
+use Rattle.std.proofs.lemmas.Bool.{cases_lt}
 use mathlib.Core.Path.{◌≡◌, refl, sym, ap, subst, ◌∙◌}
-use mathlib.Core.Bool.{Bool, true, false}
-use mathlib.Core.Logic.{◌⊎◌, inl, inr, ⊎_elim}
+use mathlib.Core.Logic.{⊎_elim}
 use mathlib.Core.List.{List}
 use mathlib.Core.Option.{some}
 use Prim.Native.Nat.{ℕ, zero, suc, ◌+◌, ◌-◌, ◌<◌, ◌≤◌}
 use native.Mathlib.Omega.{arith}
-use lib.Dec.{ltb}
-use borrow.Author.Tests.{ltb-true, ltb-false}
 use Rattle.ast.specs.Image.{nodes}
 use Rattle.ast.specs.Tree.{Tree, node, block, Trees, none, ◌◂◌}
 use Rattle.ast.proofs.Small.{Small, Smalls}
@@ -25,13 +23,6 @@ use Rattle.environment.proofs.Laws.{Older}
 use Rattle.ordered.specs.Walk.{Role, walk, walk_seq}
 use Rattle.ordered.specs.Promises.{Few}
 use Rattle.ordered.proofs.Moves.{Moves, stay, next, marks, adds, drops, rises, walk-moves, seq-moves}
-
-lt-or-le : (a b : ℕ) → (a < b) ⊎ (b ≤ a)
-lt-or-le a b = go (ltb a b) refl
-  where
-    go : (c : Bool) → ltb a b ≡ c → (a < b) ⊎ (b ≤ a)
-    go true e = inl (ltb-true a b e)
-    go false e = inr (ltb-false a b e)
 
 module _ (img : List ℕ) where
   abbrev N : ℕ
@@ -97,8 +88,8 @@ module _ (img : List ℕ) where
         named = λ j l. u.named j (omega arith) ∙ v.named j l;
         parents = λ s l. u.parents s (omega arith) ∙ v.parents s l;
         lookups = λ s x l. u.lookups s x (omega arith) ∙ v.lookups s x l;
-        fresh = λ j l h. ⊎_elim (λ k. let p = u.rows j k in let q = v.fresh j l k in omega arith) (λ k. let q = u.fresh j k h in omega arith) (lt-or-le j f.table.symbols);
-        lower = λ s l h. ⊎_elim (λ k. let p = u.parents s k in let q = v.lower s l k in omega arith) (λ k. u.lower s k h) (lt-or-le s f.table.scopes);
+        fresh = λ j l h. ⊎_elim (λ k. let p = u.rows j k in let q = v.fresh j l k in omega arith) (λ k. let q = u.fresh j k h in omega arith) (cases_lt j f.table.symbols);
+        lower = λ s l h. ⊎_elim (λ k. let p = u.parents s k in let q = v.lower s l k in omega arith) (λ k. u.lower s k h) (cases_lt s f.table.scopes);
         way = way_then m (way_later n u.parents v.way) u.way;
       }
 
@@ -201,7 +192,7 @@ module _ (img : List ℕ) where
       let m = g.even in
       record {
         lower = g.lower s l h;
-        before = λ j a b. ⊎_elim (λ z. let p = g.rows j z in let q = k.under j z in omega arith) (λ z. let p = g.fresh j z b in omega arith) (lt-or-le j e.table.symbols);
+        before = λ j a b. ⊎_elim (λ z. let p = g.rows j z in let q = k.under j z in omega arith) (λ z. let p = g.fresh j z b in omega arith) (cases_lt j e.table.symbols);
         after = λ j a b. let p = g.fresh j (omega arith) b in omega arith;
       }
 

@@ -98,18 +98,17 @@ pub record ReadyRun (img : List ℕ) (k n j count : ℕ) (e : Walked) : Type 0 w
 abbrev pub ReadyAll : List ℕ → ℕ → NodeList → Walked → Type 0
 ReadyAll img k l e = ReadyRun img k l.node.0 l.first l.count e
 
-module _ (img : List ℕ) where
-  -- what a walker asks of the builder, at the scope that the walk stands in: it is ready, and names stand for what lookup gives
-  -- there
-  abbrev pub Starts : Kind → ℕ → ScopeBuilder → ScopeId → Type 0
-  Starts kd n b s = Ready img kd n (walked_of b s) × Stands img (walked_of b s) b.env.now
+-- what a walker asks of the builder, at the scope that the walk stands in: it is ready, and names stand for what lookup gives
+-- there. A predicate, since how node, scope and builder fit is a fact of no one value
+abbrev pub Starts : Kind → ℕ → ScopeBuilder → ScopeId → Type 0
+Starts kd n b s = Ready b.image.now kd n (walked_of b s) × Stands b.image.now (walked_of b s) b.env.now
 
-  abbrev pub StartsAll : ℕ → NodeList → ScopeBuilder → ScopeId → Type 0
-  StartsAll k l b s = ReadyAll img k l (walked_of b s) × Stands img (walked_of b s) b.env.now
+abbrev pub StartsAll : ℕ → NodeList → ScopeBuilder → ScopeId → Type 0
+StartsAll k l b s = ReadyAll b.image.now k l (walked_of b s) × Stands b.image.now (walked_of b s) b.env.now
 
-  abbrev pub StartsVariable : Role → ℕ → ScopeBuilder → ScopeId → Type 0
-  StartsVariable r n b s = Variable img r n (walked_of b s) × Stands img (walked_of b s) b.env.now
+abbrev pub StartsVariable : Role → ℕ → ScopeBuilder → ScopeId → Type 0
+StartsVariable r n b s = Variable b.image.now r n (walked_of b s) × Stands b.image.now (walked_of b s) b.env.now
 
-  -- what it hands back: from the scope s of the old builder the walk f ends in the scope s' of the new one
-  abbrev pub Walks : (Walked → Walked) → ScopeBuilder → ScopeId → ScopeBuilder → ScopeId → Type 0
-  Walks f old s new s' = Ends img (f (walked_of old s)) (walked_of new s') new.env.now
+-- what it hands back: from the scope s of the old builder the walk f ends in the scope s' of the new one
+abbrev pub Walks : (Walked → Walked) → ScopeBuilder → ScopeId → ScopeBuilder → ScopeId → Type 0
+Walks f old s new s' = Ends old.image.now (f (walked_of old s)) (walked_of new s') new.env.now

@@ -2,6 +2,7 @@
 // recorded words. The records come on standard input; differential/src/record.rs says how they are laid out and made.
 #![tactic(auto)]
 
+use byteorder::{LittleEndian, ReadBytesExt};
 use std::alloc::{AllocError, Global};
 use std::io;
 use std::io::{BufReader, Read};
@@ -28,7 +29,7 @@ enum RecordError {
     TooLarge,
     // the input ends within it, or a read fails
     Unread,
-    OutOfMemory,
+    OutOfMemory(AllocError),
 }
 
 impl From<io::Error> for RecordError {
@@ -38,52 +39,40 @@ impl From<io::Error> for RecordError {
 }
 
 impl From<AllocError> for RecordError {
-    fn from(_e: AllocError) -> RecordError {
-        RecordError::OutOfMemory
+    fn from(e: AllocError) -> RecordError {
+        RecordError::OutOfMemory(e)
     }
 }
 
-// The next bytes of the input.
-fn next_bytes<const N: usize, R: Read>(input: &mut R) -> Result<[u8; N], RecordError> {
-    let mut bytes = [0; N];
-    input.read_exact(&mut bytes)?;
-    Ok(bytes)
-}
-
-// A number as it stands in a record, little-endian.
-trait Number: Copy {
-    fn read<R: Read>(input: &mut R) -> Result<Self, RecordError>;
-}
-
-impl Number for u8 {
-    fn read<R: Read>(input: &mut R) -> Result<u8, RecordError> {
-        Ok(u8::from_le_bytes(next_bytes(input)?))
+// A part of so many bytes or words, which may be no more than `most`.
+fn part_length(count: u32, most: u32) -> Result<usize, RecordError> {
+    if most < count {
+        return Err(RecordError::TooLarge);
     }
+    Ok(count as usize)
 }
 
-impl Number for u32 {
-    fn read<R: Read>(input: &mut R) -> Result<u32, RecordError> {
-        Ok(u32::from_le_bytes(next_bytes(input)?))
-    }
-}
-
-impl Number for u64 {
-    fn read<R: Read>(input: &mut R) -> Result<u64, RecordError> {
-        Ok(u64::from_le_bytes(next_bytes(input)?))
-    }
-}
-
-// Reads so many numbers, which may be no more than `most`.
-fn read_part<T: Number, R: Read>(
+// Bytes, and words: two reads of the library, which differ in more than the type.
+fn read_bytes<R: Read>(
     alloc: Global,
     input: &mut R,
     count: u32,
     most: u32,
-) -> Result<Vec<T>, RecordError> {
-    if most < count {
-        return Err(RecordError::TooLarge);
-    }
-    (0..count).map(|_| T::read(input)).try_collect(alloc)
+) -> Result<Vec<u8>, RecordError> {
+    let mut bytes = vec![in alloc; 0; part_length(count, most)?]?;
+    input.read_exact(&mut bytes)?;
+    Ok(bytes)
+}
+
+fn read_words<R: Read>(
+    alloc: Global,
+    input: &mut R,
+    count: u32,
+    most: u32,
+) -> Result<Vec<u32>, RecordError> {
+    let mut words = vec![in alloc; 0; part_length(count, most)?]?;
+    input.read_u32_into::<LittleEndian>(&mut words)?;
+    Ok(words)
 }
 
 // The packed answer of each call.
@@ -101,13 +90,13 @@ struct Answers {
 impl Answers {
     fn read<R: Read>(input: &mut R) -> Result<Answers, RecordError> {
         Ok(Answers {
-            resolve: u64::read(input)?,
-            errors: u64::read(input)?,
-            once: u64::read(input)?,
-            occurrences: u64::read(input)?,
-            lookup: u64::read(input)?,
-            name: u64::read(input)?,
-            sorted: u64::read(input)?,
+            resolve: input.read_u64::<LittleEndian>()?,
+            errors: input.read_u64::<LittleEndian>()?,
+            once: input.read_u64::<LittleEndian>()?,
+            occurrences: input.read_u64::<LittleEndian>()?,
+            lookup: input.read_u64::<LittleEndian>()?,
+            name: input.read_u64::<LittleEndian>()?,
+            sorted: input.read_u64::<LittleEndian>()?,
         })
     }
 }
@@ -127,14 +116,14 @@ struct Head {
 
 impl Head {
     fn read<R: Read>(input: &mut R) -> Result<Head, RecordError> {
-        let image_bytes = u32::read(input)?;
-        let table_words = u32::read(input)?;
-        let rows_words = u32::read(input)?;
-        let mode = u32::read(input)?;
-        let scope = u32::read(input)?;
-        let name_bytes = u32::read(input)?;
-        let name_number = u32::read(input)?;
-        let _zero = u32::read(input)?;
+        let image_bytes = input.read_u32::<LittleEndian>()?;
+        let table_words = input.read_u32::<LittleEndian>()?;
+        let rows_words = input.read_u32::<LittleEndian>()?;
+        let mode = input.read_u32::<LittleEndian>()?;
+        let scope = input.read_u32::<LittleEndian>()?;
+        let name_bytes = input.read_u32::<LittleEndian>()?;
+        let name_number = input.read_u32::<LittleEndian>()?;
+        let _zero = input.read_u32::<LittleEndian>()?;
         let answers = Answers::read(input)?;
         Ok(Head {
             image_bytes,
@@ -164,12 +153,12 @@ struct Record {
 impl Record {
     fn read<R: Read>(alloc: Global, input: &mut R, head: Head) -> Result<Record, RecordError> {
         Ok(Record {
-            image: read_part(alloc, input, head.image_bytes, MOST_IMAGE_BYTES)?,
-            name: read_part(alloc, input, head.name_bytes, MOST_NAME_BYTES)?,
-            table: read_part(alloc, input, head.table_words, MOST_TABLE_WORDS)?,
-            errors: read_part(alloc, input, head.rows_words, MOST_ROWS_WORDS)?,
-            occurrences: read_part(alloc, input, head.rows_words, MOST_ROWS_WORDS)?,
-            sorted: read_part(alloc, input, head.rows_words, MOST_ROWS_WORDS)?,
+            image: read_bytes(alloc, input, head.image_bytes, MOST_IMAGE_BYTES)?,
+            name: read_bytes(alloc, input, head.name_bytes, MOST_NAME_BYTES)?,
+            table: read_words(alloc, input, head.table_words, MOST_TABLE_WORDS)?,
+            errors: read_words(alloc, input, head.rows_words, MOST_ROWS_WORDS)?,
+            occurrences: read_words(alloc, input, head.rows_words, MOST_ROWS_WORDS)?,
+            sorted: read_words(alloc, input, head.rows_words, MOST_ROWS_WORDS)?,
             head,
         })
     }
@@ -246,7 +235,7 @@ fn rest_is_as_recorded<R: Read>(
     match Record::read(alloc, input, head) {
         Ok(record) => record.is_as_recorded(alloc),
         Err(RecordError::TooLarge | RecordError::Unread) => Ok(false),
-        Err(RecordError::OutOfMemory) => Err(AllocError),
+        Err(RecordError::OutOfMemory(e)) => Err(e),
     }
 }
 

@@ -19,6 +19,7 @@ const TOO_MANY: usize = 61457;
 fn at_end<R: Read>(input: &mut R) -> bool
     ensures { result ≡ true → IsAtEnd (R.remaining input.old) }
 {
+    // a place for one byte, since a read into none gives nothing at any time
     let mut more = [0u8; 1];
     matches!(input.read(&mut more), Ok(0))
 }

@@ -1,12 +1,12 @@
 -- Rows that are appended part by part: what is left to append, and that the whole follows from it.
-use mathlib.Core.Path.{◌≡◌, refl, sym, subst, ◌∙◌, ap}
+use mathlib.Core.Path.{◌≡◌, refl, sym, subst, ◌∙◌}
 use mathlib.Core.List.{List, [], ◌++◌}
 use Prim.Native.Nat.{ℕ, ◌+◌, ◌<◌, ◌^◌}
 use native.Mathlib.Omega.{arith}
 use lib.ListN.{length, length-append}
 use Rattle.rows.specs.declared.Rows.{Rows}
 use Rattle.rows.specs.Rows.{Row, Appended, Appends}
-use Rattle.rows.proofs.Appends.{appended-none, appended-next, put-length}
+use Rattle.rows.proofs.Appends.{appended-none, appended-next}
 
 pub appends-none : (rows : Rows) → Appends [] rows rows
 appends-none rows = record { appended = appended-none rows.nodes rows.count rows.words.now; nodes = refl; lent = refl }
@@ -26,9 +26,6 @@ appends-next {l} {k} {a} {b} {c} f g =
       nodes = g.nodes ∙ f.nodes;
       lent = g.lent ∙ f.lent;
     }
-
-pub appends-long : {l : List Row} {a b : Rows} → Appends l a b → length b.words.now ≡ length a.words.now
-appends-long {l} {a} h = ap length h.appended.words ∙ put-length a.nodes a.count l a.words.now
 
 -- a loop came from `start` to `now`; the rows `rest` are left, and with them the whole is appended
 pub record Left (whole rest : List Row) (start now : Rows) : Type 0 where

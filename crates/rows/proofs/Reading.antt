@@ -2,13 +2,13 @@
 use mathlib.Core.Path.{◌≡◌, refl, sym, ap, ap₂, ◌∙◌}
 use mathlib.Core.List.{List, [], ◌∷◌}
 use Prim.Native.Nat.{ℕ, zero, suc, ◌+◌, ◌-◌, ◌<◌, ◌≤◌}
-use native.Mathlib.Nat.{sub-zero}
 use native.Mathlib.Omega.{arith}
 use lib.ListN.{length, get_or, set, length-set}
 use lib.Seq.{get_or-set_same, get_or-set_other}
 use Rattle.rows.specs.declared.Rows.{Rows}
 use Rattle.rows.specs.declared.Written.{Written}
-use Rattle.rows.specs.Rows.{Row, row, rows_length, written, put_rows, Appends, read_rows, held, Shows, shown}
+use Rattle.rows.specs.declared.Pairs.{Pairs}
+use Rattle.rows.specs.Rows.{Row, row, rows_length, written, put_rows, Appends, read_rows, held, Shows, shown, pairs_left}
 use Rattle.rows.proofs.Appends.{clear-long, written_is}
 
 -- a place that no row takes
@@ -67,9 +67,6 @@ pub read-end : (N : ℕ) (ws : List ℕ) (c i : ℕ) → c ≤ i → read_rows N
 unfolding read_rows
 read-end N ws c i h = ap (λ (x : ℕ). read_rows N ws x i) (let z : c - i ≡ 0 = omega arith in z)
 
-pub read_all : (N : ℕ) (ws : List ℕ) (c : ℕ) → read_rows N ws c 0 ≡ read_rows N ws (c - 0) 0
-read_all N ws c = ap (λ (x : ℕ). read_rows N ws x 0) (sym (sub-zero c))
-
 -- the word in front is no row's
 read_behind : (N : ℕ) (ws : List ℕ) (v c i : ℕ) → read_rows N (set ws 0 v) c i ≡ read_rows N ws c i
 unfolding read_rows
@@ -85,3 +82,12 @@ unfolding written
 held-written N l old few =
     ap (λ (ws : List ℕ). read_rows N ws (length l) 0) (written_is N l old few) ∙ read_behind N _ (length l) (length l) 0
     ∙ read_back N 0 l _ (omega arith) (clear-long (rows_length N) old)
+
+-- the next of the rows that are handed out, where none is left and where one is
+module _ (p : Pairs) where
+  pub pairs_end : p.rows.count ≤ p.next → pairs_left p ≡ []
+  pairs_end h = read-end p.rows.nodes p.rows.words.now p.rows.count p.next h
+
+  pub pairs_more : {a b : ℕ} → p.next < p.rows.count → a ≡ get_or p.rows.words.now (1 + p.next) 0 → b ≡ get_or p.rows.words.now (1 + p.rows.nodes + p.next) 0
+      → pairs_left p ≡ row a b ∷ pairs_left (record { rows = p.rows; next = p.next + 1 })
+  pairs_more h q e = read_more p.rows.nodes p.rows.words.now p.rows.count p.next h ∙ ap₂ (λ (x y : ℕ). row x y ∷ pairs_left (record { rows = p.rows; next = p.next + 1 })) (sym q) (sym e)

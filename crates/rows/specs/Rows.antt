@@ -2,6 +2,7 @@
 use Rattle.std.specs.Prelude.{◌≡◌, Bool, true, false, List, [], ◌∷◌, ◌++◌, ℕ, zero, suc, ◌+◌, ◌*◌, ◌-◌, length, get_or, set, drop, replicate}
 use Rattle.rows.specs.declared.Rows.{Rows}
 use Rattle.rows.specs.declared.Written.{Written}
+use Rattle.rows.specs.declared.Pairs.{Pairs}
 
 -- an error number and its node, or an occurrence's node and its binding
 pub record Row : Type 0 where
@@ -92,3 +93,11 @@ pub record Shows (rows : Rows) (w : Written) : Type 0 where
 -- the rows that are read
 abbrev pub shown : Written → List Row
 shown w = read_rows w.nodes w.words.now w.count 0
+
+-- the two words of a row as the code hands them out
+abbrev pub pair_row : ℕ × ℕ → Row
+pair_row p = row p.0 p.1
+
+-- the rows that are left to hand out
+abbrev pub pairs_left : Pairs → List Row
+pairs_left p = read_rows p.rows.nodes p.rows.words.now (p.rows.count - p.next) p.next

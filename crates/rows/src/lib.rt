@@ -3,7 +3,8 @@
 #![tactic(auto)]
 
 ghost use Rattle.std.specs.Prelude.{◌≡◌, [], ◌∷◌, ◌+◌, ◌<◌, ◌≤◌, ◌^◌, length, get_or, set};
-ghost use Rattle.rows.specs.Rows.{row, rows_length, cleared, Appends, Starts, Ends, Shows};
+ghost use Rattle.std.specs.Iterator.{YieldsFirstBy, item_count};
+ghost use Rattle.rows.specs.Rows.{row, rows_length, cleared, Appends, Starts, Ends, Shows, shown, pair_row, pairs_left};
 
 // The first n words set to 0.
 pub fn clear(words: &mut [u32], n: usize)
@@ -19,6 +20,9 @@ pub fn words_for(n: u32) -> usize
 {
     1 + 2 * n as usize
 }
+
+// The rows of the largest image need so many words.
+pub const MOST_WORDS: usize = 1 + 2 * ast::NODES;
 
 // Rows that a check appends to lent words: of an image of `nodes` nodes, `count` so far. A count and two arrays of words, since C
 // lends them so.
@@ -103,5 +107,40 @@ impl<'a> Written<'a> {
         ensures { result ≡ get_or self.entry.words.now (1 + self.entry.nodes + i) 0 }
     {
         table::get(self.words, 1 + self.nodes as usize + i as usize)
+    }
+
+    // The rows one after another, each as its two words.
+    pub fn pairs(self) -> Pairs<'a>
+        ensures { pairs_left result ≡ shown self.entry }
+    {
+        Pairs {
+            rows: self,
+            next: 0,
+        }
+    }
+}
+
+// The rows that are left to read, from row `next` on.
+#[derive(Drop)]
+pub struct Pairs<'a> {
+    pub rows: Written<'a>,
+    pub next: u32,
+}
+
+impl<'a> Iterator for Pairs<'a> {
+    type Item = (u32, u32);
+
+    ghost next_gives = { YieldsFirstBy pair_row pairs_left };
+
+    ghost remaining = { item_count pairs_left };
+
+    #[inline(always)]
+    fn next(&mut self) -> Option<(u32, u32)> {
+        if self.rows.count <= self.next {
+            return None;
+        }
+        let i = self.next;
+        self.next += 1;
+        Some((self.rows.left(i), self.rows.right(i)))
     }
 }

@@ -1,13 +1,13 @@
 -- "Twice" exactly: Resolve gives it exactly if some module or model list declares one name twice.
+use Rattle.ast.proofs.Bools.{eqb-swap}
 use mathlib.Core.Path.{◌≡◌, refl, sym, ap, ap₂, ◌∙◌}
 use mathlib.Core.Logic.{◌↔◌}
-use mathlib.Core.Bool.{Bool, true, false, ◌||◌}
+use mathlib.Core.Bool.{Bool, true, false, ◌||◌, or-false}
 use mathlib.Core.List.{List, [], ◌∷◌, ◌++◌, map, map-append}
 use mathlib.Core.Option.{Option, none as nothing, some}
 use Prim.Native.Nat.{ℕ}
 use native.Mathlib.Omega.{arith}
 use lib.Dec.{eqb}
-use borrow.Author.Tests.{eq-eqb, ne_eqb, eqb-true, eqb-false}
 use Rattle.ast.specs.Answer.{twice}
 use Rattle.ast.specs.Declarations.{module_lists, or_else, earliest}
 use Rattle.ast.specs.Image.{last, name_of}
@@ -27,22 +27,11 @@ unfolding is_some
 some-or_else nothing p = refl
 some-or_else (some c) p = refl
 
-eqb-sym : (a b : ℕ) → eqb a b ≡ eqb b a
-eqb-sym a b = go (eqb a b) refl
-  where
-    go : (t : Bool) → eqb a b ≡ t → eqb a b ≡ eqb b a
-    go true e = e ∙ sym (eq-eqb b a (sym (eqb-true a b e)))
-    go false e = e ∙ sym (ne_eqb b a (λ q. eqb-false a b e (sym q)))
-
 or-mix : (a b c d : Bool) → ((a || b) || (c || d)) ≡ ((a || c) || (b || d))
 or-mix true b c d = refl
 or-mix false true true d = refl
 or-mix false true false d = refl
 or-mix false false c d = refl
-
-or-false : (a : Bool) → (a || false) ≡ a
-or-false true = refl
-or-false false = refl
 
 -- some of the numbers xs stand in ds
 meets : List ℕ → List ℕ → Bool
@@ -64,7 +53,7 @@ meets-snoc y ds [] = refl
 meets-snoc y ds (x ∷ xs) =
     ap₂ (λ (a b : Bool). a || b) (among-snoc x y ds) (meets-snoc y ds xs)
     ∙ or-mix (among x ds) (eqb x y) (meets ds xs) (among y xs)
-    ∙ ap (λ (b : Bool). (among x ds || meets ds xs) || (b || among y xs)) (eqb-sym x y)
+    ∙ ap (λ (b : Bool). (among x ds || meets ds xs) || (b || among y xs)) (eqb-swap x y)
 
 meets-nil : (xs : List ℕ) → meets [] xs ≡ false
 unfolding meets among
@@ -81,7 +70,7 @@ module _ (name : ℕ → ℕ) where
   found_among : (ds : List ℕ) (x : ℕ) → found (earliest name ds x) ≡ among x (map name ds)
   unfolding earliest found among
   found_among [] x = refl
-  found_among (d ∷ ds) x = go (eqb (name d) x) (found_among ds x) ∙ ap (λ (b : Bool). b || among x (map name ds)) (eqb-sym (name d) x)
+  found_among (d ∷ ds) x = go (eqb (name d) x) (found_among ds x) ∙ ap (λ (b : Bool). b || among x (map name ds)) (eqb-swap (name d) x)
     where
       go : (b : Bool) → found (earliest name ds x) ≡ among x (map name ds) → found (elim b [ true ↦ some d | false ↦ earliest name ds x ]) ≡ (b || among x (map name ds))
       go true h = refl

@@ -1,11 +1,11 @@
 -- Entering the names of a declaration list: what each function over it is handed, and hands on.
-use mathlib.Core.Path.{◌≡◌, refl, sym, ap, subst, ◌∙◌, fun_ext}
-use mathlib.Core.Bool.{Bool, true, false}
+use mathlib.Core.Path.{◌≡◌, refl, sym, ap, subst, ◌∙◌}
+use mathlib.Core.Bool.{Bool, true, false, false≢true}
 use mathlib.Core.List.{List, [], ◌∷◌, ◌++◌, append-nil}
 use mathlib.Core.Option.{Option, none as nothing, some}
-use Prim.Native.Nat.{ℕ, zero, suc, ◌+◌, ◌-◌, ◌<◌, ◌≤◌}
+use Prim.Native.Nat.{ℕ, zero, suc, ◌+◌, ◌<◌, ◌≤◌}
 use native.Mathlib.Omega.{arith}
-use native.Mathlib.Nat.{sub-zero, add-zero}
+use native.Mathlib.Nat.{add-zero}
 use lib.Dec.{T, eqb}
 use lib.ListN.{length, get_or, set, drop, length-append}
 use lib.Seq.{get_or-set_same}
@@ -13,7 +13,7 @@ use Rattle.std.specs.Prelude.{Ok, Err, IsErrAnd}
 use Rattle.error.specs.declared.SymbolDeclaredTwice.{SymbolDeclaredTwice}
 use Rattle.ast.specs.Declarations.{rule_node, declared, declared_all}
 use Rattle.ast.specs.Image.{nodes, kind_at, field, name_of}
-use Rattle.ast.specs.Is.{Is, kind_by}
+use Rattle.ast.specs.Is.{Is, Run, kind_by}
 use Rattle.ast.specs.Items.{items, below}
 use Rattle.ast.specs.Kinds.{Class, outer, inner, root, decl, signature, rule, enum, model, Field, name, opt_name, child, opt_child, list, lists, cases, no_child, Kind, kinds, kind_of}
 use Rattle.ast.specs.Named.{arg_decl_list_kind, decl_kind, ctor_decl_kind, enum_decl_kind, model_decl_kind, rule_decl_kind, stmt_kind}
@@ -22,30 +22,37 @@ use Rattle.ast.specs.Tests.{verdict}
 use Rattle.ast.specs.Tree.{Tree, node, Trees, none, ◌◂◌, ordered, tree_at, size}
 use Rattle.ast.proofs.Acceptance.{name_below, opt-name-below}
 use Rattle.ast.proofs.Accepted.{sized}
-use Rattle.ast.proofs.Bools.{true-is, false-true}
+use Rattle.ast.proofs.Bools.{true-is}
 use Rattle.ast.proofs.ByKind.{low-kind}
 use Rattle.ast.proofs.Row.{append, append-none, Child, FormedFields, next, node_of}
-use Rattle.ast.proofs.Shapes.{row, tree_of, child-is, case-kids, case-one, case-child, items_more, run-tail}
+use Rattle.ast.proofs.Shapes.{row, tree_of, child-is, case-kids, case-one, case-child, run-tail}
 use Rattle.ast.proofs.RowNames.{opt-word}
 use Rattle.ast.proofs.Small.{Smalls, tree-small, items-small}
 use Rattle.ast.proofs.Vars.{every-kind}
 use Rattle.ast.proofs.Words.{name-plain}
 use Rattle.typed.specs.RowShapes.{Listed as ListedAt}
 use Rattle.typed.specs.declared.nodes.NodeList.{NodeList}
-use Rattle.typed.proofs.Lists.{at-list}
+use Rattle.typed.specs.declared.nodes.CtorDeclId.{CtorDeclId}
+use Rattle.typed.specs.declared.items.Items.{Items}
+use Rattle.typed.specs.Items.{Others, trees_of}
+use Rattle.typed.proofs.Lists.{Within, Taken, taken, begun, begun-row, none-left, row-short}
 use Rattle.table.specs.Layout.{table_length}
 use Rattle.table.specs.State.{Walked, own_symbol, marked}
 use Rattle.table.specs.Table.{find, find_from, mark}
 use Rattle.table.proofs.Kept.{past, mark-past, mark-length, symbol-past}
+use Rattle.table.specs.declared.ScopeId.{ScopeId}
 use Rattle.environment.specs.Asked.{asked}
+use Rattle.environment.specs.Builder.{Keeps, walked_of}
+use Rattle.environment.specs.declared.ScopeBuilder.{ScopeBuilder}
 use Rattle.environment.specs.Stands.{Opens, Named}
 use Rattle.environment.proofs.Asking.{loud_fields, quiet, quiet_at}
 use Rattle.environment.proofs.Laws.{opens-left}
+use Rattle.environment.proofs.Steps.{keeps_same, keeps-then}
 use Rattle.scopes.specs.Walk.{Listed, done, twice, recorded, enter_name, and_then, enter_names, mark_all, enter_all, visit}
-use Rattle.scopes.specs.Promises.{Declared, listed_of, enter, ent, ents, vis, rest_enter, Seen, Entering, Entered, EnterRun, Signature, Stamped}
+use Rattle.scopes.specs.Promises.{Declared, listed_of, enter, ent, ents, vis, Seen, Entering, Naming, Entered, Enters, MayEnter, MayWalkAll, Signature, Stamped}
 use Rattle.scopes.proofs.Adds.{named, Went, done-same, twice-done, name_in, enter-in}
 use Rattle.scopes.proofs.Entering.{and-nothing, enter-first, enter-own}
-use Rattle.scopes.proofs.Stamping.{seen_none, seen-stamp, seen-symbol, seen-marked}
+use Rattle.scopes.proofs.Stamping.{seen_start, seen_none, seen-stamp, seen-symbol, seen-marked}
 
 -- fields that start with a name that is no option
 plainly : List Field → Bool
@@ -68,18 +75,18 @@ plain_quiet (child k ∷ fs) h = refl
 plain_quiet (opt_child k ∷ fs) h = refl
 plain_quiet (list k ∷ fs) h = refl
 plain_quiet (lists k ∷ fs) h = refl
-plain_quiet (cases ks ∷ fs) h = absurd (false-true h)
+plain_quiet (cases ks ∷ fs) h = absurd (false≢true h)
 
 plain-first : (fs : List Field) → plainly fs ≡ true → (gs : List Field) × (fs ≡ name ∷ gs)
 unfolding plainly
-plain-first [] h = absurd (false-true h)
+plain-first [] h = absurd (false≢true h)
 plain-first (name ∷ fs) h = (fs, refl)
-plain-first (opt_name ∷ fs) h = absurd (false-true h)
-plain-first (child k ∷ fs) h = absurd (false-true h)
-plain-first (opt_child k ∷ fs) h = absurd (false-true h)
-plain-first (list k ∷ fs) h = absurd (false-true h)
-plain-first (lists k ∷ fs) h = absurd (false-true h)
-plain-first (cases ks ∷ fs) h = absurd (false-true h)
+plain-first (opt_name ∷ fs) h = absurd (false≢true h)
+plain-first (child k ∷ fs) h = absurd (false≢true h)
+plain-first (opt_child k ∷ fs) h = absurd (false≢true h)
+plain-first (list k ∷ fs) h = absurd (false≢true h)
+plain-first (lists k ∷ fs) h = absurd (false≢true h)
+plain-first (cases ks ∷ fs) h = absurd (false≢true h)
 
 -- a signature has such fields: one computed check of the table of kinds
 signs : Class → List Field → Bool
@@ -149,17 +156,17 @@ module _ (img : List ℕ) where
       let (gs, e) = plain-first (fields_at img n) h in
       let b = name_below img a n l gs e in
       let c = (sized img a).few_names in
-      let w : x ≡ name_of img n = q ∙ sym (name-plain img n (λ r. false-true (sym (ap (λ (k : ℕ). plainly (kind_of k).fields) r) ∙ h)) (λ r. false-true (sym (ap (λ (k : ℕ). plainly (kind_of k).fields) r) ∙ h))) in
+      let w : x ≡ name_of img n = q ∙ sym (name-plain img n (λ r. false≢true (sym (ap (λ (k : ℕ). plainly (kind_of k).fields) r) ∙ h)) (λ r. false≢true (sym (ap (λ (k : ℕ). plainly (kind_of k).fields) r) ∙ h))) in
       record { is = w; below = omega arith }
 
   sig-plain : {n : ℕ} → Signature img n → plainly (fields_at img n) ≡ true
   unfolding signing signs fields_at
   sig-plain {n} s = true-is _ (subst (λ (c : Class). T (signs c (fields_at img n))) s.class (every-signing (kind_at img n) (low-kind img s.accepted n s.below)))
 
-  pub sig-name : {n x : ℕ} → Signature img n → x ≡ field img n 0 → Named img n x
+  sig-name : {n x : ℕ} → Signature img n → x ≡ field img n 0 → Named img n x
   sig-name s q = plain-named _ s.accepted s.below (sig-plain s) q
 
-  pub enum-name : {n x : ℕ} → Is img (kind_of enum_decl_kind) n → x ≡ field img n 0 → Named img n x
+  enum-name : {n x : ℕ} → Is img (kind_of enum_decl_kind) n → x ≡ field img n 0 → Named img n x
   unfolding plainly kind_of fields_at
   enum-name is q = plain-named _ is.accepted is.below (ap (λ (k : Kind). plainly k.fields) is.kind) q
 
@@ -360,78 +367,26 @@ module _ (img : List ℕ) where
         passed = past-marked n e.scope e q is.below;
       }
 
-  -- a list of items: what is left of it -----------------------------------------------------------------------------------
-  enter-more : (n j count i : ℕ) (e : Walked) → i < count → rest_enter img n j count i e ≡ and_then img (enter img (tree_at img (field img n (j + i))) e) (rest_enter img n j count (i + 1))
-  unfolding rest_enter
-  enter-more n j count i e h =
-      ap (λ (us : Trees). enter_all img us e) (items_more img n j count i h)
-      ∙ enter-first img (tree_at img (field img n (j + i))) (items img n (count - (i + 1)) (j + (i + 1))) (items-small img n (count - (i + 1)) (j + (i + 1))) e
-
-  enter-end : (n j count i : ℕ) (e : Walked) → count ≤ i → rest_enter img n j count i e ≡ done e
-  unfolding rest_enter enter_all declared recorded enter_names mark_all items
-  enter-end n j count i e h = let z : count - i ≡ 0 = omega arith in ap (λ (c : ℕ). enter_all img (items img n c (j + i)) e) z
-
-  pub same-items : (n j count : ℕ) → items img n count j ≡ items img n (count - 0) (j + 0)
-  same-items n j count = ap (λ (c : ℕ). items img n c j) (sym (sub-zero count)) ∙ ap (items img n (count - 0)) (sym (add-zero j))
-
-  pub enter-start : (n j count : ℕ) (e : Walked) → enter_all img (items img n count j) e ≡ rest_enter img n j count 0 e
-  unfolding rest_enter
-  enter-start n j count e = ap (λ (us : Trees). enter_all img us e) (same-items n j count)
-
-  ents-more : (n j count i : ℕ) → i < count → ents (items img n (count - i) (j + i)) ≡ ent (tree_at img (field img n (j + i))) + ents (items img n (count - (i + 1)) (j + (i + 1)))
+  -- a list: what is left of it ----------------------------------------------------------------------------------------------
+  ents-more : (u : Tree) (us : Trees) → ents (u ◂ us) ≡ ent u + ents us
   unfolding declared
-  ents-more n j count i h = ap ents (items_more img n j count i h) ∙ length-append (declared (tree_at img (field img n (j + i)))) (declared_all (items img n (count - (i + 1)) (j + (i + 1))))
+  ents-more u us = length-append (declared u) (declared_all us)
 
-  -- a loop over the items: after i of them it stands at f
-  pub record EnterLeft (seen env : List ℕ) (n j count i : ℕ) (e f : Walked) : Type 0 where
-    pub within : i ≤ count
-    pub entering : Entering img seen env (ents (items img n (count - i) (j + i))) f
-    pub passed : past img f.table ≡ past img e.table
-    pub left : rest_enter img n j count 0 e ≡ rest_enter img n j count i f
+  enter-none : (e : Walked) → enter_all img none e ≡ done e
+  unfolding enter_all declared recorded enter_names mark_all
+  enter-none e = refl
 
-  pub enter-begin : {seen env : List ℕ} {n j count : ℕ} {e : Walked} → Entering img seen env (ents (items img n count j)) e → EnterLeft seen env n j count 0 e e
-  enter-begin {seen} {env} {n} {j} {count} {e} p =
-      record { within = omega arith; entering = subst (λ (us : Trees). Entering img seen env (ents us) e) (same-items n j count) p; passed = refl; left = refl }
+  module _ {T : Type 0} where
+    within-small : {k n : ℕ} {s : Items T} → Within img k n s → Smalls (nodes img) (trees_of s)
+    within-small {s = s} w =
+        subst (λ (i : List ℕ). Smalls (nodes img) (items i s.left.list.node.0 s.left.list.count s.left.list.first)) (sym w.image) (items-small img s.left.list.node.0 s.left.list.count s.left.list.first)
 
-  pub record EnterItem (seen env : List ℕ) (n j count i c : ℕ) (e f : Walked) : Type 0 where
-    pub entering : Entering img seen env (ent (tree_at img c)) f
-    pub more : {us en : List ℕ} {g : Walked} {r : Declared} {a : Unit {0}} → r ≡ Ok a → Entered img (enter img (tree_at img c) f) f.table.words r us en g → EnterLeft us en n j count (i + 1) e g
-    pub stop : {us en : List ℕ} {g : Walked} {r : Declared} (t : SymbolDeclaredTwice) → r ≡ Err t → Entered img (enter img (tree_at img c) f) f.table.words r us en g
-        → {o : Declared} → o ≡ Err t → Entered img (rest_enter img n j count 0 e) e.table.words o us en g
-
-  pub enter_item : {seen env : List ℕ} {n j count i c : ℕ} {e f : Walked} → EnterLeft seen env n j count i e f → i < count → c ≡ field img n (j + i) → EnterItem seen env n j count i c e f
-  enter_item {seen} {env} {n} {j} {count} {i} {c} {e} {f} b l q =
-      subst (λ (x : ℕ). EnterItem seen env n j count i x e f) (sym q)
-      (record {
-        entering = entering-less (let s = ents-more n j count i l in omega arith) b.entering;
-        more = λ d p. after d p;
-        stop = λ t d p z. stopped t (b.left ∙ enter-more n j count i f l ∙ and-stop t.name t.first.0 t.second.0 (rest_enter img n j count (i + 1)) _ (stopped-as t d p)) z (p.passed ∙ b.passed);
-      })
-    where
-      m : ℕ
-      m = field img n (j + i)
-
-      after : {us en : List ℕ} {g : Walked} {r : Declared} {a : Unit {0}} → r ≡ Ok a → Entered img (enter img (tree_at img m) f) f.table.words r us en g → EnterLeft us en n j count (i + 1) e g
-      after {us} {en} {g} d p =
-          let h = entered-as d p in
-          let t = (enter-in img (tree_at img m) (tree-small img m) f).went g h in
-          record {
-            within = omega arith;
-            entering = entering-next (subst (λ (y : ℕ). Entering img seen env y f) (ents-more n j count i l) b.entering) t (p.stamps g h) (p.opens g h);
-            passed = p.passed ∙ b.passed;
-            left = b.left ∙ enter-more n j count i f l ∙ and-done g (rest_enter img n j count (i + 1)) _ h;
-          }
-
-  pub enter-ended : {seen env : List ℕ} {n j count i : ℕ} {e g : Walked} → EnterLeft seen env n j count i e g → count ≤ i
-      → Entered img (rest_enter img n j count 0 e) e.table.words (Ok tt) seen env g
-  enter-ended {seen} {env} {n} {j} {count} {i} {e} {g} b l =
-      let h = b.left ∙ enter-end n j count i g l in
-      record {
-        same = sym h;
-        stamps = λ f d. subst (Seen img seen) (done-same g f (sym h ∙ d)) b.entering.stamps;
-        opens = λ f d. subst (λ (k : Walked). Opens img k env) (done-same g f (sym h ∙ d)) b.entering.opens;
-        passed = b.passed;
-      }
+    -- the walk stands at f: what entering the names that are left gives is the whole, l; ws are the words that it began with
+    pub record EnterRest (seen env : List ℕ) (k n : ℕ) (l : Listed) (ws : List ℕ) (s : Items T) (f : Walked) : Type 0 where
+      pub within : Within img k n s
+      pub entering : Entering img seen env (ents (trees_of s)) f
+      pub passed : past img f.table ≡ drop (table_length (nodes img)) ws
+      pub left : l ≡ enter_all img (trees_of s) f
 
   -- an enum: its own name, then its constructors' -----------------------------------------------------------------------------
   ctor-is : {n i c : ℕ} → Is img (kind_of enum_decl_kind) n → i < field img n 1 → c ≡ field img n (2 + i) → Is img (kind_by (outer signature) (name ∷ child arg_decl_list_kind ∷ [])) c
@@ -461,48 +416,15 @@ module _ (img : List ℕ) where
   ctor-ents : {n : ℕ} → Is img (kind_of enum_decl_kind) n → ents (items img n (field img n 1) 2) ≡ field img n 1
   ctor-ents {n} is = sig-ents n (field img n 1) 2 (λ i l. signed (ctor-is {i = i} is l refl))
 
-  pub sig-entering : {seen env : List ℕ} {n : ℕ} {e : Walked} → Signature img n → Entering img seen env (ent (tree_at img n)) e → Entering img seen env 1 e
+  sig-entering : {seen env : List ℕ} {n : ℕ} {e : Walked} → Signature img n → Entering img seen env (ent (tree_at img n)) e → Entering img seen env 1 e
   sig-entering {e = e} s p = entering-less (let z = (sig-enter e s).1 in omega arith) p
 
-  pub enum-whole : {n : ℕ} (e : Walked) → Is img (kind_of enum_decl_kind) n → enter img (tree_at img n) e ≡ and_then img (enter_name img n (marked img n e.scope e)) (rest_enter img n 2 (field img n 1) 0)
-  enum-whole {n} e is = (enum-enter e is).0 ∙ ap (and_then img (enter_name img n (marked img n e.scope e))) (fun_ext (λ f. enter-start n 2 (field img n 1) f))
-
-  pub enum-ent : {n : ℕ} → Is img (kind_of enum_decl_kind) n → ent (tree_at img n) ≡ 1 + field img n 1
+  enum-ent : {n : ℕ} → Is img (kind_of enum_decl_kind) n → ent (tree_at img n) ≡ 1 + field img n 1
   enum-ent {n} is = let a = (enum-enter nowhere is).1 in let c = ctor-ents is in omega arith
 
-  -- its constructors are the count items from place j of m's row on
-  pub record EnumEnter (seen env : List ℕ) (n : ℕ) (e f : Walked) (m j count : ℕ) : Type 0 where
-    pub own : Entering img seen env 1 f
-    pub ctors : {us en : List ℕ} {g : Walked} {r : Declared} {a : Unit {0}} → r ≡ Ok a → Entered img (enter_name img n f) f.table.words r us en g → EnterRun img us en ctor_decl_kind m j count g
-    pub enters : {us en qs em : List ℕ} {g h : Walked} {r : Declared} {a : Unit {0}} {o : Declared} → r ≡ Ok a → Entered img (enter_name img n f) f.table.words r us en g
-        → Entered img (rest_enter img m j count 0 g) g.table.words o qs em h → Entered img (enter img (tree_at img n) e) e.table.words o qs em h
-    pub stop : {us en : List ℕ} {g : Walked} {r : Declared} (t : SymbolDeclaredTwice) → r ≡ Err t → Entered img (enter_name img n f) f.table.words r us en g
-        → {o : Declared} → o ≡ Err t → Entered img (enter img (tree_at img n) e) e.table.words o us en g
-
-  pub enum_enter : {seen env new : List ℕ} {n : ℕ} {e f : Walked} {l : NodeList} → Is img (kind_of enum_decl_kind) n → Entering img seen env (ent (tree_at img n)) e → f ≡ marked img n e.scope e → new ≡ env → ListedAt img n 1 l
-      → EnumEnter seen new n e f l.node.0 l.first l.count
+  pub ctor-run : {n : ℕ} → Is img (kind_of enum_decl_kind) n → Run img ctor_decl_kind n 2 (field img n 1)
   unfolding next kind_of
-  enum_enter {seen} {env} {new} {n} {e} {f} is p q v a =
-      at-list img (EnumEnter seen new n e f) a
-      (record {
-        own = entering-less (omega arith) both;
-        ctors = λ {us} {en} {g} d h.
-            let k = entered-as d h in
-            record {
-              run = run-tail img is refl refl;
-              entering = subst (λ (c : ℕ). Entering img us en c g) (sym (ctor-ents is)) (entering-next both ((name_in img n f).went g k) (h.stamps g k) (h.opens g k));
-            };
-        enters = λ {us} {en} {qs} {em} {g} d h k.
-            let z = whole ∙ and-done g (rest_enter img n 2 (field img n 1) 0) _ (entered-as d h) in
-            record { same = k.same ∙ sym z; stamps = λ o t. k.stamps o (sym z ∙ t); opens = λ o t. k.opens o (sym z ∙ t); passed = k.passed ∙ h.passed ∙ past-marked n e.scope e q is.below };
-        stop = λ t d h z. stopped t (whole ∙ and-stop t.name t.first.0 t.second.0 (rest_enter img n 2 (field img n 1) 0) _ (stopped-as t d h)) z (h.passed ∙ past-marked n e.scope e q is.below);
-      })
-    where
-      both : Entering img seen new (1 + field img n 1) f
-      both = entering-marked q is.below (enum-quiet is) v (subst (λ (m : ℕ). Entering img seen env m e) (enum-ent is) p)
-
-      whole : enter img (tree_at img n) e ≡ and_then img (enter_name img n f) (rest_enter img n 2 (field img n 1) 0)
-      whole = enum-whole e is ∙ ap (λ (g : Walked). and_then img (enter_name img n g) (rest_enter img n 2 (field img n 1) 0)) (sym q)
+  ctor-run is = run-tail img is refl refl
 
   -- a Decl: what its declaration is -----------------------------------------------------------------------------------------
   abbrev pub decl_kinds : List ℕ
@@ -553,14 +475,190 @@ module _ (img : List ℕ) where
     unfolding size
     decl-size = ap size o.tree
 
-  -- the declaration entered, after its Decl is marked
-  pub record DeclEnter (seen env : List ℕ) (n d : ℕ) (e f : Walked) : Type 0 where
-    pub entering : Entering img seen env (ent (tree_at img d)) f
-    pub enters : {us en : List ℕ} {g : Walked} {r : Declared} → Entered img (enter img (tree_at img d) f) f.table.words r us en g → Entered img (enter img (tree_at img n) e) e.table.words r us en g
+  -- the declaration entered, after its Decl is marked; i is the image then
+  pub record DeclEnter (i seen env : List ℕ) (k n d : ℕ) (e f : Walked) : Type 0 where
+    pub is : Is i (kind_of k) d
+    pub entering : Entering i seen env (ent (tree_at i d)) f
+    pub enters : {us en : List ℕ} {g : Walked} {r : Declared} → Entered i (enter i (tree_at i d) f) f.table.words r us en g → Entered img (enter img (tree_at img n) e) e.table.words r us en g
 
-  pub decl_enter : {seen env new : List ℕ} {k n d : ℕ} {e f : Walked} → DeclOf k n d → Is img (kind_of decl_kind) n → Entering img seen env (ent (tree_at img n)) e → f ≡ marked img n e.scope e → new ≡ env → DeclEnter seen new n d e f
+  pub decl_enter : {seen env new : List ℕ} {k n d : ℕ} {e f : Walked} → DeclOf k n d → Is img (kind_of decl_kind) n → Entering img seen env (ent (tree_at img n)) e → f ≡ marked img n e.scope e → new ≡ env → DeclEnter img seen new k n d e f
   decl_enter {n = n} {d} {e} o is p q v =
       record {
+        is = o.is;
         entering = entering-marked q is.below (decl-quiet is) v (entering-less (let z = decl-ent o in omega arith) p);
         enters = λ h. enters-as (ap (enter img (tree_at img d)) q ∙ sym (decl-entered o e)) (past-marked n e.scope e q is.below) h;
       }
+
+-- what entering a signature asks, and that of its name
+pub sig-asked : {fs : List Field} {seen : List ℕ} {n x : ℕ} {b : ScopeBuilder} {s : ScopeId} → Is b.image.now (kind_by (outer signature) fs) n → x ≡ field b.image.now n 0
+    → Entering b.image.now seen b.env.now (ent (tree_at b.image.now n)) (walked_of b s) → Signature b.image.now n × Naming seen x n b s
+sig-asked {b = b} is q p = let t = signed b.image.now is in (t, record { name = sig-name b.image.now t q; entering = sig-entering b.image.now t p })
+
+-- the names of a list that is given
+abbrev pub names_of : NodeList → ScopeBuilder → ScopeId → Listed
+names_of l b s = enter_all b.image.now (items b.image.now l.node.0 l.count l.first) (walked_of b s)
+
+-- a loop over the declarations of a list: it began with the builder b, and stands in the scope s of b'
+module _ {T : Type 0} where
+  pub record EnterLeft (seen : List ℕ) (k n : ℕ) (l : Listed) (it : Items T) (b : ScopeBuilder) (s : ScopeId) (b' : ScopeBuilder) : Type 0 where
+    pub keeps : Keeps b b'
+    pub rest : EnterRest b'.image.now seen b'.env.now k n l b.table.now it (walked_of b' s)
+
+  -- the next of them, and what is left after it
+  pub record EnterItem (seen : List ℕ) (k n x : ℕ) (l : Listed) (t : Items T) (b : ScopeBuilder) (s : ScopeId) (b' : ScopeBuilder) : Type 0 where
+    pub is : Is b'.image.now (kind_of k) x
+    pub entering : Entering b'.image.now seen b'.env.now (ent (tree_at b'.image.now x)) (walked_of b' s)
+    pub more : {us : List ℕ} {c : ScopeBuilder} {r : Declared} {a : Unit {0}} → r ≡ Ok a → Keeps b' c → Enters (enter b'.image.now (tree_at b'.image.now x)) b' s r us c → EnterLeft us k n l t b s c
+    pub stop : {us en : List ℕ} {g : Walked} {r : Declared} (y : SymbolDeclaredTwice) → r ≡ Err y → Entered b'.image.now (enter b'.image.now (tree_at b'.image.now x) (walked_of b' s)) b'.table.now r us en g
+        → {o : Declared} → o ≡ Err y → Entered b.image.now l b.table.now o us en g
+
+  pub enter_item : {seen : List ℕ} {k n x : ℕ} {l : Listed} {it t : Items T} {b b' : ScopeBuilder} {s : ScopeId} → EnterLeft seen k n l it b s b'
+      → Others it t × (x ≡ field it.image.now it.left.list.node.0 it.left.list.first) → EnterItem seen k n x l t b s b'
+  enter_item {seen} {k} {n} {x} {l} {it} {t} {b} {b'} {s} w steps =
+      record {
+        is = o.is;
+        entering = entering-less img (let z = few in omega arith) p.entering;
+        more = λ {us} {c} d v h.
+            let g = walked_of c s in
+            let q = entered-as img d h in
+            let u = (enter-in img (tree_at img x) (tree-small img x) f).went g q in
+            record {
+              keeps = keeps-then w.keeps v;
+              rest =
+                  subst (λ (i : List ℕ). EnterRest i us c.env.now k n l b.table.now t g) (sym v.image)
+                  (record {
+                    within = o.rest;
+                    entering = entering-next img (subst (λ (y : ℕ). Entering img seen b'.env.now y f) few p.entering) u (h.stamps g q) (h.opens g q);
+                    passed = h.passed ∙ p.passed;
+                    left = whole ∙ and-done img g (enter_all img (trees_of t)) _ q;
+                  });
+            };
+        stop = λ {us} {en} {g} y d h {o} z.
+            subst (λ (i : List ℕ). Entered i l b.table.now o us en g) w.keeps.image
+            (stopped img y (whole ∙ and-stop img y.name y.first.0 y.second.0 (enter_all img (trees_of t)) _ (stopped-as img y d h)) z (h.passed ∙ p.passed));
+      }
+    where
+      img : List ℕ
+      img = b'.image.now
+
+      f : Walked
+      f = walked_of b' s
+
+      p : EnterRest img seen b'.env.now k n l b.table.now it f
+      p = w.rest
+
+      o : Taken img k n x it t
+      o = taken p.within steps.0 steps.1
+
+      few : ents (trees_of it) ≡ ent (tree_at img x) + ents (trees_of t)
+      few = ap ents o.trees ∙ ents-more img (tree_at img x) (trees_of t)
+
+      whole : l ≡ and_then img (enter img (tree_at img x) f) (enter_all img (trees_of t))
+      whole = p.left ∙ ap (λ (us : Trees). enter_all img us f) o.trees ∙ enter-first img (tree_at img x) (trees_of t) (within-small img o.rest) f
+
+  pub enter-ended : {seen : List ℕ} {k n : ℕ} {l : Listed} {it : Items T} {b b' : ScopeBuilder} {s : ScopeId} → EnterLeft seen k n l it b s b' → it.left.list.count ≡ 0
+      → Entered b.image.now l b.table.now (Ok tt) seen b'.env.now (walked_of b' s)
+  enter-ended {seen} {l = l} {it} {b} {b'} {s} w z =
+      let img = b'.image.now in
+      let g = walked_of b' s in
+      let p = w.rest in
+      let h = p.left ∙ ap (λ (us : Trees). enter_all img us g) (none-left it z) ∙ enter-none img g in
+      subst (λ (i : List ℕ). Entered i l b.table.now (Ok tt) seen b'.env.now g) w.keeps.image
+      (record {
+        same = sym h;
+        stamps = λ f d. subst (Seen img seen) (done-same g f (sym h ∙ d)) p.entering.stamps;
+        opens = λ f d. subst (λ (k : Walked). Opens img k b'.env.now) (done-same g f (sym h ∙ d)) p.entering.opens;
+        passed = p.passed;
+      })
+
+  pub names-begin : {seen : List ℕ} {l : NodeList} {b : ScopeBuilder} {s : ScopeId} {u start : Items T} → MayWalkAll l b s → start ≡ u → (u.image.now ≡ b.image.now) × (u.left.list ≡ l)
+      → EnterLeft seen decl_kind l.node.0 (names_of l b s) start b s b
+  names-begin {seen} {l} {b} {s} (p, o) e h =
+      let img = b.image.now in
+      let f = walked_of b s in
+      let a = begun e refl p.run h in
+      record {
+        keeps = keeps_same b;
+        rest = record {
+          within = a.within;
+          entering =
+              subst (λ (us : Trees). Entering img seen b.env.now (ents us) f) a.trees
+              (record {
+                accepted = p.run.accepted;
+                live = (let z = p.newest in let y = p.fits.scopes in omega arith);
+                room = (let y = p.fits.symbols in omega arith);
+                long = p.fits.kept.rising.long;
+                stamps = seen_start img seen f p.fresh;
+                opens = o;
+              });
+          passed = refl;
+          left = ap (λ (us : Trees). enter_all img us f) a.trees;
+        };
+      }
+
+-- an enum, after its node is marked: what its own name asks, and its constructors
+pub record EnumEnter (seen : List ℕ) (n : ℕ) (l : NodeList) (b : ScopeBuilder) (s : ScopeId) (b' : ScopeBuilder) : Type 0 where
+  pub name : {x : ℕ} → x ≡ field b'.image.now n 0 → Named b'.image.now n x
+  pub own : Entering b'.image.now seen b'.env.now 1 (walked_of b' s)
+  pub short : l.first + l.count ≤ 8193
+  pub stop : {us en : List ℕ} {g : Walked} {r : Declared} (y : SymbolDeclaredTwice) → r ≡ Err y → Entered b'.image.now (enter_name b'.image.now n (walked_of b' s)) b'.table.now r us en g
+      → {o : Declared} → o ≡ Err y → Entered b.image.now (enter b.image.now (tree_at b.image.now n) (walked_of b s)) b.table.now o us en g
+  pub begins : {us : List ℕ} {c : ScopeBuilder} {r : Declared} {a : Unit {0}} {u start : Items CtorDeclId} → r ≡ Ok a → Keeps b' c → Enters (enter_name b'.image.now n) b' s r us c
+      → start ≡ u → (u.image.now ≡ c.image.now) × (u.left.list ≡ l) → EnterLeft us ctor_decl_kind n (enter b.image.now (tree_at b.image.now n) (walked_of b s)) start b s c
+
+pub enum_enter : {seen : List ℕ} {n : ℕ} {l : NodeList} {b b' : ScopeBuilder} {s : ScopeId} → Keeps b b' → MayEnter (kind_of enum_decl_kind) n seen b s → walked_of b' s ≡ marked b.image.now n s.0 (walked_of b s)
+    → b'.env.now ≡ b.env.now → ListedAt b'.image.now n 1 l → EnumEnter seen n l b s b'
+enum_enter {seen} {n} {l} {b} {b'} {s} keeps (is, p) q v a =
+    record {
+      name = λ {x} h. subst (λ (i : List ℕ). Named i n x) (sym k) (enum-name img is (h ∙ ap (λ (i : List ℕ). field i n 0) k));
+      own = subst (λ (i : List ℕ). Entering i seen b'.env.now 1 f) (sym k) (entering-less img (omega arith) both);
+      short = row-short img list (ctor-run img is);
+      stop = λ y d h z.
+          let o = at-first h in
+          stopped img y (whole ∙ and-stop img y.name y.first.0 y.second.0 (enter_all img ts) _ (stopped-as img y d o)) z (o.passed ∙ past-marked img n e.scope e q is.below);
+      begins = λ {us} {c} {start = start} d y h x m.
+          let g = walked_of c s in
+          let o = at-first h in
+          let w = entered-as img d o in
+          let j = y.image ∙ k in
+          let r = begun-row x list (ctor-run img is) (m.0 ∙ j, m.1) in
+          let z : Entering img us c.env.now (field img n 1) g = entering-next img both ((name_in img n f).went g w) (o.stamps g w) (o.opens g w) in
+          record {
+            keeps = keeps-then keeps y;
+            rest =
+                subst (λ (i : List ℕ). EnterRest i us c.env.now ctor_decl_kind n (enter img (tree_at img n) e) b.table.now start g) (sym j)
+                (record {
+                  within = r.within;
+                  entering = subst (λ (vs : Trees). Entering img us c.env.now (ents vs) g) r.trees (subst (λ (i : ℕ). Entering img us c.env.now i g) (sym (ctor-ents img is)) z);
+                  passed = o.passed ∙ past-marked img n e.scope e q is.below;
+                  left = whole ∙ and-done img g (enter_all img ts) _ w ∙ ap (λ (vs : Trees). enter_all img vs g) r.trees;
+                });
+          };
+    }
+  where
+    img : List ℕ
+    img = b.image.now
+
+    k : b'.image.now ≡ img
+    k = keeps.image
+
+    e : Walked
+    e = walked_of b s
+
+    f : Walked
+    f = walked_of b' s
+
+    list : ListedAt img n 1 l
+    list = subst (λ (i : List ℕ). ListedAt i n 1 l) k a
+
+    ts : Trees
+    ts = items img n (field img n 1) 2
+
+    both : Entering img seen b'.env.now (1 + field img n 1) f
+    both = entering-marked img q is.below (enum-quiet img is) v (subst (λ (m : ℕ). Entering img seen b.env.now m e) (enum-ent img is) p)
+
+    whole : enter img (tree_at img n) e ≡ and_then img (enter_name img n f) (enter_all img ts)
+    whole = (enum-enter img e is).0 ∙ ap (λ (g : Walked). and_then img (enter_name img n g) (enter_all img ts)) (sym q)
+
+    at-first : {us en : List ℕ} {g : Walked} {r : Declared} → Entered b'.image.now (enter_name b'.image.now n f) f.table.words r us en g → Entered img (enter_name img n f) f.table.words r us en g
+    at-first {us} {en} {g} {r} h = subst (λ (i : List ℕ). Entered i (enter_name i n f) f.table.words r us en g) k h

@@ -9,8 +9,8 @@ pub mod Resolving
 pub mod Declaring
 pub mod Stamping
 pub mod Entries
-pub mod Decls
 pub mod Visiting
+pub mod Decls
 pub mod Models
 pub mod Rooting
 pub mod Headed

@@ -1,4 +1,5 @@
 -- Laws of Lookup: its refusals in order, and the answer.
+use Rattle.std.proofs.lemmas.Bool.{and_parts}
 use mathlib.Core.Path.{◌≡◌, refl, sym, ap, subst, ◌∙◌}
 use mathlib.Core.Bool.{Bool, true, false, ◌&&◌, ◌||◌}
 use mathlib.Core.List.{List}
@@ -15,7 +16,7 @@ use Rattle.ast.specs.Kinds.{Kind, kinds, kind_of}
 use Rattle.ast.specs.Tests.{verdict}
 use Rattle.ast.specs.Answer.{refused, result, other}
 use Rattle.ast.proofs.Accepted.{both, needed, ran, skip}
-use Rattle.ast.proofs.Bools.{true-is, false-true}
+use Rattle.ast.proofs.Bools.{true-is}
 use Rattle.ast.proofs.ByKind.{low-kind}
 use Rattle.ast.proofs.Scans.{need-in, need-out}
 use Rattle.ast.proofs.Vars.{every-kind}
@@ -69,7 +70,7 @@ module _ (img tab : List ℕ) (s : ℕ) where
       lookup_beyond h = sym (skip _ _ (sym passed) ∙ skip _ _ (sym sound) ∙ need-out 17 _ (le-ltb _ _ h))
 
 -- where these tests pass, the image is accepted and the table sound
-pub lookup-accepted : (img tab : List ℕ) (s : ℕ) → 0 ≡ test_lookup img tab s → verdict img ≡ 0
+lookup-accepted : (img tab : List ℕ) (s : ℕ) → 0 ≡ test_lookup img tab s → verdict img ≡ 0
 unfolding test_lookup test_table
 lookup-accepted img tab s e = (both _ _ (both _ _ (sym e)).0).0
 
@@ -97,10 +98,6 @@ named-declares : (b : Bool) (k : ℕ) → k ≤ 40 → named b k ≡ true → de
 unfolding naming implies
 named-declares b k l h = true-is _ (subst (λ (c : Bool). T (implies c (declares k))) h (every-naming b k l))
 
-conj : (a b : Bool) → (a && b) ≡ true → (a ≡ true) × (b ≡ true)
-conj true b h = (refl, h)
-conj false b h = absurd (false-true h)
-
 module _ (img tab : List ℕ) (s : ℕ) (passed : 0 ≡ test_lookup img tab s) where
   row-symbol : (j : ℕ) → j < symbols_in img tab → is_symbol img (node_at (nodes img) tab j) ≡ true
   unfolding test_sound row_sound
@@ -112,7 +109,7 @@ module _ (img tab : List ℕ) (s : ℕ) (passed : 0 ≡ test_lookup img tab s) w
   symbol-declares : (n : ℕ) → is_symbol img n ≡ true → declares (kind_at img n) ≡ true
   unfolding is_symbol named
   symbol-declares n h =
-      let c = conj (ltb n (nodes img)) (named (has_name img n) (kind_at img n)) h in
+      let c = and_parts (ltb n (nodes img)) (named (has_name img n) (kind_at img n)) h in
       named-declares (has_name img n) (kind_at img n) (low-kind img (lookup-accepted img tab s passed) n (ltb→lt n (nodes img) (subst T (sym c.0) tt))) c.1
 
   pub looked-declares : {y n k : ℕ} (x : ℕ) → y ≡ symbols_in img tab → some n ≡ climb img (suc s) tab y s x → k ≡ kind_at img n → declares k ≡ true

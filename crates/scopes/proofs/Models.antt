@@ -35,13 +35,13 @@ use Rattle.environment.specs.Stands.{Stands, Opens, First, above}
 use Rattle.environment.proofs.Asking.{loud_fields, quiet}
 use Rattle.environment.proofs.Laws.{opens-left, opens-child}
 use Rattle.ordered.specs.Promises.{Few}
-use Rattle.scopes.specs.Walk.{Listed, done, and_then, enter_all, visit, visit_all}
+use Rattle.scopes.specs.Walk.{done, and_then, enter_all, visit, visit_all}
 use Rattle.scopes.specs.Promises.{Declared, ents, vis, viss, over_list, Visited, Visit, ListRun}
 use Rattle.scopes.proofs.Adds.{Newest, opened, opened-counts, child-newest, child-past, child-empty, list-in}
 use Rattle.scopes.proofs.Entries.{and-done, and-stop}
 use Rattle.scopes.proofs.Moves.{Moves, stay, next as goes, marks, adds, opens, drops, rises, ends-and, enter_all-ends, visit_all-ends}
 use Rattle.scopes.proofs.Namings.{Fit, tree-fits}
-use Rattle.scopes.proofs.Visiting.{list_trees, over-start, stands-done, visited-as, halted-as, visits-twice}
+use Rattle.scopes.proofs.Visiting.{list_trees, stands-done, visited-as, halted-as, visits-twice}
 
 module _ (img : List ℕ) where
   -- a walk in the scope m, whose parent is p, or below it: the rows from r on are of such scopes, and those before are of lower ones
@@ -162,7 +162,7 @@ module _ (img : List ℕ) where
   model-fits {n} is = subst (EverywhereAll (Fit img)) (append-none (items img n (field img n 1) 2)) (subst (Everywhere (Fit img)) (tree_of img is) (tree-fits img is.accepted n is.below)).1
 
   -- its own scope, with its node marked
-  pub opened-is : (n : ℕ) (e : Walked) {f g : Walked} → f ≡ child_scope img e → g ≡ marked img n f.scope f → g ≡ opened img n e
+  opened-is : (n : ℕ) (e : Walked) {f g : Walked} → f ≡ child_scope img e → g ≡ marked img n f.scope f → g ≡ opened img n e
   unfolding child_scope
   opened-is n e {f} {g} p q = q ∙ ap (λ (k : Walked). marked img n k.scope k) p
 
@@ -170,17 +170,17 @@ module _ (img : List ℕ) where
     pub own : m ≡ n
     pub list : ListRun img m j count g
     pub opens : {env new : List ℕ} → new ≡ env → Stands img e env → Opens img g new
-    pub leaves : {us env en : List ℕ} {h : Walked} {r : Declared} {a : Unit {0}} → r ≡ Ok a → Visited img (over_list img m j count g) us r en h → Stands img e env
+    pub leaves : {us env en : List ℕ} {h : Walked} {r : Declared} {a : Unit {0}} → r ≡ Ok a → Visited img (over_list img (items img m count j) g) us r en h → Stands img e env
         → Stands img h en × First img h.table h.scope e.table.symbols
-    pub back_in : {us env en em : List ℕ} {h : Walked} {r : Declared} {a : Unit {0}} → r ≡ Ok a → Visited img (over_list img m j count g) us r en h → us ≡ g.table.words → Stands img e env
+    pub back_in : {us env en em : List ℕ} {h : Walked} {r : Declared} {a : Unit {0}} → r ≡ Ok a → Visited img (over_list img (items img m count j) g) us r en h → us ≡ g.table.words → Stands img e env
         → Stands img (above img h) em → {t : Table} → t ≡ h.table → Visited img (visit img (tree_at img n) e) e.table.words (Ok tt) em (record { scope = e.scope; table = t })
-    pub stop : {us en : List ℕ} {h : Walked} {r : Declared} (t : SymbolDeclaredTwice) → r ≡ Err t → Visited img (over_list img m j count g) us r en h → us ≡ g.table.words
+    pub stop : {us en : List ℕ} {h : Walked} {r : Declared} (t : SymbolDeclaredTwice) → r ≡ Err t → Visited img (over_list img (items img m count j) g) us r en h → us ≡ g.table.words
         → {o : Declared} → o ≡ Err t → Visited img (visit img (tree_at img n) e) e.table.words o en (back img e.scope h)
 
-  pub model_visit : {n : ℕ} {e g : Walked} {l : NodeList} → Visit img (kind_of model_decl_kind) n e → ListedAt img n 1 l → g ≡ opened img n e → ModelVisit n e g l.node.0 l.first l.count
+  pub model_visit : {n : ℕ} {e f g : Walked} {l : NodeList} → Visit img (kind_of model_decl_kind) n e → ListedAt img n 1 l → f ≡ child_scope img e → g ≡ marked img n f.scope f → ModelVisit n e g l.node.0 l.first l.count
   unfolding next kind_of
-  model_visit {n} {e} {g} p q o =
-      at-list img (ModelVisit n e g) q (subst (λ (f : Walked). ModelVisit n e f n 2 (field img n 1)) (sym o)
+  model_visit {n} {e} {g = g} p q v w =
+      at-list img (ModelVisit n e g) q (subst (λ (k : Walked). ModelVisit n e k n 2 (field img n 1)) (sym (opened-is n e v w))
       (record {
         own = refl;
         list = record {
@@ -224,16 +224,14 @@ module _ (img : List ℕ) where
       new : Newest img m
       new = child-newest img e p.is.below small p.fits.kept
 
-      whole : visit img (tree_at img n) e ≡ and_then img (over_list img n 2 (field img n 1) m) (λ f. done (back img e.scope f))
+      whole : visit img (tree_at img n) e ≡ and_then img (over_list img ts m) (λ f. done (back img e.scope f))
       whole = (model-visit e p.is).0
           ∙ ap (λ (us : Trees). and_then img (and_then img (enter_all img us m) (λ f. visit_all img us f)) (λ f. done (back img e.scope f))) a
-          ∙ ap (λ (l : Listed). and_then img l (λ f. done (back img e.scope f))) (over-start img n 2 (field img n 1) m)
 
       -- where the list ends
-      ended : (f : Walked) → over_list img n 2 (field img n 1) m ≡ done f → e.scope < e.table.scopes → (f.scope ≡ e.table.scopes) × Within e.table.scopes e.scope e.table.symbols f
+      ended : (f : Walked) → over_list img ts m ≡ done f → e.scope < e.table.scopes → (f.scope ≡ e.table.scopes) × Within e.table.scopes e.scope e.table.symbols f
       ended f t l =
-          let b : and_then img (enter_all img ts m) (visit_all img ts) ≡ done f = over-start img n 2 (field img n 1) m ∙ t in
-          let w = (list-in img ts m (items-small img n (field img n 1) 2) new).went f b in
+          let w = (list-in img ts m (items-small img n (field img n 1) 2) new).went f t in
           let x = w.scopes in
           let y = w.symbols in
           let u = p.fits.scopes in
@@ -241,11 +239,11 @@ module _ (img : List ℕ) where
           let z = c in
           let k = s in
           let q = model-fits p.is in
-          let o = ends-and img (enter_all img ts m) (visit_all img ts) (enter_all-ends img ts q m) (λ g. visit_all-ends img ts q g) f b in
+          let o = ends-and img (enter_all img ts m) (visit_all img ts) (enter_all-ends img ts q m) (λ g. visit_all-ends img ts q g) f t in
           (w.same ∙ opened-scope n e, moves-within o (record { scopes = omega arith; symbols = omega arith }) (opened-within e p.is.below small p.fits.kept))
 
-      first_of : (f : Walked) → over_list img n 2 (field img n 1) m ≡ done f → e.scope < e.table.scopes → First img f.table f.scope e.table.symbols
+      first_of : (f : Walked) → over_list img ts m ≡ done f → e.scope < e.table.scopes → First img f.table f.scope e.table.symbols
       first_of f t l = let (a, b) = ended f t l in subst (λ (x : ℕ). First img f.table x e.table.symbols) (sym a) (record { lower = (let z = b.parent in omega arith); before = λ j k i. b.before j k; after = b.after })
 
-      above-is : (f : Walked) → over_list img n 2 (field img n 1) m ≡ done f → e.scope < e.table.scopes → above img f ≡ back img e.scope f
+      above-is : (f : Walked) → over_list img ts m ≡ done f → e.scope < e.table.scopes → above img f ≡ back img e.scope f
       above-is f t l = let (a, b) = ended f t l in ap (λ (x : ℕ). record { scope = x; table = f.table }) (ap (parent_at (nodes img) f.table.words) a ∙ b.parent)

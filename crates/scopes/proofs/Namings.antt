@@ -1,7 +1,7 @@
 -- The trees of an accepted image: the nodes are below N, and what the walk enters as a symbol is a named node of a kind that has
 -- a symbol number.
 use mathlib.Core.Path.{◌≡◌, refl, sym, ap, subst, ◌∙◌}
-use mathlib.Core.Bool.{Bool, true, not, ◌&&◌}
+use mathlib.Core.Bool.{Bool, true, not, ◌&&◌, false≢true}
 use mathlib.Core.List.{List, [], ◌∷◌}
 use Prim.Native.Nat.{ℕ, zero, suc, ◌+◌, ◌<◌, ◌≤◌}
 use native.Mathlib.Decide.{dec_lt}
@@ -21,7 +21,7 @@ use Rattle.ast.proofs.Unfold.{All, nil, cons, All-append, tree_at-is}
 use Rattle.ast.proofs.Vars.{Everywhere, EverywhereAll, everywhere, every-kind, and_both}
 use Rattle.sound.specs.Sound.{has_name, is_symbol}
 use Rattle.sound.proofs.Sounds.{named-yes, symbol-out, symbol-rule, symbol-arg, symbol-var, symbol-decl}
-use Rattle.ast.proofs.Bools.{true-not-false, false-true}
+use Rattle.ast.proofs.Bools.{true-not-false}
 use Rattle.ordered.proofs.Moves.{named_by, enters}
 
 -- the kinds of these classes
@@ -129,7 +129,7 @@ module _ (img : List ℕ) (n : ℕ) (below : n < nodes img) where
 
   present : (w : ℕ) (sh : List ℕ) → named_by (elim w [ zero ↦ 0 | suc c ↦ 1 ] ∷ sh) ≡ true → w ≡ 0 → ⊥
   unfolding named_by
-  present zero sh e z = false-true e
+  present zero sh e z = false≢true e
   present (suc w) sh e z = omega arith
 
   has : (q : (sh : List ℕ) × (shape img n ≡ elim (field img n 0) [ zero ↦ 0 | suc c ↦ 1 ] ∷ sh)) → named_by (shape img n) ≡ true → has_name img n ≡ true
@@ -137,21 +137,21 @@ module _ (img : List ℕ) (n : ℕ) (below : n < nodes img) where
 
   class-symbol : (c : Class) → T (allowed c (kind_at img n)) → enters c (shape img n) ≡ true → is_symbol img n ≡ true
   unfolding enters allowed
-  class-symbol (outer root) t e = absurd (false-true e)
-  class-symbol (outer decl) t e = absurd (false-true e)
+  class-symbol (outer root) t e = absurd (false≢true e)
+  class-symbol (outer decl) t e = absurd (false≢true e)
   class-symbol (outer signature) t e = decl-symbol t
   class-symbol (outer rule) t e = let k = eqb→eq (kind_at img n) 6 t in symbol-rule img n below k ∙ has (shape-six k) e
   class-symbol (outer enum) t e = decl-symbol t
   class-symbol (outer model) t e = decl-symbol t
-  class-symbol (inner plain) t e = absurd (false-true e)
-  class-symbol (inner term) t e = absurd (false-true e)
+  class-symbol (inner plain) t e = absurd (false≢true e)
+  class-symbol (inner term) t e = absurd (false≢true e)
   class-symbol (inner ident) t e = let k = eqb→eq (kind_at img n) 13 t in symbol-var img n below k
-  class-symbol (inner head) t e = absurd (false-true e)
-  class-symbol (inner head_member) t e = absurd (false-true e)
-  class-symbol (inner member) t e = absurd (false-true e)
-  class-symbol (inner case) t e = absurd (false-true e)
-  class-symbol (inner if_var) t e = absurd (false-true e)
-  class-symbol (inner defined_then) t e = absurd (false-true e)
+  class-symbol (inner head) t e = absurd (false≢true e)
+  class-symbol (inner head_member) t e = absurd (false≢true e)
+  class-symbol (inner member) t e = absurd (false≢true e)
+  class-symbol (inner case) t e = absurd (false≢true e)
+  class-symbol (inner if_var) t e = absurd (false≢true e)
+  class-symbol (inner defined_then) t e = absurd (false≢true e)
   class-symbol (inner arg) t e = let k = eqb→eq (kind_at img n) 10 t in symbol-arg img n below k ∙ has (shape-ten k) e
 
 module _ (img : List ℕ) (accepted : verdict img ≡ 0) where

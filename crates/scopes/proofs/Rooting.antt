@@ -1,10 +1,11 @@
 -- The module's list, and Resolve as the code goes: cleared words, the walk, the counts, or words cleared again.
+use Rattle.rows.proofs.Words.{cleared-zero}
 use mathlib.Core.Path.{◌≡◌, refl, sym, ap, subst, ◌∙◌}
 use mathlib.Core.List.{List, ◌++◌}
 use mathlib.Core.Option.{none as nothing}
 use Prim.Native.Nat.{ℕ, suc, ◌<◌, ◌≤◌}
 use native.Mathlib.Omega.{arith}
-use lib.ListN.{length, get_or, drop, replicate, length-replicate, get_or-replicate, get_or-append}
+use lib.ListN.{length, get_or, drop, replicate}
 use Rattle.std.specs.Prelude.{Result, Ok, Err}
 use Rattle.error.specs.declared.SymbolDeclaredTwice.{SymbolDeclaredTwice}
 use Rattle.ast.specs.Answer.{Answer, refused, twice as twice_answer, result}
@@ -42,7 +43,7 @@ use Rattle.scopes.proofs.Adds.{addss}
 use Rattle.scopes.proofs.Calls.{way-stops, way_fills, call-refused, call-stopped, call-filled}
 use Rattle.scopes.proofs.Resolving.{begun, begun-counts, begun-newest, begun-past, table-accepted, table-long, zeroed-past, walked-ended}
 use Rattle.scopes.proofs.Headed.{headed-noted}
-use Rattle.scopes.proofs.Visiting.{over-start, visits-from}
+use Rattle.scopes.proofs.Visiting.{visits-from}
 
 module _ (img : List ℕ) where
   pub root_is : verdict img ≡ 0 → Is img (kind_of module_kind) (last img)
@@ -72,7 +73,7 @@ module _ (img : List ℕ) where
   pub record RootVisit (b : ScopeBuilder) (env : List ℕ) (f g : Walked) (m j count : ℕ) : Type 0 where
     pub list : ListRun img m j count g
     pub opens : Opens img g env
-    pub visits : {us en : List ℕ} {t : Table} {r : Declared} → Visited img (over_list img m j count g) us r en (record { scope = f.scope; table = t }) → us ≡ g.table.words
+    pub visits : {us en : List ℕ} {t : Table} {r : Declared} → Visited img (over_list img (items img m count j) g) us r en (record { scope = f.scope; table = t }) → us ≡ g.table.words
         → Visited img (resolve_tree img (tree_at img (last img)) (table_in b)) b.table.now r en (record { scope = 0; table = t })
 
   pub root_visit : {n : ℕ} {b : ScopeBuilder} {env : List ℕ} {f g : Walked} {l : NodeList} → Lent img b → n ≡ last img
@@ -128,15 +129,9 @@ module _ (img : List ℕ) where
       fills : suc (sizes ts) ≡ nodes img
       fills = ap (λ (us : Trees). suc (sizes us)) (sym a) ∙ sym (root-tree ws low p.long is).1 ∙ ap (λ (x : ℕ). size (tree_at img x)) q ∙ tree-size img p.accepted
 
-      whole : resolve_tree img (tree_at img (last img)) (record { words = ws; scopes = 0; symbols = 0 }) ≡ over_list img n 1 (field img n 0) m
+      whole : resolve_tree img (tree_at img (last img)) (record { words = ws; scopes = 0; symbols = 0 }) ≡ over_list img ts m
       whole = ap (λ (x : ℕ). resolve_tree img (tree_at img x) (record { words = ws; scopes = 0; symbols = 0 })) (sym q) ∙ (root-tree ws low p.long is).0
-          ∙ ap (λ (us : Trees). and_then img (enter_all img us m) (visit_all img us)) a ∙ over-start img n 1 (field img n 0) m
-
--- a cleared word is 0
-pub cleared-zero : (n : ℕ) (ws : List ℕ) (i : ℕ) → i < n → get_or (cleared n ws) i 0 ≡ 0
-unfolding cleared
-cleared-zero n ws i l =
-    get_or-append (replicate n 0) (drop n ws) 0 i (let z = length-replicate {A = ℕ} n 0 in omega arith) ∙ get_or-replicate n i 0 0 l
+          ∙ ap (λ (us : Trees). and_then img (enter_all img us m) (visit_all img us)) a
 
 -- Resolve, by the words that the code has at each step
 module _ (img tab : List ℕ) (passes : test_table img tab ≡ 0) (us : List ℕ) (c : ℕ) (count-is : c ≡ table_length (nodes img)) (begins : us ≡ cleared c tab) where

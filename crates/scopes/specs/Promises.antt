@@ -1,6 +1,6 @@
 -- What the contracts of the functions over declaration lists say: what is left of a list, how many names it may add, the stamps
 -- of the names that a scope has, and what each function asks before it starts.
-use Rattle.std.specs.Prelude.{◌≡◌, Bool, true, false, List, ℕ, suc, ◌+◌, ◌-◌, ◌<◌, ◌≤◌, length, get_or, set, drop, replicate, Result, Ok, Err}
+use Rattle.std.specs.Prelude.{◌≡◌, Bool, true, false, List, ℕ, suc, ◌+◌, ◌<◌, ◌≤◌, length, get_or, set, drop, replicate, Result, Ok, Err}
 use Rattle.ast.specs.Declarations.{declared, declared_all}
 use Rattle.ast.specs.Image.{nodes, kind_at, name_of}
 use Rattle.ast.specs.Is.{Is, Run}
@@ -14,15 +14,13 @@ use Rattle.error.specs.declared.SymbolDeclaredTwice.{SymbolDeclaredTwice}
 use Rattle.table.specs.Kept.{Kept}
 use Rattle.table.specs.Layout.{table_length}
 use Rattle.table.specs.Rising.{scope_of, node_at}
-use Rattle.table.specs.State.{Walked, back}
+use Rattle.table.specs.State.{Walked}
 use Rattle.table.specs.declared.ScopeId.{ScopeId}
 use Rattle.environment.specs.Builder as Builder
 use Rattle.environment.specs.Builder.{walked_of}
 use Rattle.environment.specs.Layout.{environment_length}
 use Rattle.environment.specs.Stands.{Stands, Opens, Named, Noted}
 use Rattle.environment.specs.declared.ScopeBuilder.{ScopeBuilder}
-use Rattle.ordered.specs.Walk.{occurs}
-use Rattle.ordered.specs.Promises.{inside, Room}
 use Rattle.scopes.specs.Answers.{table_of}
 use Rattle.scopes.specs.Walk.{Listed, done, twice, recorded, and_then, enter_names, mark_all, enter_all, visit_all}
 use Rattle.scopes.specs.declared.Resolved.{Resolved}
@@ -71,22 +69,13 @@ module _ (img : List ℕ) where
   unfoldable pub enter : Tree → Walked → Listed
   enter u e = enter_names img (declared u) (mark_all img (recorded u) e)
 
-  -- what entering and visiting those of the count items from place j of n's row on give that are left after i of them
-  unfoldable pub rest_enter : (n j count i : ℕ) → Walked → Listed
-  unfolding items
-  rest_enter n j count i e = enter_all img (items img n (count - i) (j + i)) e
-
-  unfoldable pub rest_visit : (n j count i : ℕ) → Walked → Listed
-  unfolding items
-  rest_visit n j count i e = visit_all img (items img n (count - i) (j + i)) e
-
-  -- the whole list: its names first, then its declarations
-  abbrev pub over_list : (n j count : ℕ) → Walked → Listed
-  over_list n j count e = and_then img (rest_enter n j count 0 e) (rest_visit n j count 0)
+  -- a whole list: its names first, then its declarations
+  abbrev pub over_list : Trees → Walked → Listed
+  over_list us e = and_then img (enter_all img us e) (visit_all img us)
 
   -- the same of the nodes of a list
   abbrev pub whole_list : NodeList → Walked → Listed
-  whole_list l e = over_list l.node.0 l.first l.count e
+  whole_list l e = over_list (items img l.node.0 l.count l.first) e
 
   -- each row of the scope that the walk stands in has its name stamped with the scope's number plus 1
   pub record Seen (seen : List ℕ) (e : Walked) : Type 0 where
@@ -103,11 +92,6 @@ module _ (img : List ℕ) where
     pub stamps : Seen seen e
     pub opens : Opens img e env
 
-  -- the name x of node n may be entered in the scope s
-  pub record Naming (seen : List ℕ) (x n : ℕ) (b : ScopeBuilder) (s : ScopeId) : Type 0 where
-    pub name : Named img n x
-    pub entering : Entering seen b.env.now 1 (walked_of b s)
-
   -- what entering hands back: the definition's, with the stamps of what was entered and what names stand for then, and the words
   -- past the table as they were
   pub record Entered (l : Listed) (ws : List ℕ) (r : Declared) (seen env : List ℕ) (e : Walked) : Type 0 where
@@ -122,27 +106,11 @@ module _ (img : List ℕ) where
     pub stands : (f : Walked) → l ≡ done f → Stands img f env
     pub passed : drop (table_length (nodes img)) e.table.words ≡ drop (table_length (nodes img)) ws
 
-  -- the same of the builder, from before to after: the walk stands in the scope s
-  abbrev pub Enters : (Walked → Listed) → ScopeBuilder → ScopeId → Declared → List ℕ → ScopeBuilder → Type 0
-  Enters f old s r seen new = Entered (f (walked_of old s)) old.table.now r seen new.env.now (walked_of new s)
-
-  abbrev pub Visits : (Walked → Listed) → ScopeBuilder → ScopeId → Declared → ScopeBuilder → Type 0
-  Visits f old s r new = Visited (f (walked_of old s)) old.table.now r new.env.now (walked_of new s)
-
-  -- what a declaration's trees add, dropped again
-  abbrev pub dropped : ℕ → Walked → Walked
-  dropped n e = back img e.scope (inside img occurs n e)
-
   -- a type, pred, func, const or constructor
   pub record Signature (n : ℕ) : Type 0 where
     pub accepted : verdict img ≡ 0
     pub below : n < nodes img
     pub class : (kind_of (kind_at img n)).class ≡ outer signature
-
-  -- a declaration whose trees are walked and dropped
-  pub record Inside (kd : Kind) (n : ℕ) (e : Walked) : Type 0 where
-    pub is : Is img kd n
-    pub room : Room img (inside img occurs n e)
 
   -- a scopes and b symbols more fit
   pub record Fits (a b : ℕ) (e : Walked) : Type 0 where
@@ -155,16 +123,6 @@ module _ (img : List ℕ) where
     pub is : Is img kd n
     pub fits : Fits (size (tree_at img n)) (vis (tree_at img n)) e
 
-  -- what entering the names of a list asks
-  pub record EnterRun (seen env : List ℕ) (k n j count : ℕ) (e : Walked) : Type 0 where
-    pub run : Run img k n j count
-    pub entering : Entering seen env (ents (items img n count j)) e
-
-  -- what visiting the declarations of a list asks
-  pub record VisitRun (k n j count : ℕ) (e : Walked) : Type 0 where
-    pub run : Run img k n j count
-    pub fits : Fits (sizes (items img n count j)) (viss (items img n count j)) e
-
   -- what the whole list asks: the walk stands in the newest scope, which has no row yet
   pub record ListRun (n j count : ℕ) (e : Walked) : Type 0 where
     pub run : Run img decl_kind n j count
@@ -172,20 +130,30 @@ module _ (img : List ℕ) where
     pub newest : suc e.scope ≡ e.table.scopes
     pub fresh : (j : ℕ) → j < e.table.symbols → scope_of (nodes img) e.table.words j < e.scope
 
-  -- what each function asks of the builder, where the walk stands in the scope s: one that enters a declaration
-  abbrev pub MayEnter : Kind → ℕ → List ℕ → ScopeBuilder → ScopeId → Type 0
-  MayEnter kd n seen b s = Is img kd n × Entering seen b.env.now (ent (tree_at img n)) (walked_of b s)
+-- the name x of node n may be entered in the scope s
+pub record Naming (seen : List ℕ) (x n : ℕ) (b : ScopeBuilder) (s : ScopeId) : Type 0 where
+  pub name : Named b.image.now n x
+  pub entering : Entering b.image.now seen b.env.now 1 (walked_of b s)
 
-  -- one that visits it, and one that walks the trees inside it
-  abbrev pub MayVisit : Kind → ℕ → ScopeBuilder → ScopeId → Type 0
-  MayVisit kd n b s = Visit kd n (walked_of b s) × Stands img (walked_of b s) b.env.now
+-- what entering and visiting hand back, of the builder from before to after: the walk stands in the scope s
+abbrev pub Enters : (Walked → Listed) → ScopeBuilder → ScopeId → Declared → List ℕ → ScopeBuilder → Type 0
+Enters f old s r seen new = Entered old.image.now (f (walked_of old s)) old.table.now r seen new.env.now (walked_of new s)
 
-  abbrev pub MayWalkInside : Kind → ℕ → ScopeBuilder → ScopeId → Type 0
-  MayWalkInside kd n b s = Inside kd n (walked_of b s) × Stands img (walked_of b s) b.env.now
+abbrev pub Visits : (Walked → Listed) → ScopeBuilder → ScopeId → Declared → ScopeBuilder → Type 0
+Visits f old s r new = Visited old.image.now (f (walked_of old s)) old.table.now r new.env.now (walked_of new s)
 
-  -- and one that walks a whole list
-  abbrev pub MayWalkAll : NodeList → ScopeBuilder → ScopeId → Type 0
-  MayWalkAll l b s = ListRun l.node.0 l.first l.count (walked_of b s) × Opens img (walked_of b s) b.env.now
+-- what each function asks of the builder, where the walk stands in the scope s: predicates, since how node and builder fit is a
+-- fact of no one value. One that enters a declaration
+abbrev pub MayEnter : Kind → ℕ → List ℕ → ScopeBuilder → ScopeId → Type 0
+MayEnter kd n seen b s = Is b.image.now kd n × Entering b.image.now seen b.env.now (ent (tree_at b.image.now n)) (walked_of b s)
+
+-- one that visits it
+abbrev pub MayVisit : Kind → ℕ → ScopeBuilder → ScopeId → Type 0
+MayVisit kd n b s = Visit b.image.now kd n (walked_of b s) × Stands b.image.now (walked_of b s) b.env.now
+
+-- and one that walks a whole list
+abbrev pub MayWalkAll : NodeList → ScopeBuilder → ScopeId → Type 0
+MayWalkAll l b s = ListRun b.image.now l.node.0 l.first l.count (walked_of b s) × Opens b.image.now (walked_of b s) b.env.now
 
 -- an accepted image, and a builder with no scope and no symbol, of enough words, all 0, and an environment of zeros
 pub record Lent (img : List ℕ) (b : ScopeBuilder) : Type 0 where

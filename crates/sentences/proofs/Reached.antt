@@ -1,7 +1,7 @@
 -- Where document 01 asks for a row, there is one: the rows of what stands in a rule are among the module's.
 use mathlib.Core.Path.{◌≡◌, refl, sym, ap, subst, ◌∙◌}
 use mathlib.Core.Logic.{◌⊎◌, inl, inr, ⊎_elim}
-use mathlib.Core.Bool.{Bool, true, false, ◌||◌, not}
+use mathlib.Core.Bool.{Bool, true, false, ◌||◌, not, false≢true}
 use mathlib.Core.List.Memᴰ
 use mathlib.Core.List.{List, [], ◌∷◌, ◌++◌, append-nil, Memᴰ}
 use Prim.Native.Nat.{ℕ, zero, suc, ◌+◌, ◌<◌, ◌≤◌}
@@ -27,7 +27,7 @@ use Rattle.ast.proofs.ByKind.{kind_for, kinds-for, low-kind}
 use Rattle.ast.proofs.Kids.{child_kind, kid-admitted, every-pair, parent}
 use Rattle.table.specs.Table.{Table}
 use Rattle.rows.specs.Rows.{Row}
-use Rattle.ast.proofs.Bools.{not-or, false-true}
+use Rattle.ast.proofs.Bools.{not-or}
 use Rattle.bindings.specs.Errors.{defined_row, rows_of, rows_seq, decl_rows, decls_rows, plain_rows}
 use Rattle.error.specs.Kinds.{asked}
 use Rattle.bindings.specs.Promises.{inside, of_pattern}
@@ -279,9 +279,9 @@ asked-keeps k p q r = go (eqb k 29) (eqb k 18) (eqb k 19) (eqb k 26) (ne_eqb k 1
   where
     go : (b c d f : Bool) → c ≡ false → d ≡ false → f ≡ false → ◌≡◌ {A = Bool} (elim b [ true ↦ true | false ↦ elim (c || (d || f)) [ true ↦ false | false ↦ true ] ]) true
     go true c d f x y z = refl
-    go false true d f x y z = absurd (false-true (sym x))
-    go false false true f x y z = absurd (false-true (sym y))
-    go false false false true x y z = absurd (false-true (sym z))
+    go false true d f x y z = absurd (false≢true (sym x))
+    go false false true f x y z = absurd (false≢true (sym y))
+    go false false false true x y z = absurd (false≢true (sym z))
     go false false false false x y z = refl
 
 -- where a number of some operands stands

@@ -1,7 +1,7 @@
 -- Arguments that repeat a name, and document 01's sentence on row 4.
 use mathlib.Core.Path.{◌≡◌, refl, sym, ap, subst, ◌∙◌}
 use mathlib.Core.Logic.{◌⊎◌, inl, inr, ⊎_elim, ◌↔◌}
-use mathlib.Core.Bool.{Bool, true, false, ◌||◌}
+use mathlib.Core.Bool.{Bool, true, false, ◌||◌, false≢true}
 use mathlib.Core.List.{List, [], ◌∷◌, ◌++◌, Memᴰ}
 use Prim.Native.Nat.{ℕ, zero, suc, ◌+◌, ◌<◌, ◌≤◌}
 use native.Mathlib.Decide.{ℕ_discrete}
@@ -12,7 +12,6 @@ use Rattle.ast.specs.Image.{nodes, kind_at, field}
 use Rattle.ast.specs.Tests.{verdict}
 use Rattle.scopes.specs.Twice.{among}
 use Rattle.rows.specs.Rows.{Row, row, when}
-use Rattle.ast.proofs.Bools.{false-true}
 use Rattle.bindings.specs.Errors.{args_of, repeated, repeated_in, repeated_to, strict_from, strict_rows}
 use Rattle.sentences.specs.Places.{Unnamed, Repeated}
 use Rattle.bindings.proofs.Leaves.{when_true}
@@ -23,7 +22,7 @@ use Rattle.bindings.proofs.Bound.{args-all}
 module _ (n : ℕ) where
   among-mem : (ns : List ℕ) → among n ns ≡ true → Memᴰ n ns
   unfolding among
-  among-mem [] e = absurd (false-true e)
+  among-mem [] e = absurd (false≢true e)
   among-mem (x ∷ ns) e = go (eqb n x) refl (among-mem ns) e
     where
       go : (b : Bool) → eqb n x ≡ b → (among n ns ≡ true → Memᴰ n ns) → b || among n ns ≡ true → Memᴰ n (x ∷ ns)

@@ -1,7 +1,7 @@
 -- Each plain row stands where document 01 says, and no node gets two.
 use mathlib.Core.Path.{◌≡◌, refl, sym, ap, subst, ◌∙◌}
 use mathlib.Core.Logic.{inl, inr}
-use mathlib.Core.Bool.{Bool, true, false, ◌&&◌, ◌||◌, not}
+use mathlib.Core.Bool.{Bool, true, false, ◌&&◌, ◌||◌, not, false≢true}
 use mathlib.Core.List.{List, [], ◌∷◌, ◌++◌, Memᴰ}
 use Prim.Native.Nat.{ℕ, zero, suc, ◌+◌, ◌<◌, ◌≤◌}
 use native.Mathlib.Nat.{add-zero}
@@ -27,7 +27,7 @@ use Rattle.ast.proofs.ByKind.{kind_for, kinds-for, low-kind, each-grow}
 use Rattle.ast.proofs.Kids.{child_kind, kid-admitted, every-pair}
 use Rattle.table.specs.Table.{Table, is_var, is_kind, at_entry, at_exit}
 use Rattle.rows.specs.Rows.{Row}
-use Rattle.ast.proofs.Bools.{not-or, is_true, false-true, not_equal, and-true, true-is}
+use Rattle.ast.proofs.Bools.{not-or, is_true, not_equal, and-true, true-is}
 use Rattle.bindings.specs.Errors.{introduces, introduced_row, is_ctor, arg_row, arg_rows, defined_row, rows_of, rows_seq, decl_rows, plain_rows}
 use Rattle.error.specs.Kinds.{asked}
 use Rattle.bindings.specs.Promises.{inside, listed, declared, of_pattern, of_args}
@@ -82,9 +82,9 @@ asked-on k a h e = go (eqb k 29) (eqb k 18) (eqb k 19) (eqb k 26) refl refl refl
         → ◌≡◌ {A = Bool} (elim b [ true ↦ true | false ↦ elim (c || (d || f)) [ true ↦ false | false ↦ a ] ]) true
         → (a ≡ true) × ((k ≡ 18 → ⊥) × ((k ≡ 19 → ⊥) × (k ≡ 26 → ⊥)))
     go true c d f p q r s z = absurd (h (eqb-true k 29 p))
-    go false true d f p q r s z = absurd (false-true z)
-    go false false true f p q r s z = absurd (false-true z)
-    go false false false true p q r s z = absurd (false-true z)
+    go false true d f p q r s z = absurd (false≢true z)
+    go false false true f p q r s z = absurd (false≢true z)
+    go false false false true p q r s z = absurd (false≢true z)
     go false false false false p q r s z = (z, (eqb-false k 18 q, (eqb-false k 19 r, eqb-false k 26 s)))
 
 module _ (img : List ℕ) (accepted : verdict img ≡ 0) where
@@ -466,7 +466,7 @@ module _ (img : List ℕ) (t : Table) (accepted : verdict img ≡ 0) where
     where
       go : Dec (0 ≡ field img h 0) → (0 ≡ field img h 0) × (is_kind img 9 (at_exit img t h (field img h 1)) ≡ true)
       go (yes q) = (q, sym (ctor-ident img t is q refl) ∙ e)
-      go (no q) = absurd (false-true (sym (ctor-none img t is q) ∙ e))
+      go (no q) = absurd (false≢true (sym (ctor-none img t is q) ∙ e))
 
   -- row 3 at an argument
   module _ (n : ℕ) (kn : Node img 35 n) where
@@ -575,7 +575,7 @@ module _ (img : List ℕ) (t : Table) (accepted : verdict img ≡ 0) where
         (subst (λ (us : Trees). Fine img t us (of_pattern img t n ++ listed img t false n (field img n 1) 2))
         (sym (kids-of img (inner case) (child 12 ∷ list 36 ∷ []) is (λ ts. refl) ∙ ap (λ (us : Trees). tree_at img (field img n 0) ◂ us) (append-none (items img n (field img n 1) 2))))
         (fine-cons img t (pattern-fine n (record { below = low; kind = e }))
-        (items-fine img t false n (field img n 1) 2 (λ i k. child-fine n low ih false ((fields-of img is).1.0 i k) tt (λ z. absurd (false-true z)))))))
+        (items-fine img t false n (field img n 1) 2 (λ i k. child-fine n low ih false ((fields-of img is).1.0 i k) tt (λ z. absurd (false≢true z)))))))
 
     -- a node of a class without rows
     bare-fine : {kd : Kind} → Is img kd n → ((k : ℕ) (sh : List ℕ) (ts : Trees) (a : Bool) (o : ℕ) → rows_of img t a o (node n k kd.class sh ts) ≡ []) → Claim n
@@ -621,7 +621,7 @@ module _ (img : List ℕ) (t : Table) (accepted : verdict img ≡ 0) where
   stmts-fine n c j low h =
       items-fine img t false n c j
       (λ i l. let k = h i l in
-      claims (suc (field img n (j + i))) (field img n (j + i)) (omega arith) (let b = k.below in omega arith) false (λ z. absurd (false-true z)) (ordinary-at _ k.kind tt) n)
+      claims (suc (field img n (j + i))) (field img n (j + i)) (omega arith) (let b = k.below in omega arith) false (λ z. absurd (false≢true z)) (ordinary-at _ k.kind tt) n)
 
   abbrev Declares : ℕ → Type 0
   Declares n = kind_at img n ≡ 1 → FineAt img t n (decl_rows img t (tree_at img n))

@@ -1,5 +1,6 @@
 -- The binding of a name among places, without scopes: the last introducing place in sight. It is a Var exactly where a
 -- naming place is in sight, and two places have one binding exactly where `Same` says so.
+use Rattle.std.proofs.lemmas.Bool.{cases_Bool}
 use mathlib.Core.Path.{◌≡◌, refl, sym, ◌∙◌, ap, subst}
 use mathlib.Core.Logic.Dec
 use mathlib.Core.Logic.{◌⊎◌, inl, inr, ◌↔◌}
@@ -30,10 +31,6 @@ dec_within (m ∷ a) b = go (dec_in m b) (dec_within a b)
     go (yes h) (yes k) = yes (λ n i. elim i [ inl e ↦ subst (λ x. In x b) (sym e) h | inr j ↦ k n j ])
     go (yes h) (no g) = no (λ w. g (λ n i. w n (inr i)))
     go (no f) d = no (λ w. f (w m (inl refl)))
-
-pub dec_not : (b : Bool) → (b ≡ true) ⊎ (b ≡ false)
-dec_not true = inl refl
-dec_not false = inr refl
 
 unfoldable pub pick : {A : Type 0} → Dec A → Option ℕ → Option ℕ → Option ℕ
 pick (yes a) u v = u
@@ -150,9 +147,9 @@ module _ (name : ℕ → ℕ) (var const : Option ℕ → Bool) (outer : ℕ →
     adds-names applied x o h a = a
 
     names-found : (σ : Sort) (x : ℕ) (o : Option ℕ) → (var o ≡ false → o ≡ outer x) → Names name constant σ x → (Adds σ o → ⊥) → var o ≡ true
-    names-found ordinary x o h c f = elim (dec_not (var o)) [ inl e ↦ e | inr e ↦ absurd (f (e, ap const (h e) ∙ c)) ]
-    names-found declared x o h c f = elim (dec_not (var o)) [ inl e ↦ e | inr e ↦ absurd (f e) ]
-    names-found (defined k) x o h c f = elim (dec_not (var o)) [ inl e ↦ e | inr e ↦ absurd (f e) ]
+    names-found ordinary x o h c f = elim (cases_Bool (var o)) [ inl e ↦ e | inr e ↦ absurd (f (e, ap const (h e) ∙ c)) ]
+    names-found declared x o h c f = elim (cases_Bool (var o)) [ inl e ↦ e | inr e ↦ absurd (f e) ]
+    names-found (defined k) x o h c f = elim (cases_Bool (var o)) [ inl e ↦ e | inr e ↦ absurd (f e) ]
     names-found applied x o h c f = absurd c
 
     -- the binding is a Var exactly if a naming place is seen
@@ -212,7 +209,7 @@ module _ (name : ℕ → ℕ) (var const : Option ℕ → Bool) (outer : ℕ →
     fresh-adds q ps s ordinary l f = absurd f
     fresh-adds q ps s declared l f = absurd f
     fresh-adds q ps s applied l f = f
-    fresh-adds q ps s (defined k) l f = go (dec_not (var (bind k ps q.around (name q.ident))))
+    fresh-adds q ps s (defined k) l f = go (cases_Bool (var (bind k ps q.around (name q.ident))))
       where
         go : (var (bind k ps q.around (name q.ident)) ≡ true) ⊎ (var (bind k ps q.around (name q.ident)) ≡ false)
             → var (bind k ps q.around (name q.ident)) ≡ false

@@ -11,13 +11,14 @@ use lib.ListN.{get_or}
 use borrow.Author.Tests.{lt-ltb, le-ltb, le-leb, lt-leb, eq-eqb, ne_eqb}
 use Rattle.std.specs.List.{list_all, range_with_len}
 use Rattle.ast.specs.Image.{nodes, kind_at, field}
-use Rattle.ast.specs.KindNumbers.{kind_number}
-use Rattle.ast.specs.declared.kind.Kind.{Kind}
-use Rattle.ast.specs.declared.kind.Kind.TheVariants as kind
 use Rattle.ast.specs.Tests.{◌▸◌, need, run}
 use Rattle.ast.proofs.Accepted.{skip, stop}
 use Rattle.ast.proofs.Scans.{need-in, need-out}
 use Rattle.table.specs.Layout.{all_ones, nodes_place, parent_place, scope_place, node_place}
+use Rattle.table.specs.Table.{symbol_of, declares}
+use Rattle.table.specs.Values.{number_of}
+use Rattle.table.specs.declared.Symbol.{Symbol}
+use Rattle.table.specs.declared.Symbol.TheVariants as symbol
 use Rattle.sound.specs.Sound.{has_name, is_symbol, scopes_in, symbols_in, parent_below, row_sound, test_sound}
 
 -- tests that all give 16 where they fail, as one
@@ -88,83 +89,64 @@ module _ (img : List ℕ) where
           go true = refl
           go false = refl
 
-    module _ (k : Kind) (e : kind_number k ≡ kind_at img n) where
-      pub symbol-named : (k ≡ kind.RuleDecl) ⊎ (k ≡ kind.ArgDecl) → is_symbol img n ≡ has_name img n
-      symbol-named (inl h) = by-kind _ e ∙ rw h
-      symbol-named (inr h) = by-kind _ e ∙ rw h
+    -- what a symbol's number says, of a kind that has one
+    said : Bool → ℕ → Bool
+    said false m = false
+    said true m = elim (eqb m 7) [
+      | true ↦ has_name img n
+      | false ↦ elim (eqb m 8) [ true ↦ has_name img n | false ↦ true ]
+    ]
 
-      pub symbol-yes : (k ≡ kind.TypeDecl) ⊎ (k ≡ kind.PredDecl) ⊎ (k ≡ kind.FuncDecl) ⊎ (k ≡ kind.ConstDecl) ⊎ (k ≡ kind.EnumDecl) ⊎ (k ≡ kind.ModelDecl) ⊎ (k ≡ kind.CtorDecl) ⊎ (k ≡ kind.IdentTerm)
-          → is_symbol img n ≡ true
-      symbol-yes (inl h) = by-kind _ e ∙ rw h
-      symbol-yes (inr (inl h)) = by-kind _ e ∙ rw h
-      symbol-yes (inr (inr (inl h))) = by-kind _ e ∙ rw h
-      symbol-yes (inr (inr (inr (inl h)))) = by-kind _ e ∙ rw h
-      symbol-yes (inr (inr (inr (inr (inl h))))) = by-kind _ e ∙ rw h
-      symbol-yes (inr (inr (inr (inr (inr (inl h)))))) = by-kind _ e ∙ rw h
-      symbol-yes (inr (inr (inr (inr (inr (inr (inl h))))))) = by-kind _ e ∙ rw h
-      symbol-yes (inr (inr (inr (inr (inr (inr (inr h))))))) = by-kind _ e ∙ rw h
+    beyond : (k : ℕ) → 13 < k → by-number n k ≡ false
+    beyond k h = rw (ne_eqb k 6 (λ e. omega arith), by-number) (rw (ne_eqb k 10 (λ e. omega arith)) (rw (ne_eqb k 13 (λ e. omega arith), lt-leb k 9 (omega arith), le-leb 2 k (omega arith))))
 
-    -- a kind that is none of them
-    pub record Other (k : Kind) : Type 0 where
-      pub not-TypeDecl : k ≡ kind.TypeDecl → ⊥
-      pub not-PredDecl : k ≡ kind.PredDecl → ⊥
-      pub not-FuncDecl : k ≡ kind.FuncDecl → ⊥
-      pub not-ConstDecl : k ≡ kind.ConstDecl → ⊥
-      pub not-RuleDecl : k ≡ kind.RuleDecl → ⊥
-      pub not-EnumDecl : k ≡ kind.EnumDecl → ⊥
-      pub not-ModelDecl : k ≡ kind.ModelDecl → ⊥
-      pub not-CtorDecl : k ≡ kind.CtorDecl → ⊥
-      pub not-ArgDecl : k ≡ kind.ArgDecl → ⊥
-      pub not-IdentTerm : k ≡ kind.IdentTerm → ⊥
+    symbols-are : (k : ℕ) → by-number n k ≡ said (declares k) (symbol_of k)
+    unfolding symbol_of declares said
+    symbols-are zero = refl
+    symbols-are (suc zero) = refl
+    symbols-are (suc (suc zero)) = refl
+    symbols-are (suc (suc (suc zero))) = refl
+    symbols-are (suc (suc (suc (suc zero)))) = refl
+    symbols-are (suc (suc (suc (suc (suc zero))))) = refl
+    symbols-are (suc (suc (suc (suc (suc (suc zero)))))) = refl
+    symbols-are (suc (suc (suc (suc (suc (suc (suc zero))))))) = refl
+    symbols-are (suc (suc (suc (suc (suc (suc (suc (suc zero)))))))) = refl
+    symbols-are (suc (suc (suc (suc (suc (suc (suc (suc (suc zero))))))))) = refl
+    symbols-are (suc (suc (suc (suc (suc (suc (suc (suc (suc (suc zero)))))))))) = refl
+    symbols-are (suc (suc (suc (suc (suc (suc (suc (suc (suc (suc (suc zero))))))))))) = refl
+    symbols-are (suc (suc (suc (suc (suc (suc (suc (suc (suc (suc (suc (suc zero)))))))))))) = refl
+    symbols-are (suc (suc (suc (suc (suc (suc (suc (suc (suc (suc (suc (suc (suc zero))))))))))))) = refl
+    symbols-are (suc (suc (suc (suc (suc (suc (suc (suc (suc (suc (suc (suc (suc (suc k)))))))))))))) = beyond (suc (suc (suc (suc (suc (suc (suc (suc (suc (suc (suc (suc (suc (suc k)))))))))))))) (omega arith)
 
-    other : (k : Kind) → Other k → by-number n (kind_number k) ≡ false
-    other kind.Module o = refl
-    other kind.Decl o = refl
-    other kind.TypeDecl o = absurd (o.not-TypeDecl refl)
-    other kind.PredDecl o = absurd (o.not-PredDecl refl)
-    other kind.FuncDecl o = absurd (o.not-FuncDecl refl)
-    other kind.ConstDecl o = absurd (o.not-ConstDecl refl)
-    other kind.RuleDecl o = absurd (o.not-RuleDecl refl)
-    other kind.EnumDecl o = absurd (o.not-EnumDecl refl)
-    other kind.ModelDecl o = absurd (o.not-ModelDecl refl)
-    other kind.CtorDecl o = absurd (o.not-CtorDecl refl)
-    other kind.ArgDecl o = absurd (o.not-ArgDecl refl)
-    other kind.ArgDeclList o = refl
-    other kind.Term o = refl
-    other kind.IdentTerm o = absurd (o.not-IdentTerm refl)
-    other kind.AppTerm o = refl
-    other kind.AppHead o = refl
-    other kind.AppHeadMember o = refl
-    other kind.TermMember o = refl
-    other kind.DomTerm o = refl
-    other kind.CodTerm o = refl
-    other kind.IdTerm o = refl
-    other kind.CompTerm o = refl
-    other kind.TermList o = refl
-    other kind.TypeExpr o = refl
-    other kind.AmbientTypeExpr o = refl
-    other kind.MorTypeExpr o = refl
-    other kind.PredExpr o = refl
-    other kind.AmbientPredExpr o = refl
-    other kind.IfAtom o = refl
-    other kind.ThenAtom o = refl
-    other kind.EqualAtom o = refl
-    other kind.PredAtom o = refl
-    other kind.DefinedIfAtom o = refl
-    other kind.VarIfAtom o = refl
-    other kind.DefinedThenAtom o = refl
-    other kind.MatchCase o = refl
-    other kind.Stmt o = refl
-    other kind.IfStmt o = refl
-    other kind.ThenStmt o = refl
-    other kind.BranchStmt o = refl
-    other kind.MatchStmt o = refl
+    module _ (k : ℕ) (e : k ≡ kind_at img n) where
+      pub symbol-none : false ≡ declares k → is_symbol img n ≡ false
+      unfolding said
+      symbol-none d = by-kind k e ∙ symbols-are k ∙ ap (λ b. said b (symbol_of k)) (sym d)
 
-    pub symbol-no : (k : Kind) → kind_number k ≡ kind_at img n → Other k → is_symbol img n ≡ false
-    symbol-no k e o = by-kind _ e ∙ other k o
+      module _ (s : Symbol) (m : number_of s ≡ symbol_of k) (d : true ≡ declares k) where
+        by-said : is_symbol img n ≡ said true (number_of s)
+        by-said = by-kind k e ∙ symbols-are k ∙ ap₂ said (sym d) (sym m)
 
-    pub symbol-unknown : (k : ℕ) → k ≡ kind_at img n → 40 < k → is_symbol img n ≡ false
-    symbol-unknown k e h = symbol-decl (λ z. omega arith) (λ z. omega arith) (λ z. omega arith) (omega arith) ∙ lt-leb _ _ (omega arith)
+        pub symbol-named : (s ≡ symbol.Rule) ⊎ (s ≡ symbol.Arg) → is_symbol img n ≡ has_name img n
+        unfolding said
+        symbol-named (inl h) = by-said ∙ ap (λ t. said true (number_of t)) h
+        symbol-named (inr h) = by-said ∙ ap (λ t. said true (number_of t)) h
+
+        pub symbol-yes : (s ≡ symbol.Rule → ⊥) → (s ≡ symbol.Arg → ⊥) → is_symbol img n ≡ true
+        unfolding said
+        symbol-yes a b = by-said ∙ go s a b
+          where
+            go : (t : Symbol) → (t ≡ symbol.Rule → ⊥) → (t ≡ symbol.Arg → ⊥) → said true (number_of t) ≡ true
+            go symbol.Type a b = refl
+            go symbol.Pred a b = refl
+            go symbol.Func a b = refl
+            go symbol.Const a b = refl
+            go symbol.Enum a b = refl
+            go symbol.Ctor a b = refl
+            go symbol.Model a b = refl
+            go symbol.Rule a b = absurd (a refl)
+            go symbol.Arg a b = absurd (b refl)
+            go symbol.Var a b = refl
 
 module _ (img ws : List ℕ) where
   pub parent-low : (s p : ℕ) → p ≡ get_or ws (parent_place (nodes img) s) 0 → p < s → parent_below img ws s ≡ 0

@@ -2,7 +2,6 @@
 use mathlib.Core.Path.{◌≡◌, ap, ◌∙◌}
 use mathlib.Core.List.{List}
 use Prim.Native.Nat.{ℕ}
-use lib.ListN.{get_or}
 use Rattle.ast.specs.Image.{nodes}
 use Rattle.table.specs.Layout.{place}
 
@@ -10,6 +9,3 @@ use Rattle.table.specs.Layout.{place}
 module _ (img : List ℕ) (n : ℕ) (nodes_are : n ≡ nodes img) where
   pub place_is : (p array i : ℕ) → p ≡ place array n i → p ≡ place array (nodes img) i
   place_is p array i e = e ∙ ap (λ (m : ℕ). place array m i) nodes_are
-
-  pub read_is : (ws : List ℕ) (p array i v : ℕ) → p ≡ place array n i → v ≡ get_or ws p 0 → v ≡ get_or ws (place array (nodes img) i) 0
-  read_is ws p array i v e f = f ∙ ap (λ (q : ℕ). get_or ws q 0) (place_is p array i e)

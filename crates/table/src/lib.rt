@@ -44,7 +44,7 @@ pub const COUNTS: usize = 3;
 
 pub const ARRAYS: usize = 5;
 
-// The arrays: a node's entry and exit, a scope's parent, a symbol's scope and node.
+// The arrays, all in one slice, since C lends the table so: a node's entry and exit, a scope's parent, a symbol's scope and node.
 #[derive(Clone, Copy, Debug, PartialEq, Eq)]
 pub enum Array {
     Entries,
@@ -100,32 +100,30 @@ fn word_of(image: &[u8], table: &[u32], array: Array, i: u32) -> u32
     get(table, place(array, ast::node_count(image), i))
 }
 
-pub fn parent_of(image: &[u8], table: &[u32], scope: ScopeId) -> u32
-    ensures { result ≡ get_or table.now (parent_place (ImageSpec.nodes image.now) scope.0) 0 }
+pub fn parent_of(image: &[u8], table: &[u32], scope: ScopeId) -> ScopeId
+    ensures { result.0 ≡ get_or table.now (parent_place (ImageSpec.nodes image.now) scope.0) 0 }
 {
-    word_of(image, table, Array::Parents, scope.0)
+    ScopeId(word_of(image, table, Array::Parents, scope.0))
 }
 
-pub fn symbol_scope(image: &[u8], table: &[u32], j: u32) -> u32
-    ensures { result ≡ get_or table.now (scope_place (ImageSpec.nodes image.now) j) 0 }
+pub fn symbol_scope(image: &[u8], table: &[u32], j: u32) -> ScopeId
+    ensures { result.0 ≡ get_or table.now (scope_place (ImageSpec.nodes image.now) j) 0 }
 {
-    word_of(image, table, Array::SymbolScopes, j)
+    ScopeId(word_of(image, table, Array::SymbolScopes, j))
 }
 
-pub fn symbol_node(image: &[u8], table: &[u32], j: u32) -> u32
-    ensures { result ≡ get_or table.now (node_place (ImageSpec.nodes image.now) j) 0 }
+pub fn symbol_node(image: &[u8], table: &[u32], j: u32) -> NodeId
+    ensures { result.0 ≡ get_or table.now (node_place (ImageSpec.nodes image.now) j) 0 }
 {
-    word_of(image, table, Array::SymbolNodes, j)
+    NodeId(word_of(image, table, Array::SymbolNodes, j))
 }
 
 // Row j is a symbol of the scope with the name.
 pub fn row_is(image: &[u8], table: &[u32], j: u32, scope: ScopeId, name: u32) -> bool
     ensures { result ≡ TableSpec.row_is image.now table.now j scope.0 name }
 {
-    if symbol_scope(image, table, j) == scope.0 {
-        return ast::name_of(image, NodeId(symbol_node(image, table, j))) == name;
-    }
-    false
+    symbol_scope(image, table, j) == scope
+        && ast::name_of(image, symbol_node(image, table, j)) == name
 }
 
 // The first symbol of the name in the scope.
@@ -134,7 +132,7 @@ pub fn find(image: &[u8], table: &[u32], symbols: u32, scope: ScopeId, name: u32
 {
     for j in 0..symbols {
         if row_is(image, table, j, scope, name) {
-            return Some(NodeId(symbol_node(image, table, j)));
+            return Some(symbol_node(image, table, j));
         }
     }
     None
@@ -154,8 +152,8 @@ pub fn lookup(
         Some(node) => Some(node),
         None => {
             let parent = parent_of(image, table, scope);
-            if parent < scope.0 {
-                lookup(image, table, symbols, ScopeId(parent), name)
+            if parent.0 < scope.0 {
+                lookup(image, table, symbols, parent, name)
             } else {
                 None
             }
@@ -177,14 +175,14 @@ pub fn is_kind(image: &[u8], found: Option<NodeId>, kind: u32) -> bool
 pub fn is_var(image: &[u8], found: Option<NodeId>) -> bool
     ensures { result ≡ TableSpec.is_var image.now (option_of found) }
 {
-    is_kind(image, found, Kind::IdentTerm.number())
+    is_kind(image, found, u32::from(Kind::IdentTerm))
 }
 
 // A Var or a Const.
 pub fn is_value(image: &[u8], found: Option<NodeId>) -> bool
     ensures { result ≡ TableSpec.is_value image.now (option_of found) }
 {
-    is_var(image, found) || is_kind(image, found, Kind::ConstDecl.number())
+    is_var(image, found) || is_kind(image, found, u32::from(Kind::ConstDecl))
 }
 
 // The scope that a node is entered at, and the one that it is left at.
@@ -221,11 +219,11 @@ pub fn symbol_of(kind: u32) -> Option<Symbol>
     }
 }
 
-impl Symbol {
-    // The symbol's number, as the cases go.
-    pub fn number(self) -> u32
-        ensures { result ≡ number_of self }
-    {
-        self as u32
+// The symbol's number, as the cases go.
+impl From<Symbol> for u32 {
+    ghost from_gives = { λ symbol number. number ≡ number_of symbol };
+
+    fn from(symbol: Symbol) -> u32 {
+        symbol as u32
     }
 }

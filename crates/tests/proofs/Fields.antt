@@ -2,7 +2,7 @@
 use mathlib.Core.Path.{◌≡◌, refl, sym, ap, ◌∙◌}
 use mathlib.Core.Bool.{true, false, not, true≢false}
 use denote.Enum.Bare.{sameb}
-use Rattle.tests.specs.contracts.Claim.{the_type}
+use Rattle.ast.specs.contracts.times.Times.{the_type}
 use mathlib.Core.List.{List, [], ◌∷◌}
 use Prim.Native.Nat.{ℕ, suc, ◌+◌, ◌-◌, ◌<◌, ◌≤◌}
 use native.Mathlib.Omega.{arith}
@@ -25,11 +25,12 @@ use Rattle.ast.proofs.Shapes.{one_more}
 use Rattle.ast.proofs.Unfold.{numbers-ones, numbers-append}
 use Rattle.error.specs.Refusals.{refusal_number}
 use Rattle.error.specs.declared.Refusal.{Refusal}
-use Rattle.tests.specs.Claims.{claim_number, counts, Counted}
+use Rattle.ast.specs.Times.{times_number, counts}
+use Rattle.tests.specs.Claims.{Counted}
 use Rattle.tests.specs.Rows.{case_number, case_kinds, Went, FieldStep, FieldsStep}
 use Rattle.tests.specs.Steps.{Answered}
-use Rattle.tests.specs.declared.Claim.{Claim}
-use Rattle.tests.specs.declared.Claim.TheVariants as claim
+use Rattle.ast.specs.declared.times.Times.{Times}
+use Rattle.ast.specs.declared.times.Times.TheVariants as times
 use Rattle.tests.specs.declared.Row.{Row}
 use Rattle.tests.proofs.Steps.{passes, refuses, skips, stops, retests, maps}
 
@@ -170,7 +171,7 @@ module _ (img : List ℕ) where
       opt_child-out k f c q t = let g : op_at img p ≡ suc c = sym e ∙ q in rw (g, test_field) (skips _ _ (sym h) (refuses f _ (sym t)))
 
       module _ (b : Row) (i : b.image.now.image.now ≡ img) (m : b.node.0 ≡ n) (q : b.place ≡ p + 1) where
-        pub child-read : (k : ℕ) (us vs : List Claim) → 0 ≡ is_child img n k w → Counted w us vs → FieldStep img n (child k) p (counts us) (counts vs) (Ok b)
+        pub child-read : (k : ℕ) (us vs : List Times) → 0 ≡ is_child img n k w → Counted w us vs → FieldStep img n (child k) p (counts us) (counts vs) (Ok b)
         unfolding test_field child_word after field_kids numbers claim_all
         child-read k us vs t d = skips _ _ (sym h) (passes b _ (sym (rw e at t)) (record { image = i; node = m; place = q; claimed = rw e at d }))
 
@@ -178,7 +179,7 @@ module _ (img : List ℕ) where
         unfolding test_field after field_kids numbers claim_all
         opt_child-none k z = let g : op_at img p ≡ 0 = sym e ∙ z in rw (g, test_field, field_kids) (skips _ _ (sym h) (passes b _ refl (record { image = i; node = m; place = q; claimed = refl })))
 
-        pub opt_child-read : (k c : ℕ) (us vs : List Claim) → w ≡ suc c → 0 ≡ is_child img n k c → Counted c us vs → FieldStep img n (opt_child k) p (counts us) (counts vs) (Ok b)
+        pub opt_child-read : (k c : ℕ) (us vs : List Times) → w ≡ suc c → 0 ≡ is_child img n k c → Counted c us vs → FieldStep img n (opt_child k) p (counts us) (counts vs) (Ok b)
         unfolding test_field after field_kids numbers claim_all
         opt_child-read k c us vs z t d = let g : op_at img p ≡ suc c = sym e ∙ z in rw (g, test_field, field_kids) (skips _ _ (sym h) (passes b _ (sym t) (record { image = i; node = m; place = q; claimed = d })))
 
@@ -291,16 +292,16 @@ module _ (img : List ℕ) where
     }) t))
 
 -- node i is counted once more
-pub counts-more : (us : List Claim) (i : ℕ) (m : Claim) → claim_number m ≡ bump (claim_number (get_or us i claim.Never)) → Counted i us (set us i m)
-counts-more us i m h = map-set claim_number us i m ∙ ap (set (counts us) i) (h ∙ ap bump (sym (get_or-map claim_number us i claim.Never)))
+pub counts-more : (us : List Times) (i : ℕ) (m : Times) → times_number m ≡ bump (times_number (get_or us i times.Never)) → Counted i us (set us i m)
+counts-more us i m h = map-set times_number us i m ∙ ap (set (counts us) i) (h ∙ ap bump (sym (get_or-map times_number us i times.Never)))
 
 -- a claim that is the one of a node counted once, as the code compares
-pub is-once : (m : Claim) → not (sameb the_type m claim.Once) ≡ false → claim_number m ≡ 1
-is-once claim.Never h = absurd (true≢false h)
-is-once claim.Once h = refl
-is-once claim.Several h = absurd (true≢false h)
+pub is-once : (m : Times) → not (sameb the_type m times.Once) ≡ false → times_number m ≡ 1
+is-once times.Never h = absurd (true≢false h)
+is-once times.Once h = refl
+is-once times.Several h = absurd (true≢false h)
 
-pub not_once : (m : Claim) → not (sameb the_type m claim.Once) ≡ true → claim_number m ≡ 1 → ⊥
-not_once claim.Never h e = absurd (omega arith)
-not_once claim.Once h e = absurd (true≢false (sym h))
-not_once claim.Several h e = absurd (omega arith)
+pub not_once : (m : Times) → not (sameb the_type m times.Once) ≡ true → times_number m ≡ 1 → ⊥
+not_once times.Never h e = absurd (omega arith)
+not_once times.Once h e = absurd (true≢false (sym h))
+not_once times.Several h e = absurd (omega arith)

@@ -1,5 +1,7 @@
 -- The tests of a node, of the nodes, and of the whole tree, as the code goes through them.
 use mathlib.Core.Path.{◌≡◌, refl, sym, ap, ◌∙◌}
+use mathlib.Core.Bool.{true, false}
+use mathlib.Core.Logic.{◌⊎◌, inl, inr}
 use mathlib.Core.List.{List}
 use Prim.Native.Nat.{ℕ, zero, suc, ◌+◌, ◌-◌, ◌*◌, ◌<◌, ◌≤◌}
 use native.Mathlib.Omega.{arith}
@@ -25,6 +27,11 @@ use Rattle.std.specs.Prelude.{Result, Ok, Err}
 use Rattle.ast.proofs.Runs.{RunLeft, run-begin, run-next, run-stop, run_end}
 use Rattle.ast.proofs.Scans.{need-in, need-out, claim-append}
 use Rattle.ast.specs.declared.Sizes.{Sizes}
+use Rattle.ast.specs.declared.NodeId.{NodeId}
+use Rattle.typed.specs.Nodes.{term_of, term_at}
+use Rattle.typed.specs.declared.nodes.IdentTermId.{IdentTermId}
+use Rattle.typed.specs.declared.nodes.Term.{Term}
+use Rattle.typed.specs.declared.nodes.Term.TheVariants as term
 
 module _ (img : List ℕ) where
   module _ (n : ℕ) {us vs : List ℕ} where
@@ -98,39 +105,82 @@ module _ (img : List ℕ) where
   unfolding test_parents
   parents-are = refl
 
-  -- 12
-  pub term_in : (c w : ℕ) → w ≡ first img c → w ≤ 1 → is_var img c ≡ 0
-  unfolding is_var
-  term_in c w e h = need-in 12 _ (le-leb _ _ (rw e at h))
+  -- the first word of a row, as the code reads it
+  first-is : (n : ℕ) → field img n 0 ≡ first img n
+  unfolding first field
+  first-is n = ap (op_at img) (omega arith)
 
-  pub term-out : (c w : ℕ) → w ≡ first img c → 1 < w → is_var img c ≡ 12
-  unfolding is_var
-  term-out c w e h = need-out 12 _ (lt-leb _ _ (rw e at h))
+  -- 12: of a term
+  by-term : Term → ℕ
+  by-term (term.Ident i) = 0
+  by-term term.Wildcard = 0
+  by-term (term.App i) = 12
+  by-term (term.Member i) = 12
+  by-term (term.Dom i) = 12
+  by-term (term.Cod i) = 12
+  by-term (term.Id i) = 12
+  by-term (term.Comp i) = 12
 
-  module _ (n kind : ℕ) (k : kind ≡ kind_at img n) where
-    pub var-if : kind ≡ 33 → test_var img n ≡ is_var img (first img n)
-    unfolding test_var
-    var-if e = rw (sym k ∙ e, test_var)
+  var-is : (c : ℕ) → is_var img c ≡ by-term (term_at img c)
+  unfolding is_var need term_of by-term
+  var-is c = ap (λ w. need 12 (leb w 1)) (sym (first-is c)) ∙ go (field img c 0) (record { 0 = field img c 1 })
+    where
+      go : (w : ℕ) (i : NodeId) → need 12 (leb w 1) ≡ by-term (term_of w i)
+      go zero i = refl
+      go (suc zero) i = refl
+      go (suc (suc zero)) i = refl
+      go (suc (suc (suc zero))) i = refl
+      go (suc (suc (suc (suc zero)))) i = refl
+      go (suc (suc (suc (suc (suc zero))))) i = refl
+      go (suc (suc (suc (suc (suc (suc zero)))))) i = refl
+      go (suc (suc (suc (suc (suc (suc (suc w))))))) i = need-out 12 _ (lt-leb _ _ (omega arith))
 
-    pub var-other : (kind ≡ 33 → ⊥) → (kind ≡ 34 → ⊥) → test_var img n ≡ 0
-    unfolding test_var
-    var-other a b = rw (ne_eqb _ _ (rw k at a), ne_eqb _ _ (rw k at b), test_var)
+  module _ (c : ℕ) (t : Term) (e : t ≡ term_at img c) where
+    pub var-yes : ((i : IdentTermId) × t ≡ term.Ident i) ⊎ (t ≡ term.Wildcard) → is_var img c ≡ 0
+    unfolding by-term
+    var-yes (inl (i, h)) = var-is c ∙ ap by-term (sym e ∙ h)
+    var-yes (inr h) = var-is c ∙ ap by-term (sym e ∙ h)
 
-    pub var-none : kind ≡ 34 → first img n ≡ 0 → test_var img n ≡ 0
-    unfolding test_var
-    var-none e z = let q : kind_at img n ≡ 34 = sym k ∙ e in rw (ne_eqb (kind_at img n) 33 (λ x. omega arith), eq-eqb (kind_at img n) 34 q, test_var) (go (first img n) z)
+    pub var_no : ((i : IdentTermId) → t ≡ term.Ident i → ⊥) → (t ≡ term.Wildcard → ⊥) → is_var img c ≡ 12
+    unfolding by-term
+    var_no a b = var-is c ∙ ap by-term (sym e) ∙ go t a b
       where
-        go : (w : ℕ) → w ≡ 0 → ◌≡◌ {A = ℕ} (elim w [ zero ↦ 0 | suc c ↦ is_var img c ]) 0
-        go zero q = refl
-        go (suc w) q = absurd (omega arith)
+        go : (u : Term) → ((i : IdentTermId) → u ≡ term.Ident i → ⊥) → (u ≡ term.Wildcard → ⊥) → by-term u ≡ 12
+        go (term.Ident i) a b = absurd (a i refl)
+        go term.Wildcard a b = absurd (b refl)
+        go (term.App i) a b = refl
+        go (term.Member i) a b = refl
+        go (term.Dom i) a b = refl
+        go (term.Cod i) a b = refl
+        go (term.Id i) a b = refl
+        go (term.Comp i) a b = refl
 
-    pub var-then : kind ≡ 34 → (c : ℕ) → first img n ≡ suc c → test_var img n ≡ is_var img c
+  -- and of a node
+  module _ (n : ℕ) where
+    pub var-if : eqb (kind_at img n) 33 ≡ true → test_var img n ≡ is_var img (field img n 0)
     unfolding test_var
-    var-then e c z = let q : kind_at img n ≡ 34 = sym k ∙ e in rw (ne_eqb (kind_at img n) 33 (λ x. omega arith), eq-eqb (kind_at img n) 34 q, test_var) (go (first img n) z)
-      where
-        go : (w : ℕ) → w ≡ suc c → ◌≡◌ {A = ℕ} (elim w [ zero ↦ 0 | suc c ↦ is_var img c ]) (is_var img c)
-        go zero q = absurd (omega arith)
-        go (suc w) q = ap (is_var img) (omega arith)
+    var-if e = rw (e, test_var) (ap (is_var img) (sym (first-is n)))
+
+    module _ (a : eqb (kind_at img n) 33 ≡ false) where
+      pub var-other : eqb (kind_at img n) 34 ≡ false → test_var img n ≡ 0
+      unfolding test_var
+      var-other b = rw (a, b, test_var)
+
+      module _ (b : eqb (kind_at img n) 34 ≡ true) where
+        then-var : ℕ → ℕ
+        then-var w = elim w [ zero ↦ 0 | suc c ↦ is_var img c ]
+
+        var-given : (w : ℕ) → w ≡ field img n 0 → test_var img n ≡ then-var w
+        unfolding test_var first then-var
+        var-given w e = rw (a, b, test_var) (ap then-var (sym (first-is n) ∙ sym e))
+
+        pub var-none : 0 ≡ field img n 0 → test_var img n ≡ 0
+        unfolding then-var
+        var-none e = var-given 0 e
+
+        pub var-then : (c : ℕ) → suc c ≡ field img n 0 → test_var img n ≡ is_var img c
+        unfolding then-var
+        var-then c e = var-given (suc c) e
 
   -- 10 to 12
   module _ (end : ℕ) (some : 0 < nodes img) (e : end ≡ end_before img (nodes img)) where
@@ -167,11 +217,6 @@ module _ (img : List ℕ) where
 
   pub nodes-passed : run (test_node img) (nodes img) 0 ≡ 0 → run (test_node img) (nodes img) 0 ▸ test_tree img ≡ test_tree img
   nodes-passed e = skip _ _ e
-
-  -- the first word of a row, as the code reads it
-  pub first-is : (n : ℕ) → field img n 0 ≡ first img n
-  unfolding first field
-  first-is n = ap (op_at img) (omega arith)
 
   -- what the sizes say, where they pass
   pub sized-within : (s : Sizes) → Head img s → test_sizes img ≡ 0 → Within img s

@@ -8,9 +8,10 @@ use Rattle.ast.specs.Rows.{numbers, after, after_fields, field_kids, fields_kids
 use Rattle.ast.specs.Tests.{◌▸◌, need, in_row, is_child, test_field, test_fields}
 use Rattle.ast.specs.declared.kind.Kind.{Kind}
 use Rattle.error.specs.declared.Refusal.{Refusal}
-use Rattle.tests.specs.Claims.{counts, Counted}
+use Rattle.ast.specs.Times.{counts}
+use Rattle.tests.specs.Claims.{Counted}
 use Rattle.tests.specs.Steps.{Answered}
-use Rattle.tests.specs.declared.Claim.{Claim}
+use Rattle.ast.specs.declared.times.Times.{Times}
 use Rattle.tests.specs.declared.Row.{Row}
 
 -- the kind of a case's child
@@ -58,16 +59,16 @@ pub record After (row after : Row) : Type 0 where
   pub place : after.place ≡ row.place + 1
 
 -- a node as a child
-abbrev pub ChildTested : Row → Kind → ℕ → List Claim → Result Unit Refusal → List Claim → Type 0
+abbrev pub ChildTested : Row → Kind → ℕ → List Times → Result Unit Refusal → List Times → Type 0
 ChildTested row k c us r vs = Answered (is_child (bytes_of row) row.node.0 (kind_number k) c) (λ _. Counted c us vs) r
 
 -- a field, which claims nothing, or claims children
 abbrev pub NameTested : Field → Row → Result Row Refusal → Type 0
 NameTested g row r = (us : List ℕ) → FieldStep (bytes_of row) row.node.0 g row.place us us r
 
-abbrev pub FieldTested : Field → Row → List Claim → Result Row Refusal → List Claim → Type 0
+abbrev pub FieldTested : Field → Row → List Times → Result Row Refusal → List Times → Type 0
 FieldTested g row us r vs = FieldStep (bytes_of row) row.node.0 g row.place (counts us) (counts vs) r
 
 -- the fields of a kind's row
-abbrev pub FieldsTested : Kind → Row → List Claim → Result Row Refusal → List Claim → Type 0
+abbrev pub FieldsTested : Kind → Row → List Times → Result Row Refusal → List Times → Type 0
 FieldsTested k row us r vs = FieldsStep (bytes_of row) row.node.0 (kind_of (kind_number k)).fields row.place (counts us) (counts vs) r

@@ -5,14 +5,16 @@ ghost use Rattle.std.specs.Prelude.{◌≡◌, ◌<◌, ◌≤◌, IfOk, replica
 ghost use Rattle.ast.specs.Image as ImageSpec;
 ghost use Rattle.ast.specs.Rows.{kids_to};
 ghost use Rattle.ast.specs.Tests as TestsSpec;
-ghost use Rattle.ast.specs.Promises.{bump, claim_all};
+ghost use Rattle.ast.specs.Promises.{claim_all};
 ghost use Rattle.error.specs.Refusals.{refusal_of};
-ghost use Rattle.tests.specs.Claims.{claim_number, counts};
+ghost use Rattle.ast.specs.Times.{counts};
 ghost use Rattle.tests.specs.Steps.{NodeTested, NodesTested};
 
 use ast::kind::Kind;
-use ast::{NodeId, SizedImage};
+use ast::times::Times;
+use ast::{NODES, NodeId, SizedImage};
 use error::Refusal;
+use typed::nodes::{DefinedThenAtom, DefinedThenAtomId, Term, TermId, VarIfAtom, VarIfAtomId};
 
 // Refusals 1, 2, 3.
 pub fn test_sizes(image: &[u8]) -> Result<SizedImage<'_>, Refusal>
@@ -24,19 +26,12 @@ pub fn test_sizes(image: &[u8]) -> Result<SizedImage<'_>, Refusal>
     if n < 16 {
         return Err(Refusal::ShortImage);
     }
-    if sizes.nodes == 0 {
-        return Err(Refusal::SizesTooLarge);
-    }
-    if 2048 < sizes.nodes {
-        return Err(Refusal::SizesTooLarge);
-    }
-    if 8192 < sizes.operands {
-        return Err(Refusal::SizesTooLarge);
-    }
-    if 1024 < sizes.names {
-        return Err(Refusal::SizesTooLarge);
-    }
-    if 8192 < sizes.bytes {
+    if sizes.nodes == 0
+        || 2048 < sizes.nodes
+        || 8192 < sizes.operands
+        || 1024 < sizes.names
+        || 8192 < sizes.bytes
+    {
         return Err(Refusal::SizesTooLarge);
     }
     if n != 16
@@ -113,26 +108,6 @@ const STMT: &[Option<Kind>] = &[
     Some(Kind::MatchStmt),
 ];
 
-// How often a node stands as a child.
-#[derive(Clone, Copy, PartialEq, Eq)]
-enum Claim {
-    Never,
-    Once,
-    Several,
-}
-
-impl Claim {
-    // One time more.
-    fn more(self) -> Claim
-        ensures { claim_number result ≡ bump (claim_number self) }
-    {
-        match self {
-            Claim::Never => Claim::Once,
-            Claim::Once | Claim::Several => Claim::Several,
-        }
-    }
-}
-
 // A place in the row of a node. The test of a field gives the place after it. The claims go beside it: with a `&mut` in here each
 // method would owe that the same claims stay lent.
 #[derive(Clone, Copy)]
@@ -199,13 +174,10 @@ impl Row<'_> {
     }
 
     // A node as a child of the kind.
-    fn check(self, kind: Kind, node: NodeId, claims: &mut [Claim; 2048]) -> Result<(), Refusal>
+    fn check(self, kind: Kind, node: NodeId, claims: &mut [Times; NODES]) -> Result<(), Refusal>
         ensures { ChildTested self.entry kind node.0 claims.old result claims.new }
     {
-        if self.node.0 <= node.0 {
-            return Err(Refusal::WrongChild);
-        }
-        if self.image.kind_at(node) != kind.number() {
+        if self.node.0 <= node.0 || !self.image.is_kind(node, kind) {
             return Err(Refusal::WrongChild);
         }
         let i = node.0 as usize;
@@ -214,7 +186,7 @@ impl Row<'_> {
     }
 
     // A child of the kind.
-    fn child(self, kind: Kind, claims: &mut [Claim; 2048]) -> Result<Self, Refusal>
+    fn child(self, kind: Kind, claims: &mut [Times; NODES]) -> Result<Self, Refusal>
         ensures { FieldTested (child (kind_number kind)) self.entry claims.old result claims.new }
     {
         let word = self.word()?;
@@ -222,20 +194,18 @@ impl Row<'_> {
         Ok(self.next())
     }
 
-    // 0 for none, or the number of a child of the kind plus 1: the image's word, tested before it stands for anything.
-    fn opt_child(self, kind: Kind, claims: &mut [Claim; 2048]) -> Result<Self, Refusal>
+    // 0 for none, or the number of a child of the kind plus 1.
+    fn opt_child(self, kind: Kind, claims: &mut [Times; NODES]) -> Result<Self, Refusal>
         ensures { FieldTested (opt_child (kind_number kind)) self.entry claims.old result claims.new }
     {
-        let word = self.word()?;
-        if word == 0 {
-            return Ok(self.next());
+        if let Some(child) = self.word()?.checked_sub(1) {
+            self.check(kind, NodeId(child), claims)?;
         }
-        self.check(kind, NodeId(word - 1), claims)?;
         Ok(self.next())
     }
 
     // A count and its items.
-    fn list(self, kind: Kind, claims: &mut [Claim; 2048]) -> Result<Self, Refusal>
+    fn list(self, kind: Kind, claims: &mut [Times; NODES]) -> Result<Self, Refusal>
         ensures { FieldTested (list (kind_number kind)) self.entry claims.old result claims.new }
     {
         let count = self.word()?;
@@ -247,7 +217,7 @@ impl Row<'_> {
     }
 
     // A count and its lists. The loop of `list` with another step: a closure for the step would be no shorter.
-    fn lists(self, kind: Kind, claims: &mut [Claim; 2048]) -> Result<Self, Refusal>
+    fn lists(self, kind: Kind, claims: &mut [Times; NODES]) -> Result<Self, Refusal>
         ensures { FieldTested (lists (kind_number kind)) self.entry claims.old result claims.new }
     {
         let count = self.word()?;
@@ -259,7 +229,7 @@ impl Row<'_> {
     }
 
     // The case number of an enum, and the child.
-    fn cases(self, kinds: &[Option<Kind>], claims: &mut [Claim; 2048]) -> Result<Self, Refusal>
+    fn cases(self, kinds: &[Option<Kind>], claims: &mut [Times; NODES]) -> Result<Self, Refusal>
         ensures { FieldTested (cases (case_kinds kinds.now)) self.entry claims.old result claims.new }
     {
         let case = self.number(kinds.len())?;
@@ -270,7 +240,7 @@ impl Row<'_> {
     }
 
     // The fields that the kind says.
-    fn fields(self, kind: Kind, claims: &mut [Claim; 2048]) -> Result<Self, Refusal>
+    fn fields(self, kind: Kind, claims: &mut [Times; NODES]) -> Result<Self, Refusal>
         ensures { FieldsTested kind self.entry claims.old result claims.new }
     {
         use Kind::*;
@@ -320,7 +290,7 @@ fn check_node(
     image: &SizedImage,
     node: NodeId,
     end: u32,
-    claims: &mut [Claim; 2048],
+    claims: &mut [Times; NODES],
 ) -> Result<u32, Refusal>
     requires { node.0 < image.now.sizes.nodes × (end ≤ 8192) × (end ≡ TestsSpec.end_before image.now.image.now node.0) }
     ensures { NodeTested image.now.image.now node.0 (counts claims.old) (counts claims.new) result }
@@ -328,10 +298,7 @@ fn check_node(
     let Ok(kind) = Kind::try_from(image.kind_at(node)) else {
         return Err(Refusal::UnknownKind);
     };
-    if image.start_at(node) != end {
-        return Err(Refusal::RowOutside);
-    }
-    if image.sizes.operands <= end + 1 {
+    if image.start_at(node) != end || image.sizes.operands <= end + 1 {
         return Err(Refusal::RowOutside);
     }
     let row = Row {
@@ -343,7 +310,7 @@ fn check_node(
 }
 
 // Refusals 6 to 9. Gives the end of the last row.
-fn check_nodes(image: &SizedImage, claims: &mut [Claim; 2048]) -> Result<u32, Refusal>
+fn check_nodes(image: &SizedImage, claims: &mut [Times; NODES]) -> Result<u32, Refusal>
     ensures { NodesTested image.now.image.now (counts claims.old) (counts claims.new) result }
 {
     let mut end = 0u32;
@@ -355,14 +322,14 @@ fn check_nodes(image: &SizedImage, claims: &mut [Claim; 2048]) -> Result<u32, Re
 
 // Refusal 11: each node but the last is a child once. The loop does not stop at the first that is not, so that its machine code tests
 // several at once.
-fn test_parents(image: &SizedImage, claims: &[Claim; 2048]) -> Result<(), Refusal>
+fn test_parents(image: &SizedImage, claims: &[Times; NODES]) -> Result<(), Refusal>
     requires { counts claims.now ≡ claim_all (kids_to image.now.image.now (ImageSpec.nodes image.now.image.now)) (replicate 2048 0) }
     ensures { refusal_of result ≡ TestsSpec.test_parents image.now.image.now }
 {
-    let last = image.sizes.nodes - 1;
+    let last = image.sizes.nodes as usize - 1;
     let mut parents = Ok(());
-    for v in 0..last {
-        if claims[v as usize] != Claim::Once {
+    for claim in &claims[..last] {
+        if *claim != Times::Once {
             parents = Err(Refusal::Parents);
         }
     }
@@ -370,29 +337,28 @@ fn test_parents(image: &SizedImage, claims: &[Claim; 2048]) -> Result<(), Refusa
 }
 
 // The term is Ident or Wildcard.
-fn test_term(image: &[u8], child: NodeId) -> Result<(), Refusal>
-    ensures { refusal_of result ≡ TestsSpec.is_var image.now child.0 }
+fn test_term(image: &[u8], id: TermId) -> Result<(), Refusal>
+    ensures { refusal_of result ≡ TestsSpec.is_var image.now id.0.0 }
 {
-    match ast::field(image, child, 0) {
-        // Ident, Wildcard
-        0 | 1 => Ok(()),
+    match typed::term(image, id) {
+        Term::Ident(_) | Term::Wildcard => Ok(()),
         _ => Err(Refusal::WrongVariable),
     }
 }
 
-// Refusal 12 of a node: of an if-var its term, of a defined-then its variable, if it has one. Its words as the image has them.
+// Refusal 12 of a node: of an if-var its term, of a defined-then its variable, if it has one.
 fn test_var(image: &SizedImage, node: NodeId) -> Result<(), Refusal>
     requires { node.0 < image.now.sizes.nodes }
     ensures { refusal_of result ≡ TestsSpec.test_var image.now.image.now node.0 }
 {
-    let kind = image.kind_at(node);
-    if kind == Kind::VarIfAtom.number() {
-        return test_term(image.image, NodeId(ast::field(image.image, node, 0)));
+    if image.is_kind(node, Kind::VarIfAtom) {
+        let VarIfAtom { term, .. } = typed::var_if_atom(image.image, VarIfAtomId(node));
+        return test_term(image.image, term);
     }
-    if kind == Kind::DefinedThenAtom.number() {
-        let word = ast::field(image.image, node, 0);
-        if word != 0 {
-            return test_term(image.image, NodeId(word - 1));
+    if image.is_kind(node, Kind::DefinedThenAtom) {
+        let id = DefinedThenAtomId(node);
+        if let Some(var) = typed::defined_then_atom(image.image, id).var {
+            return test_term(image.image, var);
         }
     }
     Ok(())
@@ -409,16 +375,13 @@ fn test_vars(image: &SizedImage) -> Result<(), Refusal>
 }
 
 // Refusals 10, 11 and 12; `end` is where the last row ends.
-fn test_tree(image: &SizedImage, end: u32, claims: &[Claim; 2048]) -> Result<(), Refusal>
+fn test_tree(image: &SizedImage, end: u32, claims: &[Times; NODES]) -> Result<(), Refusal>
     requires end { end ≡ TestsSpec.end_before image.now.image.now (ImageSpec.nodes image.now.image.now) }
     requires claims { counts claims.now ≡ claim_all (kids_to image.now.image.now (ImageSpec.nodes image.now.image.now)) (replicate 2048 0) }
     ensures { refusal_of result ≡ TestsSpec.test_tree image.now.image.now }
 {
-    if end != image.sizes.operands {
-        return Err(Refusal::LastRow);
-    }
     let last = NodeId(image.sizes.nodes - 1);
-    if image.kind_at(last) != Kind::Module.number() {
+    if end != image.sizes.operands || !image.is_kind(last, Kind::Module) {
         return Err(Refusal::LastRow);
     }
     test_parents(image, claims)?;
@@ -430,7 +393,7 @@ pub fn test_nodes(image: &SizedImage) -> Result<(), Refusal>
     ensures { refusal_of result ≡ TestsSpec.◌▸◌ (TestsSpec.run (TestsSpec.test_node image.now.image.now) (ImageSpec.nodes image.now.image.now) 0) (TestsSpec.test_tree image.now.image.now) }
 {
     // fixed memory, since there is no heap
-    let mut claims = [Claim::Never; 2048];
+    let mut claims = [Times::Never; NODES];
     let end = check_nodes(image, &mut claims)?;
     test_tree(image, end, &claims)
 }

@@ -1,2 +1,3 @@
 pub mod RowShapes
+pub mod Items
 pub mod Nodes

@@ -1,12 +1,8 @@
--- The fields of a row by its shape: words, a list, or a word and a list. What the typed reads of rows promise.
+-- The fields of a row by its shape: words, a list, or a word and a list. What the typed reads of rows promise: predicates,
+-- since they are of the image and the node too.
 use Rattle.std.specs.Prelude.{◌≡◌, List, ℕ, ◌+◌}
 use Rattle.ast.specs.Image.{field}
-use Rattle.ast.specs.declared.NodeId.{NodeId}
 use Rattle.typed.specs.declared.nodes.NodeList.{NodeList}
-
--- the i-th node of a list
-abbrev pub nth_node : List ℕ → NodeList → ℕ → NodeId
-nth_node img l i = record { 0 = field img l.node.0 (l.first + i) }
 
 module _ (img : List ℕ) (n : ℕ) where
   -- the words of the fields of n, where each is one word: one, two, three; an enum's row is its case number and its child

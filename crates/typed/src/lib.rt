@@ -1,15 +1,17 @@
 // The rows of the 41 kinds, under the names of ast.rs: `ast.term(id)` is `typed::term(image, id)`.
-// Each kind keeps a read of its own, as in ast.rs: their fields differ, so a trait of rows would only move each body into an impl.
+// Each kind keeps a read of its own, as in ast.rs, which has a struct for each: the ids tell the kinds apart. A trait of rows would only
+// move each body into an impl.
 #![tactic(auto)]
 
-ghost use Rattle.std.specs.Prelude.{◌≡◌, ◌+◌, ◌≤◌};
+ghost use Rattle.std.specs.Prelude.{◌≡◌, ◌+◌, ◌^◌, ◌<◌, ◌≤◌};
 ghost use Rattle.ast.specs.Image as ImageSpec;
-ghost use Rattle.typed.specs.RowShapes.{One, Two, Three, Listed, WordList, nth_node};
+ghost use Rattle.typed.specs.RowShapes.{One, Two, Three, Listed, WordList};
 ghost use Rattle.typed.specs.Nodes.{name_word, term_word, decl_at, term_at, app_head_at, type_expr_at, pred_expr_at, if_atom_at, then_atom_at, stmt_at};
 
 use crate::nodes::*;
 use ast::{NodeId, field};
 
+pub mod items;
 pub mod nodes;
 
 // An absent option is 0, a present one its number plus 1.
@@ -21,31 +23,15 @@ fn option(word: u32) -> Option<u32>
 
 // The list whose count is at a place of a node's row, its items after it.
 fn list<T>(image: &[u8], node: NodeId, place: usize) -> Ids<T>
-    requires { place ≤ 8192 }
-    ensures { Listed image.now node.0 place result.list }
+    requires { place + 1 < 2 ^ 64 }
+    ensures so { Listed image.now node.0 place result.list }
+    ensures word { result.list.count < 2 ^ 32 }
 {
     Ids::from(NodeList {
         node,
         first: place + 1,
         count: field(image, node, place) as usize,
     })
-}
-
-// The block at a place of a branch.
-pub fn block(image: &[u8], blocks: Ids<Ids<StmtId>>, place: usize) -> Ids<StmtId>
-    requires { place ≤ 8192 }
-    ensures { Listed image.now blocks.list.node.0 place result.list }
-{
-    list(image, blocks.list.node, place)
-}
-
-// The i-th id of a list.
-pub fn nth<T: From<NodeId>>(image: &[u8], ids: Ids<T>, i: usize) -> T
-    requires { ids.list.first + i ≤ 8192 }
-    ensures { T.from_gives (nth_node image.now ids.list i) result }
-{
-    let list = ids.list;
-    T::from(NodeId(field(image, list.node, list.first + i)))
 }
 
 // 0

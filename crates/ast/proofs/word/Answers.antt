@@ -5,6 +5,3 @@ use Rattle.ast.proofs.word.Goals as goal
 
 pub returns-then-n-lt4 : goal.returns-then-n-lt4
 returns-then-n-lt4 c = sym (word_out _ _ (omega arith))
-
-pub returns : goal.returns
-returns c = c.word_in.ensures

@@ -6,7 +6,7 @@ use Rattle.rows.proofs.Appends.{wrote_as}
 use Rattle.scopes.specs.Answers.{rowed_answer}
 use Rattle.scopes.proofs.Calls.{refused-is, stopped-is, rowed-refused, rowed-filled, rowed-stopped}
 use Rattle.bindings.specs.Errors.{errors}
-use Rattle.bindings.proofs.Calls.{errors-table, errors-filled, mode-errors}
+use Rattle.bindings.proofs.Calls.{errors-table, errors-accepted, errors-long, mode-errors}
 use Rattle.bindings.proofs.check_bindings.Goals as goal
 
 pub returns-in_err-mode : goal.returns-in_err-mode
@@ -18,8 +18,11 @@ returns-in_err-mode c =
 pub resolve_into-requires : goal.resolve_into-requires
 resolve_into-requires c = (errors-table _ _ _ _ (sym c.in_ok-mode.ensures.refusal), c.new-env.ensures)
 
+pub invariant_of-write_rows : goal.invariant_of-write_rows
+invariant_of-write_rows c = record { accepted = errors-accepted _ _ _ _ (sym c.in_ok-mode.ensures.refusal) }
+
 pub write_rows-requires : goal.write_rows-requires
-write_rows-requires c = errors-filled _ _ _ _ (sym c.in_ok-mode.ensures.refusal)
+write_rows-requires c = errors-long _ _ _ _ (sym c.in_ok-mode.ensures.refusal)
 
 pub returns-in_err-resolved : goal.returns-in_err-resolved
 unfolding errors

@@ -1,12 +1,13 @@
 use mathlib.Core.Path.{sym, ap, ◌∙◌}
 use mathlib.Core.Option.{some}
+use native.Mathlib.Numerals.{add-one}
 use Rattle.environment.specs.Stands.{told}
-use Rattle.environment.proofs.Words.{told-some}
 use Rattle.environment.proofs.found.Goals as goal
 
-pub returns-then-word-eq0 : goal.returns-then-word-eq0
+pub returns-in_err-row : goal.returns-in_err-row
 unfolding told
-returns-then-word-eq0 c = rw c.if-word-eq0.true
+returns-in_err-row c = rw (c.from_residual.ensures, ← c.in_err-row.ensures)
 
 pub returns : goal.returns
-returns c = ap some c.symbol_node.ensures ∙ sym (told-some _ _ _ c.if-word-eq0.false)
+unfolding told
+returns c = ap some c.symbol_node.ensures ∙ ap (told _ _) (sym (add-one _) ∙ c.in_ok-row.ensures)

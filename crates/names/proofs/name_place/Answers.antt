@@ -12,12 +12,12 @@ returns-in_default-clause-place c = sym (place-refused _ _ (λ e. refusal-some _
 
 pub returns-then-sized-number-clause-given : goal.returns-then-sized-number-clause-given
 returns-then-sized-number-clause-given c =
-    let n = c.in-Ok.sized.within.head.names_are in
+    let n = rw (← c.in-Ok.sized-is) at c.in-Ok.sized.within.head.names_are in
     rw (none-beyond _ _ (sym c.in-Ok.ensures.code) (rw c.in-Ok.ensures.image at (rw n at c.if-sized-number.true))) (λ z. z, λ z. z)
 
 pub returns-then-sized-number-clause-place : goal.returns-then-sized-number-clause-place
 returns-then-sized-number-clause-place c =
-    let n = c.in-Ok.sized.within.head.names_are in
+    let n = rw (← c.in-Ok.sized-is) at c.in-Ok.sized.within.head.names_are in
     sym (place-beyond _ _ (sym c.in-Ok.ensures.code) (rw c.in-Ok.ensures.image at (rw n at c.if-sized-number.true)))
 
 pub invariant_of-named : goal.invariant_of-named
@@ -25,11 +25,11 @@ invariant_of-named c = record { rising_all = rw c.in-Ok.ensures.image ((named _ 
 
 pub returns-clause-given : goal.returns-clause-given
 returns-clause-given c =
-    let n = c.in-Ok.sized.within.head.names_are in
+    let n = rw (← c.in-Ok.sized-is) at c.in-Ok.sized.within.head.names_are in
     rw (there _ _ (sym c.in-Ok.ensures.code) (rw c.in-Ok.ensures.image at (rw n at c.if-sized-number.false))) (λ z. z, λ z. z)
 
 pub returns-clause-place : goal.returns-clause-place
 returns-clause-place c =
-    let n = c.in-Ok.sized.within.head.names_are in
+    let n = rw (← c.in-Ok.sized-is) at c.in-Ok.sized.within.head.names_are in
     sym (place_is _ _ (there _ _ (sym c.in-Ok.ensures.code) (rw c.in-Ok.ensures.image at (rw n at c.if-sized-number.false))) _
     (rw c.in-Ok.ensures.image at c.place.ensures.start) (rw c.in-Ok.ensures.image at c.place.ensures.len))

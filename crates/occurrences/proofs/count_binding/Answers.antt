@@ -1,9 +1,13 @@
-use mathlib.Core.Path.{refl, sym, ◌∙◌}
-use Rattle.ast.proofs.Scans.{bump-first, bump-again}
+use mathlib.Core.Path.{sym, ap, ◌∙◌}
+use lib.ListN.{set}
+use Rattle.std.proofs.lemmas.List.{map-set}
+use Rattle.std.proofs.Math.ListN.{get_or-map}
+use Rattle.ast.specs.Promises.{bump}
+use Rattle.ast.specs.Times.{times_number, counts}
+use Rattle.ast.specs.declared.times.Times.TheVariants as times
 use Rattle.occurrences.proofs.count_binding.Goals as goal
 
-pub returns-then-get-eq0 : goal.returns-then-get-eq0
-returns-then-get-eq0 c = c.put.ensures ∙ bump-first c.args.counts.now c.args.binding _ refl (sym c.get.ensures ∙ c.if-get-eq0.true)
-
-pub returns-else-get-eq0 : goal.returns-else-get-eq0
-returns-else-get-eq0 c = c.put-else-get-eq0.ensures ∙ bump-again c.args.counts.now c.args.binding _ refl (λ e. c.if-get-eq0.false (c.get.ensures ∙ e))
+pub returns-then-binding-lt2048 : goal.returns-then-binding-lt2048
+returns-then-binding-lt2048 c =
+    map-set times_number c.args.times.now c.args.binding c.more.result
+    ∙ ap (set (counts c.args.times.now) c.args.binding) (c.more.ensures ∙ ap bump (sym (get_or-map times_number c.args.times.now c.args.binding times.Never)))

@@ -1,9 +1,10 @@
 use Prim.Native.Nat.{◌+◌, ◌*◌}
-use Rattle.environment.specs.Stands.{Stands}
-use Rattle.environment.specs.Builder.{Keeps, walked_of}
+use Rattle.typed.specs.Items.{trees_of, block_trees}
+use Rattle.typed.proofs.Lists.{Within, BlocksWithin}
+use Rattle.environment.specs.Builder.{walked_of}
 use Rattle.ordered.specs.Walk.{occurs}
+use Rattle.ordered.specs.Promises.{inside, over_all}
 use Rattle.ordered.proofs.Lists.{Left}
-use Rattle.ordered.proofs.Stmts.{BlocksLeft}
 use Rattle.ordered.proofs.+stmts.Given as goal
 
 abbrev pub decreases-walk_branch : goal.decreases-walk_branch
@@ -21,14 +22,17 @@ decreases-walk_stmt l = 2 * l.stmt.0.0 + 1
 abbrev pub decreases-walk_stmt_block : goal.decreases-walk_stmt_block
 decreases-walk_stmt_block l = 2 * l.stmts.list.node.0
 
-abbrev pub invariant-walk_branch-loop-i : goal.invariant-walk_branch-loop-i
-invariant-walk_branch-loop-i l =
-    BlocksLeft l.image l.blocks.list l.i l.place (walked_of l.initial.builder l.initial.cur) (walked_of l.builder l.cur)
-    × Stands l.image (walked_of l.builder l.cur) l.builder.env.now
-    × Keeps l.initial.builder l.builder
+abbrev pub invariant-walk_branch-loop-block : goal.invariant-walk_branch-loop-block
+invariant-walk_branch-loop-block l =
+    BlocksWithin l.fn.builder.image.now l.fn.id.0.0 l.block-iterator
+    × Left occurs (inside l.fn.builder.image.now occurs l.fn.id.0.0 (walked_of l.fn.builder l.fn.current)) (block_trees l.block-iterator) l.fn.builder l.builder l.cur
 
-abbrev pub invariant-walk_match-loop-i : goal.invariant-walk_match-loop-i
-invariant-walk_match-loop-i l = Left l.image occurs l.cases.list l.i l.initial.builder l.initial.cur l.builder l.cur
+abbrev pub invariant-walk_match-loop-case : goal.invariant-walk_match-loop-case
+invariant-walk_match-loop-case l =
+    Within l.fn.builder.image.now 35 l.fn.id.0.0 l.case-iterator
+    × Left occurs (inside l.fn.builder.image.now occurs l.fn.id.0.0 (walked_of l.fn.builder l.fn.current)) (trees_of l.case-iterator) l.fn.builder l.builder l.cur
 
-abbrev pub invariant-walk_stmt_block-loop-i : goal.invariant-walk_stmt_block-loop-i
-invariant-walk_stmt_block-loop-i l = Left l.image occurs l.stmts.list l.i l.initial.builder l.initial.cur l.builder l.cur
+abbrev pub invariant-walk_stmt_block-loop-stmt : goal.invariant-walk_stmt_block-loop-stmt
+invariant-walk_stmt_block-loop-stmt l =
+    Within l.fn.builder.image.now 36 l.fn.stmts.list.node.0 l.stmt-iterator
+    × Left occurs (over_all l.fn.builder.image.now occurs l.fn.stmts.list (walked_of l.fn.builder l.fn.current)) (trees_of l.stmt-iterator) l.fn.builder l.builder l.cur

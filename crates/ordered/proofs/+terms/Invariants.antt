@@ -1,6 +1,10 @@
+use Rattle.typed.specs.Items.{trees_of}
+use Rattle.typed.proofs.Lists.{Within}
+use Rattle.environment.specs.Builder.{walked_of}
 use Rattle.ordered.specs.Walk.{occurs}
 use Rattle.ordered.specs.Walk as roles
-use Rattle.ordered.proofs.Lists.{Left}
+use Rattle.ordered.specs.Promises.{inside}
+use Rattle.ordered.proofs.Lists.{in_member, Left}
 use Rattle.ordered.proofs.+terms.Given as goal
 
 abbrev pub decreases-walk_app_head : goal.decreases-walk_app_head
@@ -24,8 +28,12 @@ decreases-walk_term_member l = l.id.0.0
 abbrev pub decreases-walk_two_terms : goal.decreases-walk_two_terms
 decreases-walk_two_terms l = l.id.0
 
-abbrev pub invariant-walk_app_head_member-loop-i : goal.invariant-walk_app_head_member-loop-i
-invariant-walk_app_head_member-loop-i l = Left l.image roles.names l.names.list l.i l.initial.builder l.initial.scope l.builder l.scope
+abbrev pub invariant-walk_app_head_member-loop-name : goal.invariant-walk_app_head_member-loop-name
+invariant-walk_app_head_member-loop-name l =
+    Within l.fn.builder.image.now 13 l.fn.id.0.0 l.name-iterator
+    × Left roles.names (in_member l.fn.builder.image.now l.fn.id.0.0 (walked_of l.fn.builder l.fn.current)) (trees_of l.name-iterator) l.fn.builder l.builder l.scope
 
-abbrev pub invariant-walk_term_list-loop-i : goal.invariant-walk_term_list-loop-i
-invariant-walk_term_list-loop-i l = Left l.image occurs l.terms.list l.i l.initial.builder l.initial.cur l.builder l.cur
+abbrev pub invariant-walk_term_list-loop-term : goal.invariant-walk_term_list-loop-term
+invariant-walk_term_list-loop-term l =
+    Within l.fn.builder.image.now 12 l.fn.list.0.0 l.term-iterator
+    × Left occurs (inside l.fn.builder.image.now occurs l.fn.list.0.0 (walked_of l.fn.builder l.fn.current)) (trees_of l.term-iterator) l.fn.builder l.builder l.cur

@@ -1,4 +1,5 @@
-use mathlib.Core.Path.{refl, ap, ◌∙◌}
+use borrow.Author.Rules.{rules}
+use mathlib.Core.Path.{◌≡◌, refl, ap, ◌∙◌}
 use Rattle.ordered.specs.Promises.{asks, unless, Walks}
 use Rattle.ordered.proofs.Ends.{ends_in}
 use Rattle.ordered.proofs.Idents.{known-ends, new-ends, new-few, var-below, ident_here, ident-asking, ident-ends}
@@ -7,7 +8,7 @@ use Rattle.ordered.proofs.walk_ident_term.Goals as goal
 use Rattle.ordered.proofs.walk_ident_term.Goals.{Joined-is_known, then-is_known, else-is_known}
 
 -- the ident introduced, unless it is known
-bound : (g : given.Over) (c : Joined-is_known g) → Walks c.args.image.now (unless c.args.image.now c.is_known.result c.args.ident.0.0) c.args.builder.now c.args.current c.if-is_known.builder c.if-is_known.exit
+bound : (g : given.Over) (c : Joined-is_known g) → Walks (unless c.args.builder.now.image.now c.is_known.result c.args.ident.0.0) c.args.builder.now c.args.current c.if-is_known.builder c.if-is_known.exit
 bound g c =
     elim c.if-is_known.branch [
       | then-is_known w ↦ ends_in _ w.builder-is w.exit-is refl (known-ends _ _ w.if-is_known.true c.requires.0.1)
@@ -26,9 +27,11 @@ introduce-exit-requires g c =
 pub leave_asked-requires : goal.leave_asked-requires
 leave_asked-requires g c =
     let o = ident_here _ c.requires.0.0 c.requires.1 c.ident_term-name.ensures (g.met.R.Role.here _) c.requires.0.1 c.stands-before.ensures (c.is_known.ensures ∙ ap (asks _ _) c.found.ensures) in
-    ident-asking _ o c.requires.0.1 c.stands-before.ensures (bound g (goal.at.leave_asked-requires g c).Joined-is_known) c.leave-named.ensures.walk c.leave-named.ensures.env
+    let k : c.if-is_known.builder.image.now ≡ c.args.builder.now.image.now = search rules in
+    rw (c.leave-named.ensures.keeps.image, k) (ident-asking _ o c.requires.0.1 c.stands-before.ensures (bound g (goal.at.leave_asked-requires g c).Joined-is_known) (rw k at c.leave-named.ensures.walk) c.leave-named.ensures.env)
 
 pub returns-clause-walk : goal.returns-clause-walk
 returns-clause-walk g c =
     let o = ident_here _ c.requires.0.0 c.requires.1 c.ident_term-name.ensures (g.met.R.Role.here _) c.requires.0.1 c.stands-before.ensures (c.is_known.ensures ∙ ap (asks _ _) c.found.ensures) in
-    ident-ends _ o (bound g (goal.at.returns-clause-walk g c).Joined-is_known) c.leave-named.ensures.walk c.leave_asked.ensures.walk c.leave_asked.ensures.stands
+    let k : c.if-is_known.builder.image.now ≡ c.args.builder.now.image.now = search rules in
+    ident-ends _ o (bound g (goal.at.returns-clause-walk g c).Joined-is_known) (rw k at c.leave-named.ensures.walk) (cc) (rw (c.leave-named.ensures.keeps.image, k) at c.leave_asked.ensures.stands)

@@ -1,4 +1,5 @@
-use mathlib.Core.Path.{refl}
+use borrow.Author.Rules.{rules}
+use mathlib.Core.Path.{◌≡◌, refl}
 use Rattle.ast.specs.Kinds.{kind_of}
 use Rattle.typed.proofs.Enums.{if-atom-is}
 use Rattle.environment.proofs.Asking.{loud_fields}
@@ -34,6 +35,7 @@ walk_var_atom-exit-requires c =
 pub returns-clause-walk : goal.returns-clause-walk
 unfolding kind_of loud_fields
 returns-clause-walk c =
+    let k : c.match-if_atom.builder.image.now ≡ c.args.builder.now.image.now = search rules in
     plain-ends _ refl c.requires.0
     (elim c.match-if_atom.branch [
       | in-Equal w ↦
@@ -49,4 +51,4 @@ returns-clause-walk c =
           let k = if-atom-is _ c.requires.0.is c.if_atom.ensures w.in-Var.is in
           ends_in _ w.builder-is w.exit-is (plain-wrapped _ c.requires.0 k refl).inner w.walk_var_atom-exit.ensures.walk
     ])
-    c.leave.ensures.walk c.leave.ensures.env
+    (rw k at c.leave.ensures.walk) c.leave.ensures.env

@@ -11,8 +11,8 @@ walk_pred_expr-after_pred-requires c = ((two _ c.requires.0 c.pred_atom.ensures.
 
 pub walk_term_list-after_args-requires : goal.walk_term_list-after_args-requires
 unfolding kind_of
-walk_term_list-after_args-requires c = (subst (Ready _ _ _) (sym c.walk_pred_expr-after_pred.ensures.walk.same) (two _ c.requires.0 c.pred_atom.ensures.first c.pred_atom.ensures.second).second, c.walk_pred_expr-after_pred.ensures.walk.stands)
+walk_term_list-after_args-requires c = rw c.walk_pred_expr-after_pred.ensures.keeps.image (subst (Ready _ _ _) (sym c.walk_pred_expr-after_pred.ensures.walk.same) (two _ c.requires.0 c.pred_atom.ensures.first c.pred_atom.ensures.second).second, c.walk_pred_expr-after_pred.ensures.walk.stands)
 
 pub returns-clause-walk : goal.returns-clause-walk
 unfolding kind_of
-returns-clause-walk c = two_ends _ c.requires.0 c.pred_atom.ensures.first c.pred_atom.ensures.second c.walk_pred_expr-after_pred.ensures.walk c.walk_term_list-after_args.ensures.walk c.leave.ensures.walk c.leave.ensures.env
+returns-clause-walk c = two_ends _ c.requires.0 c.pred_atom.ensures.first c.pred_atom.ensures.second c.walk_pred_expr-after_pred.ensures.walk (rw c.walk_pred_expr-after_pred.ensures.keeps.image at c.walk_term_list-after_args.ensures.walk) (rw (c.walk_term_list-after_args.ensures.keeps.image, c.walk_pred_expr-after_pred.ensures.keeps.image) at c.leave.ensures.walk) c.leave.ensures.env

@@ -1,4 +1,5 @@
-use mathlib.Core.Path.{refl}
+use borrow.Author.Rules.{rules}
+use mathlib.Core.Path.{◌≡◌, refl}
 use Rattle.ast.specs.Kinds.{kind_of}
 use Rattle.typed.proofs.Enums.{pred-expr-is}
 use Rattle.environment.proofs.Asking.{loud_fields}
@@ -16,6 +17,7 @@ walk_term_member-exit-requires c =
 pub returns-clause-walk : goal.returns-clause-walk
 unfolding kind_of loud_fields
 returns-clause-walk c =
+    let k : c.match-pred_expr.builder.image.now ≡ c.args.builder.now.image.now = search rules in
     plain-ends _ refl c.requires.0
     (elim c.match-pred_expr.branch [
       | in-Ambient w ↦
@@ -25,4 +27,4 @@ returns-clause-walk c =
           let o = plain-wrapped _ c.requires.0 (pred-expr-is _ c.requires.0.is c.pred_expr.ensures w.in-Member.is) refl in
           ends_in _ w.builder-is w.exit-is o.inner w.walk_term_member-exit.ensures.walk
     ])
-    c.leave.ensures.walk c.leave.ensures.env
+    (rw k at c.leave.ensures.walk) c.leave.ensures.env

@@ -1,4 +1,5 @@
-use mathlib.Core.Path.{refl}
+use borrow.Author.Rules.{rules}
+use mathlib.Core.Path.{◌≡◌, refl}
 use native.Mathlib.Omega.{arith}
 use Rattle.ast.specs.Kinds.{kind_of}
 use Rattle.typed.proofs.Enums.{then-atom-is}
@@ -21,11 +22,13 @@ walk_pred_atom-exit-requires c = let k = then-atom-is _ c.requires.0.is c.then_a
 
 pub returns-clause-walk : goal.returns-clause-walk
 returns-clause-walk c =
+    let j : c.match-then_atom.builder.image.now ≡ c.args.builder.now.image.now = search rules in
+    let l = rw j at c.leave.ensures.walk in
     elim c.match-then_atom.branch [
       | in-Equal w ↦
           let k = then-atom-is _ c.requires.0.is c.then_atom.ensures w.in-Equal.is in
-          then-ends _ c.requires.0 k (λ z. omega arith) refl (ends_in _ w.builder-is w.exit-is refl w.walk_two_terms-exit.ensures.walk) c.leave.ensures.walk c.leave.ensures.env
+          then-ends _ c.requires.0 k (λ z. omega arith) refl (ends_in _ w.builder-is w.exit-is refl w.walk_two_terms-exit.ensures.walk) l c.leave.ensures.env
       | in-Pred w ↦
           let k = then-atom-is _ c.requires.0.is c.then_atom.ensures w.in-Pred.is in
-          then-ends _ c.requires.0 k (λ z. omega arith) refl (ends_in _ w.builder-is w.exit-is refl w.walk_pred_atom-exit.ensures.walk) c.leave.ensures.walk c.leave.ensures.env
+          then-ends _ c.requires.0 k (λ z. omega arith) refl (ends_in _ w.builder-is w.exit-is refl w.walk_pred_atom-exit.ensures.walk) l c.leave.ensures.env
     ]

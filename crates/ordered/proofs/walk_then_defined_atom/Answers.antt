@@ -13,13 +13,13 @@ pub walk_term-after_term-requires : goal.walk_term-after_term-requires
 walk_term-after_term-requires c = let d = defined_atom _ c.requires.0.0 c.requires.1 c.defined_then_atom-var.ensures.second in (d.parts.first, c.requires.0.1)
 
 pub walk_term-exit-requires : goal.walk_term-exit-requires
-walk_term-exit-requires c = let d = defined_atom _ c.requires.0.0 c.requires.1 c.defined_then_atom-var.ensures.second in let v = sym (ap term_word c.in-Some.is) ∙ c.defined_then_atom-var.ensures.first in let is = (d.parts.second _ (sym v)).is in let no = no-ident _ is c.term.ensures c.in_default.not-Ident in ((var-other _ (given-variable _ _ d v c.walk_term-after_term.ensures.walk) (λ e. no (sym e))).0, c.walk_term-after_term.ensures.walk.stands)
+walk_term-exit-requires c = let d = defined_atom _ c.requires.0.0 c.requires.1 c.defined_then_atom-var.ensures.second in let v = sym (ap term_word c.in-Some.is) ∙ c.defined_then_atom-var.ensures.first in let is = (d.parts.second _ (sym v)).is in let no = no-ident _ is c.term.ensures c.in_default.not-Ident in rw c.walk_term-after_term.ensures.keeps.image ((var-other _ (given-variable _ _ d v c.walk_term-after_term.ensures.walk) (λ e. no (sym e))).0, c.walk_term-after_term.ensures.walk.stands)
 
 pub walk_term-after_term-requires-in-None : goal.walk_term-after_term-requires-in-None
 walk_term-after_term-requires-in-None c = let d = defined_atom _ c.requires.0.0 c.requires.1 c.defined_then_atom-var.ensures.second in (d.parts.first, c.requires.0.1)
 
 pub returns-in_default-clause-walk : goal.returns-in_default-clause-walk
-returns-in_default-clause-walk c = let d = defined_atom _ c.requires.0.0 c.requires.1 c.defined_then_atom-var.ensures.second in let v = sym (ap term_word c.in-Some.is) ∙ c.defined_then_atom-var.ensures.first in let is = (d.parts.second _ (sym v)).is in let no = no-ident _ is c.term.ensures c.in_default.not-Ident in atom-quiet _ d c.requires.0.0.is (quiet-other _ _ _ c.requires.0.0.is c.requires.1.second v (λ e. no (sym e))) (given-ends _ _ d v c.walk_term-after_term.ensures.walk (var-ends _ (given-variable _ _ d v c.walk_term-after_term.ensures.walk) (λ e. no (sym e)) c.walk_term-exit.ensures.walk) c.leave-defined.ensures.walk c.leave-defined.ensures.env) c.leave.ensures.walk c.leave.ensures.env
+returns-in_default-clause-walk c = let d = defined_atom _ c.requires.0.0 c.requires.1 c.defined_then_atom-var.ensures.second in let v = sym (ap term_word c.in-Some.is) ∙ c.defined_then_atom-var.ensures.first in let is = (d.parts.second _ (sym v)).is in let no = no-ident _ is c.term.ensures c.in_default.not-Ident in atom-quiet _ d c.requires.0.0.is (quiet-other _ _ _ c.requires.0.0.is c.requires.1.second v (λ e. no (sym e))) (given-ends _ _ d v c.walk_term-after_term.ensures.walk (var-ends _ (given-variable _ _ d v c.walk_term-after_term.ensures.walk) (λ e. no (sym e)) (rw c.walk_term-after_term.ensures.keeps.image at c.walk_term-exit.ensures.walk)) (rw (c.walk_term-exit.ensures.keeps.image, c.walk_term-after_term.ensures.keeps.image) at c.leave-defined.ensures.walk) c.leave-defined.ensures.env) (cc) c.leave.ensures.env
 
 pub returns-in-None-clause-walk : goal.returns-in-None-clause-walk
-returns-in-None-clause-walk c = let d = defined_atom _ c.requires.0.0 c.requires.1 c.defined_then_atom-var.ensures.second in let z = sym c.defined_then_atom-var.ensures.first ∙ ap term_word c.in-None.is in atom-quiet _ d c.requires.0.0.is (quiet-absent _ _ c.requires.0.0.is c.requires.1.second z) (absent-ends _ d z c.walk_term-after_term-in-None.ensures.walk c.leave-defined-in-None.ensures.walk c.leave-defined-in-None.ensures.env) c.leave-in-None.ensures.walk c.leave-in-None.ensures.env
+returns-in-None-clause-walk c = let d = defined_atom _ c.requires.0.0 c.requires.1 c.defined_then_atom-var.ensures.second in let z = sym c.defined_then_atom-var.ensures.first ∙ ap term_word c.in-None.is in atom-quiet _ d c.requires.0.0.is (quiet-absent _ _ c.requires.0.0.is c.requires.1.second z) (absent-ends _ d z c.walk_term-after_term-in-None.ensures.walk (rw c.walk_term-after_term-in-None.ensures.keeps.image at c.leave-defined-in-None.ensures.walk) c.leave-defined-in-None.ensures.env) (cc) c.leave-in-None.ensures.env

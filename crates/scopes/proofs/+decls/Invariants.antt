@@ -1,6 +1,8 @@
 use Prim.Native.Nat.{◌+◌, ◌*◌}
-use Rattle.environment.specs.Builder.{Keeps, walked_of}
-use Rattle.scopes.proofs.Entries.{EnterLeft}
+use Rattle.ast.specs.Named.{decl_kind}
+use Rattle.environment.specs.Builder.{walked_of}
+use Rattle.scopes.specs.Promises.{whole_list}
+use Rattle.scopes.proofs.Entries.{EnterLeft, names_of}
 use Rattle.scopes.proofs.Visiting.{VisitLeft}
 use Rattle.scopes.proofs.+decls.Given as goal
 
@@ -13,16 +15,9 @@ decreases-visit_model_decl l = 3 * l.id.0.0 + 2
 abbrev pub decreases-walk_decls : goal.decreases-walk_decls
 decreases-walk_decls l = 3 * l.decls.list.node.0 + 1
 
-abbrev pub invariant-walk_decls-loop-i : goal.invariant-walk_decls-loop-i
-invariant-walk_decls-loop-i l =
-    record {
-      keeps : Keeps l.initial.builder l.builder;
-      left : EnterLeft l.image l.seen l.builder.env.now l.decls.list.node.0 l.decls.list.first l.decls.list.count l.i (walked_of l.initial.builder l.current) (walked_of l.builder l.current);
-    }
+abbrev pub invariant-walk_decls-loop-decl : goal.invariant-walk_decls-loop-decl
+invariant-walk_decls-loop-decl l = EnterLeft l.seen decl_kind l.fn.decls.list.node.0 (names_of l.fn.decls.list l.fn.builder l.fn.current) l.decl-iterator l.fn.builder l.current l.builder
 
-abbrev pub invariant-walk_decls-loop-i-2 : goal.invariant-walk_decls-loop-i-2
-invariant-walk_decls-loop-i-2 l =
-    record {
-      keeps : Keeps l.initial.builder l.builder;
-      left : VisitLeft l.image l.builder.env.now l.decls.list.node.0 l.decls.list.first l.decls.list.count l.i (walked_of l.initial.builder l.current) (walked_of l.builder l.current);
-    }
+abbrev pub invariant-walk_decls-loop-decl-2 : goal.invariant-walk_decls-loop-decl-2
+invariant-walk_decls-loop-decl-2 l =
+    VisitLeft decl_kind l.fn.decls.list.node.0 (whole_list l.fn.builder.image.now l.fn.decls.list (walked_of l.fn.builder l.fn.current)) l.decl-iterator l.fn.builder l.current l.builder

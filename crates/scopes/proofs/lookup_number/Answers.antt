@@ -1,6 +1,6 @@
+use mathlib.Core.Bool.{false≢true}
 use mathlib.Core.Path.{sym, ap, ◌∙◌}
 use Rattle.std.specs.Prelude.{Option, Ok}
-use Rattle.ast.proofs.Bools.{false-true}
 use Rattle.scopes.specs.Answers.{looked_answer}
 use Rattle.scopes.specs.declared.Looked.{Looked}
 use Rattle.scopes.proofs.Lookups.{found_at, found_none, looked-declares}
@@ -10,7 +10,7 @@ pub returns-in_err-node : goal.returns-in_err-node
 returns-in_err-node c = ap (λ (o : Option Looked). looked_answer (Ok o)) c.from_residual.ensures ∙ found_none _ _ _ _ _ c.get-symbols.ensures c.in_err-node.ensures
 
 pub returns-in_err-symbol : goal.returns-in_err-symbol
-returns-in_err-symbol c = absurd (false-true (c.in_err-symbol.ensures.some ∙ looked-declares _ _ _ (sym c.requires) _ c.get-symbols.ensures c.in_ok-node.ensures c.kind_at.ensures))
+returns-in_err-symbol c = absurd (false≢true (c.in_err-symbol.ensures.some ∙ looked-declares _ _ _ (sym c.requires) _ c.get-symbols.ensures c.in_ok-node.ensures c.kind_at.ensures))
 
 pub returns : goal.returns
 returns c = found_at _ _ _ _ _ _ _ _ c.get-symbols.ensures c.in_ok-node.ensures c.kind_at.ensures c.in_ok-symbol.ensures.number

@@ -19,14 +19,14 @@ pub returns-in-Ok-clause-resolves : goal.returns-in-Ok-clause-resolves
 returns-in-Ok-clause-resolves c =
     let a = c.in-Ok.ensures.keeps in
     let b = c.insert_counts.ensures.keeps in
-    resolved-done _ _ c.requires.0 _ _ (c.words_for-words.ensures ∙ ap table_length c.node_count.ensures) c.clear.ensures c.in-Ok.ensures.walk refl c.insert_counts.ensures.scopes c.insert_counts.ensures.symbols c.insert_counts.ensures.words (search rules)
+    resolved-done _ _ c.requires.0 _ _ (c.words_for-words.ensures ∙ ap table_length c.node_count.ensures) c.clear.ensures c.in-Ok.ensures.walk refl c.insert_counts.ensures.scopes c.insert_counts.ensures.symbols (rw c.in-Ok.ensures.keeps.image at c.insert_counts.ensures.words) (search rules)
 
 pub returns-in-Ok-clause-noted : goal.returns-in-Ok-clause-noted
 returns-in-Ok-clause-noted c =
     let a = c.in-Ok.ensures.keeps in
     let b = c.insert_counts.ensures.keeps in
     let d = c.insert_counts.ensures.env in
-    noted-done _ _ c.requires.0 _ _ (c.words_for-words.ensures ∙ ap table_length c.node_count.ensures) c.clear.ensures c.in-Ok.ensures.walk refl c.insert_counts.ensures.scopes c.insert_counts.ensures.symbols c.insert_counts.ensures.words (search rules) (search rules)
+    noted-done _ _ c.requires.0 _ _ (c.words_for-words.ensures ∙ ap table_length c.node_count.ensures) c.clear.ensures c.in-Ok.ensures.walk refl c.insert_counts.ensures.scopes c.insert_counts.ensures.symbols (rw c.in-Ok.ensures.keeps.image at c.insert_counts.ensures.words) (search rules) (search rules)
 
 pub returns-in-Err-clause-resolves : goal.returns-in-Err-clause-resolves
 returns-in-Err-clause-resolves c =

@@ -12,11 +12,11 @@ overflow_sub-module c = let s = (sized _ c.requires.accepted).some in omega arit
 pub walk_decls-requires : goal.walk_decls-requires
 unfolding last
 walk_decls-requires c =
-    let v = root_visit _ c.requires (ap (λ (k : ℕ). k - 1) c.node_count.ensures) c.new_scope-module_scope.ensures.walk c.insert_unordered.ensures.walk (c.insert_unordered.ensures.env ∙ c.new_scope-module_scope.ensures.env) c.module.ensures in
-    (v.list, v.opens)
+    let v = root_visit _ c.requires (ap (λ (k : ℕ). k - 1) c.node_count.ensures) c.new_scope-module_scope.ensures.walk (rw c.new_scope-module_scope.ensures.keeps.image at c.insert_unordered.ensures.walk) (c.insert_unordered.ensures.env ∙ c.new_scope-module_scope.ensures.env) (rw (c.insert_unordered.ensures.keeps.image, c.new_scope-module_scope.ensures.keeps.image) at c.module.ensures) in
+    rw (c.insert_unordered.ensures.keeps.image, c.new_scope-module_scope.ensures.keeps.image) (v.list, v.opens)
 
 pub returns-clause-walk : goal.returns-clause-walk
 unfolding last
 returns-clause-walk c =
-    (root_visit _ c.requires (ap (λ (k : ℕ). k - 1) c.node_count.ensures) c.new_scope-module_scope.ensures.walk c.insert_unordered.ensures.walk (c.insert_unordered.ensures.env ∙ c.new_scope-module_scope.ensures.env) c.module.ensures).visits
-    c.walk_decls.ensures.walk refl
+    (root_visit _ c.requires (ap (λ (k : ℕ). k - 1) c.node_count.ensures) c.new_scope-module_scope.ensures.walk (rw c.new_scope-module_scope.ensures.keeps.image at c.insert_unordered.ensures.walk) (c.insert_unordered.ensures.env ∙ c.new_scope-module_scope.ensures.env) (rw (c.insert_unordered.ensures.keeps.image, c.new_scope-module_scope.ensures.keeps.image) at c.module.ensures)).visits
+    (rw (c.insert_unordered.ensures.keeps.image, c.new_scope-module_scope.ensures.keeps.image) at c.walk_decls.ensures.walk) refl

@@ -1,32 +1,17 @@
 use mathlib.Core.Path.{sym, ◌∙◌}
 use native.Mathlib.Omega.{arith}
-use Rattle.sound.proofs.Sounds.{symbol-out, symbol-named, symbol-yes, symbol-no, symbol-unknown}
+use Rattle.sound.proofs.Sounds.{symbol-out, symbol-none, symbol-named, symbol-yes}
 use Rattle.sound.proofs.is_symbol.Goals as goal
 
 pub returns-then-node_count-node : goal.returns-then-node_count-node
 returns-then-node_count-node c = sym (symbol-out _ _ (omega arith))
 
 pub returns-in_default : goal.returns-in_default
-returns-in_default c = sym (symbol-unknown _ _ (omega arith) _ c.kind_at.ensures c.in_default.ensures.1)
+returns-in_default c = sym (symbol-none _ _ (omega arith) _ c.kind_at.ensures c.in_default.ensures.some)
 
-pub returns-in-RuleDecl : goal.returns-in-RuleDecl
-returns-in-RuleDecl c = c.has_name.ensures ∙ sym (symbol-named _ _ (omega arith) _ (c.in-Ok.ensures ∙ c.kind_at.ensures) c.in-RuleDecl.is)
+pub returns-in-Rule : goal.returns-in-Rule
+returns-in-Rule c = c.has_name.ensures ∙ sym (symbol-named _ _ (omega arith) _ c.kind_at.ensures _ c.in-Some.ensures.number c.in-Some.ensures.some c.in-Rule.is)
 
-pub returns-in-TypeDecl : goal.returns-in-TypeDecl
-returns-in-TypeDecl c = sym (symbol-yes _ _ (omega arith) _ (c.in-Ok.ensures ∙ c.kind_at.ensures) c.in-TypeDecl.is)
-
-pub returns-in_default-kind : goal.returns-in_default-kind
-returns-in_default-kind c =
-    let d = c.in_default-kind in
-    sym (symbol-no _ _ (omega arith) _ (c.in-Ok.ensures ∙ c.kind_at.ensures) (record {
-      not-TypeDecl = d.not-TypeDecl;
-      not-PredDecl = d.not-PredDecl;
-      not-FuncDecl = d.not-FuncDecl;
-      not-ConstDecl = d.not-ConstDecl;
-      not-RuleDecl = d.not-RuleDecl;
-      not-EnumDecl = d.not-EnumDecl;
-      not-ModelDecl = d.not-ModelDecl;
-      not-CtorDecl = d.not-CtorDecl;
-      not-ArgDecl = d.not-ArgDecl;
-      not-IdentTerm = d.not-IdentTerm;
-    }))
+pub returns-in_default-symbol : goal.returns-in_default-symbol
+returns-in_default-symbol c =
+    sym (symbol-yes _ _ (omega arith) _ c.kind_at.ensures _ c.in-Some.ensures.number c.in-Some.ensures.some c.in_default-symbol.not-Rule c.in_default-symbol.not-Arg)

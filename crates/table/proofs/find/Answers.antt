@@ -1,13 +1,8 @@
-use borrow.Author.Rules.{rules}
 use native.Mathlib.Omega.{arith}
-use native.Mathlib.Nat.{sub-zero}
 use mathlib.Core.Option.{some}
 use mathlib.Core.Path.{sym, ap, ◌∙◌}
 use Rattle.table.proofs.Finds.{find-hit, find-miss, find-end}
 use Rattle.table.proofs.find.Goals as goal
-
-pub loop-j-init : goal.loop-j-init
-loop-j-init c = (search rules, rw sub-zero)
 
 pub returns-then-row_is : goal.returns-then-row_is
 returns-then-row_is c =

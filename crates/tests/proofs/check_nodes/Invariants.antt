@@ -1,4 +1,4 @@
-use Rattle.tests.specs.Claims.{counts}
+use Rattle.ast.specs.Times.{counts}
 use Rattle.tests.proofs.Whole.{NodesLeft}
 use Rattle.tests.proofs.check_nodes.Given as goal
 

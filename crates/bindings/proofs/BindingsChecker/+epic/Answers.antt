@@ -1,12 +1,15 @@
-use mathlib.Core.Path.{sym}
+use mathlib.Core.Path.{sym, ap, ◌∙◌}
 use native.Mathlib.Omega.{arith}
 use mathlib.Core.Bool.{true}
 use Rattle.typed.proofs.Enums.{term_is, app-head-is}
+use Rattle.typed.proofs.Lists.{begun-row, taken, none-left, row-short}
+use Rattle.bindings.specs.Errors.{rows_seq}
+use Rattle.environment.specs.Reading.{seen}
 use Rattle.environment.specs.Reading.{table_in}
 use Rattle.rows.proofs.Parts.{appends-as, appends-no, left-start, left-next, left_end, appends-next, left-room}
 use Rattle.bindings.proofs.Leaves.{fits-as, fits-first, fits-rest}
 use Rattle.bindings.proofs.Cases.{dom-or-cod}
-use Rattle.bindings.proofs.Epic.{app-down, two_down, head-none, head-receiver, head-term, epic-ident, epic-app, epic-member, epic-id, epic-comp, epic-wild, epic-below, terms-list, terms-item, listed_start, listed-end}
+use Rattle.bindings.proofs.Epic.{app-down, two_down, head-none, head-receiver, head-term, epic-ident, epic-app, epic-member, epic-id, epic-comp, epic-wild, epic-below, terms-list, terms-more, seq-none}
 use Rattle.bindings.proofs.Looked.{term_asks}
 use Rattle.bindings.proofs.BindingsChecker.+epic.Goals as goal
 
@@ -67,17 +70,24 @@ check_epic_term-returns-in-Id t c = let s = term_is _ c.requires.is c.term.ensur
 pub check_epic_term-returns-in-Comp : goal.check_epic_term-returns-in-Comp
 check_epic_term-returns-in-Comp t c = let s = term_is _ c.requires.is c.term.ensures c.in-Comp.is in let o = two_down _ _ (epic-comp _ _ c.requires.is s.number s.child) c.comp_term.ensures in appends-as (sym o.same) (appends-next c.check_epic_term-in-Comp.ensures c.check_epic_term-in-Comp-2.ensures)
 
-pub check_epic_terms-loop-i-init : goal.check_epic_terms-loop-i-init
-check_epic_terms-loop-i-init t c = let o = terms-list _ (table_in c.args.self.now.scopes) c.requires.is c.term_list.ensures in left-start _ (listed_start _ _ _ _ _ _) (fits-as _ o.same c.requires.fits)
+pub check_epic_terms-of-arg-items-requires : goal.check_epic_terms-of-arg-items-requires
+check_epic_terms-of-arg-items-requires t c = row-short _ c.term_list.ensures (terms-list _ (table_in c.args.self.now.scopes) c.requires.is).0
 
-pub check_epic_terms-nth-arg-requires : goal.check_epic_terms-nth-arg-requires
-check_epic_terms-nth-arg-requires t c = let o = terms-list _ (table_in c.args.self.now.scopes) c.requires.is c.term_list.ensures in let s = o.run.short in omega arith
+pub check_epic_terms-loop-arg-init : goal.check_epic_terms-loop-arg-init
+check_epic_terms-loop-arg-init t c =
+    let r = terms-list _ (table_in c.args.self.now.scopes) c.requires.is in
+    let o = begun-row c.into_iter-arg-iterator.ensures.into_iter_gives c.term_list.ensures r.0 c.of-arg-items.ensures in
+    (o.within, left-start _ (r.1 ∙ ap (seen rows_seq c.args.self.now.scopes true c.args.args.0.0) o.trees) c.requires.fits)
 
 pub check_epic_terms-check_epic_term-requires : goal.check_epic_terms-check_epic_term-requires
-check_epic_terms-check_epic_term-requires t c = let o = terms-list _ (table_in c.args.self.now.scopes) c.requires.is c.term_list.ensures in let q = terms-item _ _ c.loop-i.i o.run (omega arith) c.nth-arg.ensures in (let l = q.low in let k = o.low in omega arith, record { is = q.is; fits = left-room _ _ c.loop-i.invariant q.same })
+check_epic_terms-check_epic_term-requires t c =
+    let o = taken c.loop-arg.invariant.0 c.in-Some.ensures.steps.0 c.in-Some.ensures.steps.1 in
+    (let l = o.low in omega arith, record { is = o.is; fits = left-room _ _ c.loop-arg.invariant.1 (terms-more _ _ _ _ o.is o.trees) })
 
-pub check_epic_terms-loop-i-preserved : goal.check_epic_terms-loop-i-preserved
-check_epic_terms-loop-i-preserved t c = let o = terms-list _ (table_in c.args.self.now.scopes) c.requires.is c.term_list.ensures in left-next c.loop-i.invariant (terms-item _ _ c.loop-i.i o.run (omega arith) c.nth-arg.ensures).same c.check_epic_term.ensures
+pub check_epic_terms-loop-arg-preserved : goal.check_epic_terms-loop-arg-preserved
+check_epic_terms-loop-arg-preserved t c =
+    let o = taken c.loop-arg.invariant.0 c.in-Some.ensures.steps.0 c.in-Some.ensures.steps.1 in
+    (o.rest, left-next c.loop-arg.invariant.1 (terms-more _ _ _ _ o.is o.trees) c.check_epic_term.ensures)
 
 pub check_epic_terms-returns : goal.check_epic_terms-returns
-check_epic_terms-returns t c = let o = terms-list _ (table_in c.args.self.now.scopes) c.requires.is c.term_list.ensures in appends-as (sym o.same) (left_end c.loop-i.invariant (listed-end _ _ true _ _ _ c.loop-i.i (omega arith)))
+check_epic_terms-returns t c = left_end c.loop-arg.invariant.1 (seq-none _ _ true _ (none-left c.loop-arg.arg-iterator c.in-None.ensures.steps))

@@ -1,7 +1,10 @@
-use Prim.Native.Nat.{◌+◌, ◌-◌}
 use mathlib.Core.Bool.{true}
+use Rattle.typed.specs.Items.{trees_of}
+use Rattle.typed.proofs.Lists.{Within}
 use Rattle.rows.proofs.Parts.{Left}
-use Rattle.bindings.specs.Promises.{seen, listed}
+use Rattle.bindings.specs.Errors.{rows_seq}
+use Rattle.environment.specs.Reading.{seen}
+use Rattle.bindings.specs.Promises.{inside}
 use Rattle.bindings.proofs.BindingsChecker.+epic.Given as goal
 
 abbrev pub decreases-check_epic_app_head : goal.decreases-check_epic_app_head
@@ -13,5 +16,6 @@ decreases-check_epic_term l = l.term.0.0
 abbrev pub decreases-check_epic_terms : goal.decreases-check_epic_terms
 decreases-check_epic_terms l = l.args.0.0
 
-abbrev pub invariant-check_epic_terms-loop-i : goal.invariant-check_epic_terms-loop-i
-invariant-check_epic_terms-loop-i l = Left (seen listed l.self true l.terms.list.node.0 l.terms.list.count l.terms.list.first) (seen listed l.self true l.terms.list.node.0 (l.terms.list.count - l.i) (l.terms.list.first + l.i)) l.initial.rows l.rows
+abbrev pub invariant-check_epic_terms-loop-arg : goal.invariant-check_epic_terms-loop-arg
+invariant-check_epic_terms-loop-arg l =
+    Within l.self.scopes.image.now 12 l.fn.args.0.0 l.arg-iterator × Left (seen inside l.self.scopes true l.fn.args.0.0) (seen rows_seq l.self.scopes true l.fn.args.0.0 (trees_of l.arg-iterator)) l.initial.rows l.rows

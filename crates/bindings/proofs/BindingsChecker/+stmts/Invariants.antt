@@ -1,9 +1,11 @@
-use Prim.Native.Nat.{◌+◌, ◌*◌, ◌-◌}
+use Prim.Native.Nat.{◌+◌, ◌*◌}
 use mathlib.Core.Bool.{false}
-use Rattle.ast.proofs.Blocks.{BlocksFrom}
+use Rattle.typed.specs.Items.{trees_of, block_trees}
+use Rattle.typed.proofs.Lists.{Within, BlocksWithin}
+use Rattle.bindings.specs.Errors.{rows_seq}
 use Rattle.rows.proofs.Parts.{Left}
-use Rattle.bindings.specs.Promises.{seen, listed, of_stmts}
-use Rattle.bindings.proofs.Bodies.{blocks_left}
+use Rattle.environment.specs.Reading.{seen}
+use Rattle.bindings.specs.Promises.{inside, of_stmts}
 use Rattle.bindings.proofs.BindingsChecker.+stmts.Given as goal
 
 abbrev pub decreases-walk_branch : goal.decreases-walk_branch
@@ -21,13 +23,15 @@ decreases-walk_stmt l = 2 * l.stmt.0.0 + 1
 abbrev pub decreases-walk_stmt_block : goal.decreases-walk_stmt_block
 decreases-walk_stmt_block l = 2 * l.stmts.list.node.0
 
-abbrev pub invariant-walk_branch-loop-i : goal.invariant-walk_branch-loop-i
-invariant-walk_branch-loop-i l =
-    BlocksFrom l.self.scopes.image.now l.blocks.list.node.0 l.blocks.list.count l.i l.place
-    × Left (seen blocks_left l.self l.blocks.list.node.0 l.blocks.list.count l.blocks.list.first) (seen blocks_left l.self l.blocks.list.node.0 (l.blocks.list.count - l.i) l.place) l.initial.rows l.rows
+abbrev pub invariant-walk_branch-loop-block : goal.invariant-walk_branch-loop-block
+invariant-walk_branch-loop-block l =
+    BlocksWithin l.self.scopes.image.now l.fn.id.0.0 l.block-iterator × Left (seen inside l.self.scopes false l.fn.id.0.0) (seen rows_seq l.self.scopes false l.fn.id.0.0 (block_trees l.block-iterator)) l.initial.rows l.rows
 
-abbrev pub invariant-walk_match-loop-i : goal.invariant-walk_match-loop-i
-invariant-walk_match-loop-i l = Left (seen of_stmts l.self l.cases.list) (seen listed l.self false l.cases.list.node.0 (l.cases.list.count - l.i) (l.cases.list.first + l.i)) l.initial.rows l.rows
+abbrev pub invariant-walk_match-loop-case : goal.invariant-walk_match-loop-case
+invariant-walk_match-loop-case l =
+    Within l.self.scopes.image.now 35 l.fn.id.0.0 l.case-iterator × Left (seen inside l.self.scopes false l.fn.id.0.0) (seen rows_seq l.self.scopes false l.fn.id.0.0 (trees_of l.case-iterator)) l.initial.rows l.rows
 
-abbrev pub invariant-walk_stmt_block-loop-i : goal.invariant-walk_stmt_block-loop-i
-invariant-walk_stmt_block-loop-i l = Left (seen of_stmts l.self l.stmts.list) (seen listed l.self false l.stmts.list.node.0 (l.stmts.list.count - l.i) (l.stmts.list.first + l.i)) l.initial.rows l.rows
+abbrev pub invariant-walk_stmt_block-loop-stmt : goal.invariant-walk_stmt_block-loop-stmt
+invariant-walk_stmt_block-loop-stmt l =
+    Within l.self.scopes.image.now 36 l.fn.stmts.list.node.0 l.stmt-iterator
+    × Left (seen of_stmts l.self.scopes l.fn.stmts.list) (seen rows_seq l.self.scopes false l.fn.stmts.list.node.0 (trees_of l.stmt-iterator)) l.initial.rows l.rows

@@ -1,22 +1,30 @@
-use mathlib.Core.Path.{sym}
-use native.Mathlib.Omega.{arith}
+use mathlib.Core.Path.{ap, ◌∙◌}
+use Rattle.typed.proofs.Lists.{begun-row, taken, none-left, row-short}
 use Rattle.environment.specs.Reading.{table_in}
-use Rattle.rows.proofs.Parts.{appends-as, left-start, left-next, left_end, left-room}
-use Rattle.bindings.proofs.Leaves.{fits-as}
-use Rattle.bindings.proofs.Bodies.{args-list, args-start, args-item, args_end}
+use Rattle.rows.proofs.Parts.{left-start, left-next, left_end, left-room}
+use Rattle.bindings.specs.Errors.{arg_rows}
+use Rattle.environment.specs.Reading.{seen}
+use Rattle.bindings.proofs.Bodies.{args-list, args-more, args-none}
 use Rattle.bindings.proofs.BindingsChecker.check_pattern_args.Goals as goal
 
-pub loop-i-init : goal.loop-i-init
-loop-i-init c = let o = args-list _ (table_in c.args.self.now.scopes) c.requires.is c.term_list.ensures in left-start _ (args-start _ _ _ _ _) (fits-as _ o.same c.requires.fits)
+pub of-arg-items-requires : goal.of-arg-items-requires
+of-arg-items-requires c = row-short _ c.term_list.ensures (args-list _ (table_in c.args.self.now.scopes) c.requires.is).0
 
-pub nth-arg-requires : goal.nth-arg-requires
-nth-arg-requires c = let o = args-list _ (table_in c.args.self.now.scopes) c.requires.is c.term_list.ensures in let s = o.run.short in omega arith
+pub loop-arg-init : goal.loop-arg-init
+loop-arg-init c =
+    let r = args-list _ (table_in c.args.self.now.scopes) c.requires.is in
+    let o = begun-row c.into_iter-arg-iterator.ensures.into_iter_gives c.term_list.ensures r.0 c.of-arg-items.ensures in
+    (o.within, left-start _ (r.1 ∙ ap (seen arg_rows c.args.self.now.scopes) o.trees) c.requires.fits)
 
 pub check_pattern_arg-requires : goal.check_pattern_arg-requires
-check_pattern_arg-requires c = let o = args-list _ (table_in c.args.self.now.scopes) c.requires.is c.term_list.ensures in let q = args-item _ _ c.loop-i.i o.run (omega arith) c.nth-arg.ensures in record { is = q.is; fits = left-room _ _ c.loop-i.invariant q.same }
+check_pattern_arg-requires c =
+    let o = taken c.loop-arg.invariant.0 c.in-Some.ensures.steps.0 c.in-Some.ensures.steps.1 in
+    record { is = o.is; fits = left-room _ _ c.loop-arg.invariant.1 (args-more _ _ _ o.trees) }
 
-pub loop-i-preserved : goal.loop-i-preserved
-loop-i-preserved c = let o = args-list _ (table_in c.args.self.now.scopes) c.requires.is c.term_list.ensures in left-next c.loop-i.invariant (args-item _ _ c.loop-i.i o.run (omega arith) c.nth-arg.ensures).same c.check_pattern_arg.ensures
+pub loop-arg-preserved : goal.loop-arg-preserved
+loop-arg-preserved c =
+    let o = taken c.loop-arg.invariant.0 c.in-Some.ensures.steps.0 c.in-Some.ensures.steps.1 in
+    (o.rest, left-next c.loop-arg.invariant.1 (args-more _ _ _ o.trees) c.check_pattern_arg.ensures)
 
 pub returns : goal.returns
-returns c = let o = args-list _ (table_in c.args.self.now.scopes) c.requires.is c.term_list.ensures in appends-as (sym o.same) (left_end c.loop-i.invariant (args_end _ _ _ _ _ c.loop-i.i (omega arith)))
+returns c = left_end c.loop-arg.invariant.1 (args-none _ _ (none-left c.loop-arg.arg-iterator c.in-None.ensures.steps))

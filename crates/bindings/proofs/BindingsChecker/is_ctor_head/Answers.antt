@@ -14,7 +14,7 @@ at_exit-found-requires c = let o = app-head-is _ c.requires c.app_head.ensures c
 
 pub returns-in-Ident : goal.returns-in-Ident
 unfolding lookup
-returns-in-Ident c = let o = app-head-is _ c.requires c.app_head.ensures c.in-Ident.is in c.is_kind.ensures ∙ ap (λ k. is_kind c.args.self.now.scopes.image.now k (option_of c.at_exit-found.result)) c.number.ensures ∙ ap (is_kind _ ctor_decl_kind) c.at_exit-found.ensures ∙ sym (ctor-ident _ _ c.requires o.number o.child)
+returns-in-Ident c = let o = app-head-is _ c.requires c.app_head.ensures c.in-Ident.is in c.is_kind.ensures ∙ ap (λ k. is_kind c.args.self.now.scopes.image.now k (option_of c.at_exit-found.result)) c.from.ensures ∙ ap (is_kind _ ctor_decl_kind) c.at_exit-found.ensures ∙ sym (ctor-ident _ _ c.requires o.number o.child)
 
 pub returns-in-Member : goal.returns-in-Member
 returns-in-Member c = sym (ctor-none _ _ c.requires (no_name _ c.requires c.app_head.ensures (opened c.in-Member.in-Member-own.keys2)))

@@ -14,7 +14,7 @@ returns-in-Ok c = lines_more 114750 (ap (lines_of c.args.image.now) (sym c.in-Ok
 
 pub returns-in-Err-Refused : goal.returns-in-Err-Refused
 unfolding lines_of report text line_bytes report_bytes
-returns-in-Err-Refused c = lines-one 114750 (ap (lines_of c.args.image.now) (sym c.in-Err-Refused.ensures.0 ∙ ap (λ u. resolved_answer (Err u)) c.in-Err-Refused.field-0-is ∙ ap refused (sym c.number.ensures))) (omega arith) c.put_line-in-Err-Refused.ensures
+returns-in-Err-Refused c = lines-one 114750 (ap (lines_of c.args.image.now) (sym c.in-Err-Refused.ensures.0 ∙ ap (λ u. resolved_answer (Err u)) c.in-Err-Refused.field-0-is ∙ ap refused (sym c.from.ensures))) (omega arith) c.put_line-in-Err-Refused.ensures
 
 pub returns-in-Err-Twice : goal.returns-in-Err-Twice
 unfolding lines_of report text line_bytes report_bytes

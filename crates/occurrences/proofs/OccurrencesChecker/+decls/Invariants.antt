@@ -1,5 +1,6 @@
 use Prim.Native.Nat.{◌+◌, ◌*◌}
-use Rattle.occurrences.specs.Promises.{seen}
+use Rattle.environment.specs.Reading.{seen}
+use Rattle.occurrences.specs.Promises.{joined, lists_of}
 use Rattle.occurrences.proofs.CollectRules.{DeclsLeft}
 use Rattle.occurrences.proofs.OccurrencesChecker.+decls.Given as goal
 
@@ -9,5 +10,5 @@ decreases-collect_decl l = 2 * l.decl.0.0
 abbrev pub decreases-collect_decls : goal.decreases-collect_decls
 decreases-collect_decls l = 2 * l.decls.list.node.0 + 1
 
-abbrev pub invariant-collect_decls-loop-i : goal.invariant-collect_decls-loop-i
-invariant-collect_decls-loop-i l = seen DeclsLeft l.self.scopes l.decls.list l.i l.initial.rows l.rows
+abbrev pub invariant-collect_decls-loop-decl : goal.invariant-collect_decls-loop-decl
+invariant-collect_decls-loop-decl l = seen DeclsLeft l.self.scopes l.fn.decls.list.node.0 (joined (seen lists_of l.self.scopes l.fn.decls.list)) l.decl-iterator l.initial.rows l.rows

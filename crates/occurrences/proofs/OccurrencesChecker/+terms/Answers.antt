@@ -1,7 +1,8 @@
 use borrow.Author.Rules.{rules}
 use native.Mathlib.Omega.{arith}
+use Rattle.typed.proofs.Lists.{row-short}
 use Rattle.rows.proofs.Parts.{appends-no, appends-next}
-use Rattle.occurrences.proofs.CollectSteps.{appends-to, two-terms, app-term, term-member, head-member, rows_start, term-item, rows_next, rows_end, term_list}
+use Rattle.occurrences.proofs.CollectSteps.{appends-to, two-terms, app-term, term-member, head-member, row_start, term-item, rows_next, rows_end, term_list}
 use Rattle.occurrences.proofs.CollectCases.{term-one, term-case, head-case}
 use Rattle.occurrences.proofs.OccurrencesChecker.+terms.Goals as goal
 
@@ -62,17 +63,19 @@ collect_term-returns-in-Dom t c = appends-to (term-one _ _ c.requires c.term.ens
 pub collect_term-returns-in-Comp : goal.collect_term-returns-in-Comp
 collect_term-returns-in-Comp t c = appends-to (two-terms _ _ (term-case _ _ c.requires c.term.ensures c.in-Comp.is) c.comp_term.ensures).whole (appends-next c.collect_term-in-Comp.ensures c.collect_term-in-Comp-2.ensures)
 
-pub collect_term_list-loop-i-init : goal.collect_term_list-loop-i-init
-collect_term_list-loop-i-init t c = rows_start _ _ _ (term_list _ _ c.requires c.term_list.ensures).run
+pub collect_term_list-of-term-items-requires : goal.collect_term_list-of-term-items-requires
+collect_term_list-of-term-items-requires t c = row-short _ c.term_list.ensures (term_list _ _ c.requires).run.run
 
-pub collect_term_list-nth-term-requires : goal.collect_term_list-nth-term-requires
-collect_term_list-nth-term-requires t c = let s = (term_list _ _ c.requires c.term_list.ensures).run.run.short in omega arith
+pub collect_term_list-loop-term-init : goal.collect_term_list-loop-term-init
+collect_term_list-loop-term-init t c =
+    let o = term_list _ _ c.requires in
+    row_start _ _ _ c.into_iter-term-iterator.ensures.into_iter_gives o.run o.whole c.term_list.ensures c.of-term-items.ensures
 
 pub collect_term_list-collect_term-requires : goal.collect_term_list-collect_term-requires
-collect_term_list-collect_term-requires t c = let o = term-item _ _ (term_list _ _ c.requires c.term_list.ensures).run c.loop-i.invariant c.loop-i-test.true c.nth-term.ensures in (let l = o.low in let e = (term_list _ _ c.requires c.term_list.ensures).node in omega arith, o.ready)
+collect_term_list-collect_term-requires t c = let o = term-item _ _ c.loop-term.invariant c.in-Some.ensures.steps in (let l = o.low in omega arith, o.ready)
 
-pub collect_term_list-loop-i-preserved : goal.collect_term_list-loop-i-preserved
-collect_term_list-loop-i-preserved t c = rows_next _ _ c.loop-i.invariant (term-item _ _ (term_list _ _ c.requires c.term_list.ensures).run c.loop-i.invariant c.loop-i-test.true c.nth-term.ensures) c.collect_term.ensures
+pub collect_term_list-loop-term-preserved : goal.collect_term_list-loop-term-preserved
+collect_term_list-loop-term-preserved t c = rows_next _ _ c.loop-term.invariant (term-item _ _ c.loop-term.invariant c.in-Some.ensures.steps) c.collect_term.ensures
 
 pub collect_term_list-returns : goal.collect_term_list-returns
-collect_term_list-returns t c = appends-to (term_list _ _ c.requires c.term_list.ensures).whole (rows_end _ _ c.loop-i.invariant c.loop-i-test.false)
+collect_term_list-returns t c = rows_end _ _ c.loop-term.invariant c.in-None.ensures.steps

@@ -1,6 +1,6 @@
 use Prim.Native.Nat.{◌+◌, ◌-◌}
 use Rattle.ast.specs.KindNumbers.{kind_number}
-use Rattle.tests.specs.Claims.{counts}
+use Rattle.ast.specs.Times.{counts}
 use Rattle.tests.proofs.Fields.{ItemsLeft}
 use Rattle.tests.proofs.Row.list.Given as goal
 

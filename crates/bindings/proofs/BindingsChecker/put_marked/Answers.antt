@@ -1,0 +1,31 @@
+use mathlib.Core.Path.{refl, sym, subst}
+use native.Mathlib.Omega.{arith}
+use Rattle.ast.proofs.Accepted.{sized}
+use Rattle.rows.proofs.Parts.{left-start, left-next, left-room, left_end, appends-as, appends-no}
+use Rattle.rows.specs.Rows.{Appends}
+use Rattle.bindings.proofs.Leaves.{when_true, when_false, fits-as}
+use Rattle.bindings.proofs.Marking.{strict-start, strict-item, strict-end}
+use Rattle.bindings.proofs.BindingsChecker.put_marked.Goals.{then-marks-m, else-marks-m}
+use Rattle.bindings.proofs.BindingsChecker.put_marked.Goals as goal
+
+pub loop-m-init : goal.loop-m-init
+loop-m-init c = left-start _ (strict-start _) c.requires.fits
+
+pub bounds-marks-m : goal.bounds-marks-m
+bounds-marks-m c = let s = (sized _ c.args.self.now.accepted).few_nodes in let l = c.loop-m-test.true in let n = c.node_count-m-end.ensures in omega arith
+
+pub report-requires : goal.report-requires
+report-requires c = fits-as _ (when_true _ c.if-marks-m.true) (left-room _ _ c.loop-m.invariant (strict-item _ c.loop-m.m c.args.self.now.accepted c.requires (let l = c.loop-m-test.true in let n = c.node_count-m-end.ensures in omega arith) refl))
+
+pub loop-m-preserved : goal.loop-m-preserved
+loop-m-preserved c =
+    let l = c.loop-m-test.true in
+    let n = c.node_count-m-end.ensures in
+    let item = strict-item _ c.loop-m.m c.args.self.now.accepted c.requires (omega arith) refl in
+    elim c.if-marks-m.branch [
+      | then-marks-m w ↦ left-next c.loop-m.invariant item (subst (Appends _ c.loop-m.rows) (sym w.rows-is) (appends-as (sym (when_true _ w.if-marks-m.true)) w.report.ensures))
+      | else-marks-m w ↦ left-next c.loop-m.invariant item (subst (Appends _ c.loop-m.rows) (sym w.rows-is) (appends-no _ (when_false _ w.if-marks-m.false)))
+    ]
+
+pub returns : goal.returns
+returns c = left_end c.loop-m.invariant (strict-end _ c.loop-m.m (let l = c.loop-m-test.false in let n = c.node_count-m-end.ensures in omega arith))

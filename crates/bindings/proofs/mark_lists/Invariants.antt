@@ -1,7 +1,0 @@
-use mathlib.Core.Path.{◌≡◌}
-use Rattle.bindings.specs.Errors.{repeated_to}
-use Rattle.bindings.specs.Promises.{marked}
-use Rattle.bindings.proofs.mark_lists.Given as goal
-
-abbrev pub invariant-loop-m : goal.invariant-loop-m
-invariant-loop-m l = l.marks ≡ marked (repeated_to l.image l.m) l.initial.marks

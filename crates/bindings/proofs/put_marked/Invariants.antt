@@ -1,7 +1,0 @@
-use Rattle.bindings.specs.Errors.{strict_rows}
-use Rattle.rows.proofs.Parts.{Left}
-use Rattle.bindings.proofs.Marking.{strict_left}
-use Rattle.bindings.proofs.put_marked.Given as goal
-
-abbrev pub invariant-loop-m : goal.invariant-loop-m
-invariant-loop-m l = Left (strict_rows l.image) (strict_left l.image l.m) l.initial.rows l.rows

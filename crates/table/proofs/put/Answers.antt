@@ -1,6 +1,0 @@
-use mathlib.Core.Path.{sym}
-use lib.Seq.{set_out}
-use Rattle.table.proofs.put.Goals as goal
-
-pub returns-else-i-table : goal.returns-else-i-table
-returns-else-i-table c = sym (set_out _ _ _ c.if-i-table.false)
