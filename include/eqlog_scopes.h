@@ -153,9 +153,11 @@ enum eqlog_error {
 /* Fills the table. Result: b is K, c is Y. Refuses 1 to 13. */
 uint64_t eqlog_resolve(const uint8_t *image, size_t image_len, uint32_t *table, size_t table_len);
 
-/* What a name, given by its bytes, is in a scope of a table. Result: b is the symbol number, c its node; "other" for
+/* What a name, given by its bytes, is in a scope of a table, and where it was found. Result: a is the scope that holds the
+ * symbol, the one asked or the nearest above it that has one of the name; b is the symbol number, c its node; "other" for
  * none. Refuses 1 to 13, 16, 17. Any sound table will do, not only one that eqlog_resolve has filled: equal names in one
- * scope, the earlier row wins. */
+ * scope, the earlier row wins. In a table that eqlog_resolve has filled scope 0 is the module's, and the scope of a model's
+ * list is the entry and the exit of its ModelDecl. */
 uint64_t eqlog_lookup(const uint8_t *image, size_t image_len, const uint32_t *table, size_t table_len, uint32_t scope,
                       const uint8_t *name, size_t name_len);
 

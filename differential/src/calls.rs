@@ -5,8 +5,10 @@ pub enum Answer {
     Refused(u32),
     /// Name, first node, second node.
     Twice(u32, u32, u32),
-    /// Resolve: K and Y; Lookup: symbol number and node; Errors, Sorted and Occurrences: 0 and the count; Once: 0 and 0 for "ok".
+    /// Resolve: K and Y; Errors, Sorted and Occurrences: 0 and the count; Once: 0 and 0 for "ok".
     Result(u32, u32),
+    /// Lookup: the scope that holds the symbol, its number and its node.
+    Located(u32, u32, u32),
     /// Lookup: none, 0 and 0; Once: the lone occurrence and its binding.
     Other(u32, u32),
 }
@@ -55,7 +57,7 @@ mod library {
         fn lookup(&self, image: &[u8], table: &[u32], scope: u32, name: &[u8]) -> Answer {
             match lib::lookup(image, table, scope, name) {
                 lib::Lookup::Refused(r) => Answer::Refused(r.number()),
-                lib::Lookup::Found { symbol, node } => Answer::Result(symbol.number(), node),
+                lib::Lookup::Found { symbol, node, scope } => Answer::Located(scope, symbol.number(), node),
                 lib::Lookup::Nothing => Answer::Other(0, 0),
             }
         }

@@ -129,6 +129,9 @@ impl Compare<'_> {
             return Err(format!("lookup of {name:?} in {scope}: {got:?}, the reading says {wanted:?}"));
         }
         counts.answer("lookup", got);
+        if let Answer::Located(found, ..) = got {
+            counts.see(if found == scope { "symbols found in the scope asked" } else { "symbols found above the scope asked" });
+        }
         Ok(got)
     }
 
@@ -158,7 +161,7 @@ impl Compare<'_> {
                 table.truncate(r.below(table_words(n)));
             }
             let scope = if r.one_in(5) { r.word() as u32 } else { r.below(k as usize) as u32 };
-            if let Answer::Result(..) | Answer::Other(..) = self.lookup(image, &table, scope, &name, counts)? {
+            if let Answer::Located(..) | Answer::Other(..) = self.lookup(image, &table, scope, &name, counts)? {
                 counts.see("lookups in sound tables that Resolve did not leave");
             }
         }
@@ -268,9 +271,13 @@ impl Compare<'_> {
         same("occurrences", &list, &wanted.occurrences)?;
         same("once", once, wanted.lone.map_or(Answer::Result(0, 0), |(node, binding)| Answer::Other(node, binding)))?;
         for ((scope, name), found) in asked.iter().zip(found) {
-            let got = self.lookup(image, &table, *scope, name.as_bytes(), counts)?;
-            let wanted = found.map_or(Answer::Other(0, 0), |(symbol, node)| Answer::Result(symbol, node));
-            same(&format!("lookup of {name:?} in {scope}"), got, wanted)?;
+            // the original does not say in which scope it found the symbol
+            let got = match self.lookup(image, &table, *scope, name.as_bytes(), counts)? {
+                Answer::Located(_, symbol, node) => Some((symbol, node)),
+                Answer::Other(0, 0) => None,
+                other => return Err(format!("lookup of {name:?} in {scope}: {other:?}")),
+            };
+            same(&format!("lookup of {name:?} in {scope}"), got, found)?;
             counts.see("lookups compared with the original");
         }
         Ok(())

@@ -29,6 +29,7 @@ fn label(call: &str, answer: Answer) -> String {
             "once" => "21 ok".to_string(),
             _ => "19 result".to_string(),
         },
+        Answer::Located(..) => "19 result".to_string(),
         Answer::Other(..) => match call {
             "once" => "22 lone".to_string(),
             _ => "20 none".to_string(),

@@ -21,6 +21,7 @@ fn packed(answer: Answer) -> u64 {
         Answer::Refused(r) => fields(0, 0, 0, r),
         Answer::Twice(name, first, second) => fields(1, name, first, second),
         Answer::Result(a, b) => fields(2, 0, a, b),
+        Answer::Located(scope, symbol, node) => fields(2, scope, symbol, node),
         Answer::Other(a, b) => fields(3, 0, a, b),
     }
 }

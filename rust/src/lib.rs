@@ -236,7 +236,8 @@ pub enum Resolve {
 #[derive(Copy, Clone, Debug, PartialEq, Eq, Hash)]
 pub enum Lookup {
     Refused(Refusal),
-    Found { symbol: Symbol, node: u32 },
+    /// What the name is, the node that declares it, and the scope that holds it: the one asked, or one above it.
+    Found { symbol: Symbol, node: u32, scope: u32 },
     Nothing,
 }
 
@@ -287,7 +288,7 @@ pub fn resolve(image: &[u8], table: &mut [u32]) -> Resolve {
     }
 }
 
-/// What a name, given by its bytes, is in a scope of a table.
+/// What a name, given by its bytes, is in a scope of a table, and which scope holds it.
 pub fn lookup(image: &[u8], table: &[u32], scope: u32, name: &[u8]) -> Lookup {
     let packed = unsafe {
         raw::eqlog_lookup(
@@ -302,7 +303,7 @@ pub fn lookup(image: &[u8], table: &[u32], scope: u32, name: &[u8]) -> Lookup {
     };
     match parts(packed) {
         (0, _, _, number) => Lookup::Refused(refusal(number)),
-        (2, _, symbol, node) => Lookup::Found { symbol: SYMBOLS[symbol as usize], node },
+        (2, scope, symbol, node) => Lookup::Found { symbol: SYMBOLS[symbol as usize], node, scope },
         _ => Lookup::Nothing,
     }
 }

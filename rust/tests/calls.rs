@@ -47,6 +47,22 @@ fn case_a() -> Vec<u8> {
     image(&rows, &["x"])
 }
 
+/// A predicate p, and a model M with one of its own.
+fn model() -> Vec<u8> {
+    let rows: [(u32, &[u32]); 9] = [
+        (11, &[0]),
+        (3, &[0, 0]),
+        (1, &[1, 1]),
+        (11, &[0]),
+        (3, &[0, 3]),
+        (1, &[1, 4]),
+        (8, &[1, 1, 5]),
+        (1, &[6, 6]),
+        (0, &[2, 2, 7]),
+    ];
+    image(&rows, &["p", "M"])
+}
+
 /// Enum E with a constructor E.
 fn twice() -> Vec<u8> {
     let rows: [(u32, &[u32]); 5] = [(11, &[0]), (9, &[0, 0]), (7, &[0, 1, 1]), (1, &[5, 2]), (0, &[1, 3])];
@@ -144,13 +160,23 @@ fn resolve_refuses_and_alters_nothing() {
 fn lookup_climbs() {
     let (mut table, _) = lent();
     resolve(&case_a(), &mut table);
-    assert_eq!(lookup(&case_a(), &table, 1, b"x"), Lookup::Found { symbol: Symbol::Var, node: 0 });
+    assert_eq!(lookup(&case_a(), &table, 1, b"x"), Lookup::Found { symbol: Symbol::Var, node: 0, scope: 1 });
     assert_eq!(lookup(&case_a(), &table, 0, b"x"), Lookup::Nothing);
     assert_eq!(lookup(&case_a(), &table, 1, b"y"), Lookup::Nothing);
     assert_eq!(lookup(&case_a(), &table, 1, b""), Lookup::Nothing);
     assert_eq!(lookup(&case_a(), &table, 2, b"x"), Lookup::Refused(Refusal::Scope));
     table[0] = 12;
     assert_eq!(lookup(&case_a(), &table, 1, b"x"), Lookup::Refused(Refusal::Unsound));
+}
+
+#[test]
+fn lookup_tells_where() {
+    let (image, mut table) = (model(), vec![0; table_len(9)]);
+    assert_eq!(resolve(&image, &mut table), Resolve::Done { scopes: 2, symbols: 3 });
+    // the model's own p, the module's, and the model's name, which the module has
+    assert_eq!(lookup(&image, &table, 1, b"p"), Lookup::Found { symbol: Symbol::Pred, node: 4, scope: 1 });
+    assert_eq!(lookup(&image, &table, 0, b"p"), Lookup::Found { symbol: Symbol::Pred, node: 1, scope: 0 });
+    assert_eq!(lookup(&image, &table, 1, b"M"), Lookup::Found { symbol: Symbol::Model, node: 6, scope: 0 });
 }
 
 #[test]

@@ -1,17 +1,11 @@
 -- Laws of single rows: what is asked of a name, a row that stands where a test says so, and room for rows.
-use Rattle.ast.proofs.Bools.{eqb-swap}
-use mathlib.Core.Path.{◌≡◌, refl, sym, ap, ap₂, subst, ◌∙◌}
+use mathlib.Core.Path.{◌≡◌, sym, ap, ap₂, subst, ◌∙◌}
 use mathlib.Core.Bool.{Bool, true, false, ◌&&◌, not}
 use mathlib.Core.Option.{Option, some}
 use mathlib.Core.List.{List, [], ◌∷◌, ◌++◌}
 use Prim.Native.Nat.{ℕ, ◌+◌, ◌<◌, ◌^◌}
 use native.Mathlib.Omega.{arith}
-use lib.Dec.{eqb}
 use lib.ListN.{length, length-append}
-use Rattle.std.specs.Prelude.{Option as Given, Some, None}
-use Rattle.std.specs.Option.{option_eq}
-use Rattle.ast.specs.declared.NodeId.{NodeId}
-use Rattle.table.specs.Values.{option_of}
 use Rattle.table.specs.Table.{Table, at_entry, at_exit, is_var}
 use Rattle.rows.specs.declared.Rows.{Rows}
 use Rattle.rows.specs.Rows.{Row, row, when, Appends}
@@ -30,13 +24,6 @@ module _ (img : List ℕ) (t : Table) (n i : ℕ) where
   introduces-var {o} {b} {seen} e h z q =
       ap (λ (u : Option ℕ). is_var img u && not (same_node u (at_entry img t n i))) (sym e)
       ∙ ap₂ (λ (c d : Bool). c && not d) h (ap (λ (u : Option ℕ). same_node u (at_entry img t n i)) z ∙ sym q)
-
--- what is found is a node, by the code's test E of two nodes
-pub same-found : (E : NodeId → NodeId → Bool) → ((x y : NodeId) → E x y ≡ eqb x.0 y.0) → (found : Given NodeId) (b : NodeId)
-    → option_eq E found (Some b) ≡ same_node (some b.0) (option_of found)
-unfolding same_node
-same-found E h None b = refl
-same-found E h (Some n) b = h n b ∙ eqb-swap n.0 b.0
 
 -- a row where the test says so
 pub when_true : {b : Bool} (w : Row) → b ≡ true → when b w ≡ w ∷ []

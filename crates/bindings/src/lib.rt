@@ -287,7 +287,7 @@ impl<'a> BindingsChecker<'a> {
             return false;
         };
         table::is_var(self.scopes.image, found)
-            && !self.binding_visible_before(term, id, IdentTermId(binding))
+            && !self.binding_visible_before(term, id, IdentTermId(binding.node))
     }
 
     // Not one with `check_pattern_args`: the loop would take as a parameter which check of a term it calls.
@@ -322,7 +322,10 @@ impl<'a> BindingsChecker<'a> {
         requires { Asks self.now.scopes.image.now term.0.0 id.0.0 }
         ensures { result ≡ same_node (some binding.0.0) (seen TableSpec.at_entry self.now.scopes term.0.0 id.0.0) }
     {
-        self.scopes.at_entry(term.0, id.0) == Some(binding.0)
+        match self.scopes.at_entry(term.0, id.0) {
+            Some(found) => found.node == binding.0,
+            None => false,
+        }
     }
 
     // The variable of a defined-then. A wildcard is fine; an identifier must not be in scope before the term is resolved.

@@ -1,19 +1,19 @@
 -- Lookup by a name's bytes meets lookup by its number: the number of a name's own bytes is the name, and so Lookup, on the table that
--- Occurrences leaves, gives each listed binding.
+-- Occurrences leaves, gives each listed binding, in a scope of it.
 use Rattle.scopes.proofs.Namings.{symbol-below}
 use Rattle.names.proofs.Names.{same_true}
 use mathlib.Core.Path.{◌≡◌, refl, sym, ap, subst, ◌∙◌}
-use mathlib.Core.Bool.{Bool, true, false, ◌&&◌}
+use mathlib.Core.Bool.{Bool, true, false}
 use mathlib.Core.List.{List, [], ◌∷◌}
 use mathlib.Core.Option.{Option, some}
 use Prim.Native.Nat.{ℕ, zero, suc, ◌+◌, ◌<◌, ◌≤◌}
 use native.Mathlib.Decide.{ℕ_discrete}
 use native.Mathlib.Nat.{zero-add}
 use native.Mathlib.Omega.{arith}
-use lib.Dec.{eqb, leb, ltb}
+use lib.Dec.{leb}
 use lib.ListN.{length}
-use borrow.Author.Tests.{eq-eqb, eqb-true, lt-ltb, le-leb, ltb-true}
-use Rattle.ast.specs.Answer.{Answer, refused, result}
+use borrow.Author.Tests.{eq-eqb, lt-ltb, le-leb}
+use Rattle.ast.specs.Answer.{Answer, refused, located}
 use Rattle.ast.specs.Image.{nodes, names, kind_at, name_of, name_bytes}
 use Rattle.ast.specs.Kinds.{kind_of}
 use Rattle.ast.specs.Rows.{fields_at}
@@ -25,8 +25,8 @@ use Rattle.names.specs.Number.{number_from, number_of}
 use Rattle.table.specs.Layout.{node_place, table_length}
 use Rattle.table.specs.Rising.{node_at}
 use Rattle.table.specs.State.{Walked}
-use Rattle.table.specs.Table.{Table, symbol_of, lookup, exit_at}
-use Rattle.table.proofs.Below.{FoundRow, climb-row}
+use Rattle.table.specs.Table.{Table, Found, symbol_of, found, exit_at}
+use Rattle.table.proofs.Below.{FoundRow, lookup-row}
 use Rattle.rows.specs.Rows.{Row}
 use Rattle.sound.specs.Sound.{scopes_in, is_symbol}
 use Rattle.scopes.specs.Calls.{test_rows, RowsOutcome, rows_call}
@@ -77,10 +77,10 @@ module _ (img : List ℕ) (accepted : verdict img ≡ 0) where
   number-own x l = from-own x l (names img) 0 (omega arith) (let z = zero-add (names img) in omega arith)
 
 -- Lookup, where it refuses nothing, of a name by its own bytes ---------------------------------------------------------------
-lookup-own : (img tab : List ℕ) (s x b : ℕ) → verdict img ≡ 0 → test_lookup img tab s ≡ 0 → x < names img → lookup img (table_in img tab) s x ≡ some b
-    → lookup_call img tab s (name_bytes img x) ≡ result (symbol_of (kind_at img b)) b
+lookup-own : (img tab : List ℕ) (s x : ℕ) (f : Found) → verdict img ≡ 0 → test_lookup img tab s ≡ 0 → x < names img → found img (table_in img tab) s x ≡ some f
+    → lookup_call img tab s (name_bytes img x) ≡ located f.scope (symbol_of (kind_at img f.node)) f.node
 unfolding lookup_call found_by symbol_answer
-lookup-own img tab s x b a t l h =
+lookup-own img tab s x f a t l h =
     ap (λ (r : ℕ). elim r as (λ _. Answer) [ zero ↦ symbol_answer img (found_by img tab s (number_of img (name_bytes img x))) | suc q ↦ refused (suc q) ]) t
     ∙ ap (λ (o : Option ℕ). symbol_answer img (found_by img tab s o)) (number-own img a x l)
     ∙ ap (symbol_answer img) h
@@ -125,29 +125,30 @@ module _ (img tab rows : List ℕ) where
         fits vs h = le-leb _ _ h
 
     -- a row's node is a node
-    below : (w : Row) (x : ℕ) → FoundRow img left.table (table_in img left.table).symbols x w.right → w.right < nodes img
-    below w x f =
+    below : (w : Row) (x : ℕ) (m : Found) → m.node ≡ w.right → FoundRow img left.table (table_in img left.table).symbols x m → w.right < nodes img
+    below w x m r f =
         let d = walked-ended img tab passed ended.0 ended.1 in
         let t = left-table img tab passed ended.1 in
         let g = f.within in
         symbol-below img w.right
-        (ap (is_symbol img) (sym f.node ∙ ap (λ (vs : List ℕ). node_at (nodes img) vs f.row) table_is ∙ headed-word img ended.0.table (node_place (nodes img) f.row) (omega arith))
+        (ap (is_symbol img) (sym (ap (λ (h : Found). h.node) f.is ∙ r) ∙ ap (λ (vs : List ℕ). node_at (nodes img) vs f.row) table_is ∙ headed-word img ended.0.table (node_place (nodes img) f.row) (omega arith))
         ∙ d.good.symbols f.row (subst (λ (y : ℕ). f.row < y) (ap (λ (vs : List ℕ). (table_in img vs).symbols) table_is ∙ ap (λ (u : Table). u.symbols) t) g))
 
     -- each listed occurrence, by the bytes of its name
     pub bindings-by-bytes : (r : Rule) → In r (module_rules img) → (p : Place) → In p (places_of r) → Occurs img r p
         → (w : Row) → In w (demand.list img tab rows) → demand.binding img tab rows p ≡ some w.right
-        → lookup_call img left.table (exit_at img left.table p.node) (name_bytes img (name_of img p.ident)) ≡ result 9 w.right
-    unfolding lookup symbol_of fields_at kind_of
+        → (s : ℕ) × (lookup_call img left.table (exit_at img left.table p.node) (name_bytes img (name_of img p.ident)) ≡ located s 9 w.right)
+    unfolding symbol_of fields_at kind_of
     bindings-by-bytes r i p j o w k e =
         let t = ended.0.table in
         let kind = (demand.row-kind img tab rows unrefused once w k).1 in
-        let f =
-        climb-row img left.table (suc (exit_at img left.table p.node)) (table_in img left.table).symbols (exit_at img left.table p.node) (name_of img p.ident)
-        w.right e in
-        lookup-own img left.table (exit_at img left.table p.node) (name_of img p.ident) w.right accepted
-        (subst (λ (vs : List ℕ). test_lookup img vs (exit_at img vs p.node) ≡ 0) (sym table_is)
-        (lookup-passes _ (exit_below img (counted img t) r ((resolved img tab ended.0 accepted ended.1).walks r i) p j)))
-        (subst (λ (x : ℕ). x < names img) f.named (name_below img accepted w.right (below w _ f) [] (ap (λ (c : ℕ). (kind_of c).fields) kind)))
-        e
-        ∙ ap (λ (c : ℕ). result (symbol_of c) w.right) kind
+        let (m, q, n, f) = lookup-row img (table_in img left.table) (exit_at img left.table p.node) (name_of img p.ident) w.right e in (
+          m.scope,
+          lookup-own img left.table (exit_at img left.table p.node) (name_of img p.ident) m accepted
+              (subst (λ (vs : List ℕ). test_lookup img vs (exit_at img vs p.node) ≡ 0) (sym table_is)
+              (lookup-passes _ (exit_below img (counted img t) r ((resolved img tab ended.0 accepted ended.1).walks r i) p j)))
+              (subst (λ (x : ℕ). x < names img) (ap (name_of img) (sym n) ∙ f.named) (name_below img accepted w.right (below w _ m n f) [] (ap (λ (c : ℕ). (kind_of c).fields) kind)))
+              q
+              ∙ ap (λ (b : ℕ). located m.scope (symbol_of (kind_at img b)) b) n
+              ∙ ap (λ (c : ℕ). located m.scope (symbol_of c) w.right) kind,
+        )

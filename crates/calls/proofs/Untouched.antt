@@ -6,7 +6,7 @@ use mathlib.Core.Option.{Option, none, some}
 use Prim.Native.Nat.{ℕ, ◌≤◌, ◌<◌}
 use native.Mathlib.Omega.{arith}
 use lib.ListN.{length, get_or, drop}
-use Rattle.ast.specs.Answer.{Answer, refused, twice, result, other}
+use Rattle.ast.specs.Answer.{Answer, refused, twice, result, located, other}
 use Rattle.ast.specs.Image.{nodes}
 use Rattle.ast.specs.Tests.{verdict}
 use Rattle.rows.specs.Rows.{Row}
@@ -56,12 +56,14 @@ module _ (img tab : List ℕ) (passes : test_table img tab ≡ 0) (e : Walked) (
 -- an answer about a filled table is no refusal, and not "twice"
 filled-unrefused : (a : Answer) → Fills a → Refuses a → ⊥
 filled-unrefused (result x y) g h = h
+filled-unrefused (located s k n) g h = h
 filled-unrefused (other x y) g h = h
 filled-unrefused (refused x) g h = g
 filled-unrefused (twice x y z) g h = g
 
 filled-unstopped : (a : Answer) → Fills a → Stops a → ⊥
 filled-unstopped (result x y) g h = h
+filled-unstopped (located s k n) g h = h
 filled-unstopped (other x y) g h = h
 filled-unstopped (refused x) g h = g
 filled-unstopped (twice x y z) g h = g

@@ -1,6 +1,6 @@
 -- What a call leaves in the words that it is lent, by its answer.
 use Rattle.std.specs.Prelude.{◌≡◌, List, ℕ, ◌+◌, ◌<◌, ◌≤◌, length, get_or, drop}
-use Rattle.ast.specs.Answer.{Answer, refused, twice, result, other}
+use Rattle.ast.specs.Answer.{Answer, refused, twice, result, located, other}
 use Rattle.ast.specs.Image.{nodes}
 use Rattle.rows.specs.Rows.{rows_length}
 use Rattle.scopes.specs.Resolve.{Unused}
@@ -12,18 +12,21 @@ abbrev pub Refuses : Answer → Type 0
 Refuses (refused number) = Unit {0}
 Refuses (twice name first second) = ⊥
 Refuses (result a b) = ⊥
+Refuses (located scope symbol node) = ⊥
 Refuses (other a b) = ⊥
 
 abbrev pub Stops : Answer → Type 0
 Stops (refused number) = ⊥
 Stops (twice name first second) = Unit {0}
 Stops (result a b) = ⊥
+Stops (located scope symbol node) = ⊥
 Stops (other a b) = ⊥
 
 abbrev pub Fills : Answer → Type 0
 Fills (refused number) = ⊥
 Fills (twice name first second) = ⊥
 Fills (result a b) = Unit {0}
+Fills (located scope symbol node) = Unit {0}
 Fills (other a b) = Unit {0}
 
 module _ (img old : List ℕ) (answer : Answer) (new : List ℕ) where

@@ -1,5 +1,5 @@
 -- What the steps of a walk do to what the environment says.
-use mathlib.Core.Path.{◌≡◌, refl, sym, ap, subst, ◌∙◌}
+use mathlib.Core.Path.{◌≡◌, refl, sym, ap, ap₂, subst, ◌∙◌}
 use mathlib.Core.Logic.{◌≢◌, ⊎_elim}
 use mathlib.Core.List.{List}
 use mathlib.Core.Option.{Option, none, some}
@@ -11,18 +11,18 @@ use native.Mathlib.Omega.{arith}
 use lib.ListN.{length, get_or, set, replicate, length-set, length-replicate, get_or-replicate}
 use lib.Seq.{get_or-set_same, get_or-set_other}
 use borrow.Author.Tests.{eq-eqb, ne_eqb}
-use Rattle.ast.specs.Declarations.{or_else, earliest}
+use Rattle.ast.specs.Declarations.{or_else}
 use Rattle.ast.specs.Image.{nodes, name_of}
 use Rattle.ast.proofs.Declarations.{or_else-none}
 use Rattle.table.specs.Kept.{Kept}
 use Rattle.table.specs.Layout.{all_ones, table_length, entry_place, exit_place, node_place}
 use Rattle.table.specs.Rising.{scope_of, node_at, parent_at}
 use Rattle.table.specs.State.{Walked, child_scope, own_symbol, introduce, marked, unmarked}
-use Rattle.table.specs.Table.{Table, find, lookup, mark, new_scope, new_symbol, entry_at, exit_at}
-use Rattle.table.proofs.Finds.{climb-hit}
-use Rattle.table.proofs.Frame.{lookup-child, lookup-root, mark-parent, mark-lookup, mark-entry, mark-exit, mark-entry-same, mark-exit-same, child-parent, child-parent-other, child-empty, child-entry, child-exit, name-find, name-find-other, name-parent, name-entry, name-exit}
-use Rattle.table.proofs.Frames.{SameRows, mark-same, symbol-same, scope-word, symbol-scope, symbol-node, find-scope}
-use Rattle.table.proofs.Agreed.{lookup-agree}
+use Rattle.table.specs.Table.{Table, Found, held, found, find, mark, new_scope, new_symbol, entry_at, exit_at}
+use Rattle.table.proofs.Finds.{climb-hit, node-none}
+use Rattle.table.proofs.Frame.{found-child, found-root, mark-parent, mark-found, mark-entry, mark-exit, mark-entry-same, mark-exit-same, child-parent, child-parent-other, child-held, child-entry, child-exit, name-held, name-held-other, name-parent, name-entry, name-exit}
+use Rattle.table.proofs.Frames.{SameRows, mark-same, symbol-same, scope-word, symbol-scope, symbol-node, symbol-new, own, held-scope}
+use Rattle.table.proofs.Agreed.{found-agree}
 use Rattle.table.proofs.Kept.{mark-kept, scope_kept, symbol-kept, scope-rows}
 use Rattle.environment.specs.Asked.{asked}
 use Rattle.environment.specs.Layout.{names_most, nodes_most, hidden_place, entry_note, exit_note, environment_length, standing, hidden, noted_entry, noted_exit, bound, noted}
@@ -106,7 +106,7 @@ module _ (img : List ℕ) where
     most : t.scopes ≤ suc k
     rows : SameRows N t.symbols u.words t.words
     parents : (s : ℕ) → s < t.scopes → parent_at N u.words s ≡ parent_at N t.words s
-    lookups : (s x : ℕ) → s < k → lookup img u s x ≡ lookup img t s x
+    lookups : (s x : ℕ) → s < k → found img u s x ≡ found img t s x
 
   mark-later : (n a b : ℕ) (t : Table) → n < N → Later t.scopes t (mark img n a b t)
   unfolding mark
@@ -117,7 +117,7 @@ module _ (img : List ℕ) where
         most = omega arith;
         rows = mark-same img n a b t l;
         parents = λ s h. mark-parent img n a b t l s;
-        lookups = λ s x h. mark-lookup img n a b t l s x;
+        lookups = λ s x h. mark-found img n a b t l s x;
       }
 
   scope-later : (p : ℕ) (t : Table) → Kept img t → t.scopes < N → Later t.scopes t (new_scope img p t)
@@ -129,7 +129,7 @@ module _ (img : List ℕ) where
         most = omega arith;
         rows = record { scopes = λ j h. scope-rows img p t l j; nodes = λ j h. scope-word img p t (node_place N j) (omega arith) };
         parents = child-parent-other img p t d l;
-        lookups = λ s x h. lookup-agree img t.scopes (new_scope img p t) t s x h (λ r b. (find-scope img p t l r, child-parent-other img p t d l r b));
+        lookups = λ s x h. found-agree img t.scopes (new_scope img p t) t s x h (λ r b. (held-scope img p t l r, child-parent-other img p t d l r b));
       }
 
   symbol-later : (s n : ℕ) (t : Table) → Kept img t → t.symbols < N → t.scopes ≤ N → suc s ≡ t.scopes → Later s t (new_symbol img s n t)
@@ -141,16 +141,16 @@ module _ (img : List ℕ) where
         most = omega arith;
         rows = symbol-same img s n t l;
         parents = λ r h. name-parent img s n t d l r (omega arith);
-        lookups = λ r x h. lookup-agree img s (new_symbol img s n t) t r x h (λ i b. ((λ y. name-find-other img s n t d l i y (λ e. omega arith)), name-parent img s n t d l i (omega arith)));
+        lookups = λ r x h. found-agree img s (new_symbol img s n t) t r x h (λ i b. ((λ y. name-held-other img s n t d l i y (λ e. omega arith)), name-parent img s n t d l i (omega arith)));
       }
 
   -- what words tell moves along
   told_same : {y : ℕ} {ws vs : List ℕ} → SameRows N y ws vs → (w : ℕ) → w ≤ y → told img ws w ≡ told img vs w
   unfolding told
   told_same r zero l = refl
-  told_same r (suc j) l = ap some (r.nodes j l)
+  told_same r (suc j) l = ap₂ (λ (n a : ℕ). some (record { node = n; scope = a })) (r.nodes j l) (r.scopes j l)
 
-  tells-on : {k w v : ℕ} {t u : Table} {o p : Option ℕ} → Later k t u → v ≡ w → p ≡ o → Tells img t w o → Tells img u v p
+  tells-on : {k w v : ℕ} {t u : Table} {o p : Option Found} → Later k t u → v ≡ w → p ≡ o → Tells img t w o → Tells img u v p
   tells-on {w = w} {u = u} l e q h =
       record {
         row = (let a = l.symbols in let b = h.row in omega arith);
@@ -161,7 +161,7 @@ module _ (img : List ℕ) where
   notes-on {s = s} {r} {x = x} {u = u} l p q b h =
       record {
         live = λ z. (let a = h.live (omega arith) in let c = l.scopes in omega arith);
-        tells = λ z. let c : 0 < s = omega arith in tells-on l q (ap (λ i. lookup img u i x) p ∙ l.lookups s x (b c)) (h.tells c);
+        tells = λ z. let c : 0 < s = omega arith in tells-on l q (ap (λ i. found img u i x) p ∙ l.lookups s x (b c)) (h.tells c);
       }
 
   hides-on : {k j : ℕ} {t u : Table} {env new : List ℕ} → Later k t u → Kept img t → j < t.symbols → hidden new j ≡ hidden env j → Hides img t env j → Hides img u new j
@@ -177,7 +177,7 @@ module _ (img : List ℕ) where
       record {
         lower = omega arith;
         name = (let a = h.name in omega arith);
-        tells = tells-on l q (ap (λ i. lookup img u i (name_of img (node_at N u.words j))) f ∙ ap (lookup img u p) g ∙ l.lookups p (name_of img (node_at N t.words j)) (omega arith)) h.tells;
+        tells = tells-on l q (ap (λ i. found img u i (name_of img (node_at N u.words j))) f ∙ ap (found img u p) g ∙ l.lookups p (name_of img (node_at N t.words j)) (omega arith)) h.tells;
       }
 
   -- a node's mark, with what is noted for it
@@ -213,7 +213,7 @@ module _ (img : List ℕ) where
         record {
           says = mark-says h.says;
           live = h.live;
-          here = λ x z. tells-on (mark-later n a b t l) (beside.names x z) (mark-lookup img n a b t l s x) (h.here x z);
+          here = λ x z. tells-on (mark-later n a b t l) (beside.names x z) (mark-found img n a b t l s x) (h.here x z);
         }
 
   -- what stands, by other words for the walk and the environment
@@ -266,10 +266,10 @@ module _ (img : List ℕ) where
       (λ i q. own e.scope w i (noted-exit env n v w size (omega arith)) a.stands.live (a.stands.here x a.below) q)
       a.stands)
     where
-      own : (s w i : ℕ) {r : ℕ} → r ≡ w → s < e.table.scopes → Tells img e.table w (lookup img e.table s x) → asked img n ≡ some i → Notes img e.table s r i
+      own : (s w i : ℕ) {r : ℕ} → r ≡ w → s < e.table.scopes → Tells img e.table w (found img e.table s x) → asked img n ≡ some i → Notes img e.table s r i
       own s w i {r} p l h q =
           let f : x ≡ i = (let g = a.is in cc) in
-          record { live = λ z. l; tells = λ z. subst (λ o. Tells img e.table o (lookup img e.table s i)) (sym p) (subst (λ o. Tells img e.table w (lookup img e.table s o)) f h) }
+          record { live = λ z. l; tells = λ z. subst (λ o. Tells img e.table o (found img e.table s i)) (sym p) (subst (λ o. Tells img e.table w (found img e.table s o)) f h) }
 
   -- a new scope
   pub opens-child : {e : Walked} {env : List ℕ} → e.table.scopes < nodes img → Stands img e env → Opens img (child_scope img e) env
@@ -298,7 +298,7 @@ module _ (img : List ℕ) where
               live = omega arith;
               here = λ x b.
                   tells-on later refl
-                  (lookup-child img (new_scope img p t) t.scopes p x parent h.live ∙ ap (λ o. or_else o (lookup img (new_scope img p t) p x)) (child-empty img p t d l x) ∙ later.lookups p x h.live)
+                  (found-child img (new_scope img p t) t.scopes p x parent h.live ∙ ap (λ o. or_else o (found img (new_scope img p t) p x)) (child-held img p t d l x) ∙ later.lookups p x h.live)
                   (h.here x b);
             };
         newest = omega arith;
@@ -308,7 +308,7 @@ module _ (img : List ℕ) where
       }
 
   -- one symbol more in the newest scope, which has none of that name
-  module _ (n x : ℕ) (e : Walked) (env : List ℕ) (o : Opens img e env) (name : Named img n x) (free : find img e.table e.scope x ≡ none) (room : e.table.symbols < N) where
+  module _ (n x : ℕ) (e : Walked) (env : List ℕ) (o : Opens img e env) (name : Named img n x) (free : held img e.table e.scope x ≡ none) (room : e.table.symbols < N) where
     abbrev s : ℕ
     s = e.scope
 
@@ -340,31 +340,35 @@ module _ (img : List ℕ) where
     parent-same = later.parents s o.stands.live
 
     -- the name finds the new row, each other name what it found
-    find-own : find img u s x ≡ some n
-    unfolding earliest
-    find-own = name-find img s n t says.kept room x ∙ rw (free, eq-eqb _ _ (sym name.is), earliest)
+    held-own : held img u s x ≡ some (record { node = n; scope = s })
+    unfolding own
+    held-own = name-held img s n t says.kept room x ∙ rw (free, eq-eqb _ _ (sym name.is), own)
 
-    find-other : (y : ℕ) → y ≢ x → find img u s y ≡ find img t s y
-    unfolding earliest
-    find-other y f = name-find img s n t says.kept room y ∙ rw (ne_eqb _ _ (λ q. f (sym q ∙ sym name.is)), earliest) (or_else-none (find img t s y))
+    held-other : (y : ℕ) → y ≢ x → held img u s y ≡ held img t s y
+    unfolding own
+    held-other y f = name-held img s n t says.kept room y ∙ rw (ne_eqb _ _ (λ q. f (sym q ∙ sym name.is)), own) (or_else-none (held img t s y))
 
-    own-here : Tells img u (row + 1) (lookup img u s x)
-    unfolding new_symbol lookup find told
-    own-here = record { row = omega arith; is = ap (told img u.words) (add-one row) ∙ ap some (symbol-node img s n t room long) ∙ sym (climb-hit img u.words u.symbols s x n find-own) }
+    own-here : Tells img u (row + 1) (found img u s x)
+    unfolding new_symbol found held told
+    own-here =
+        record {
+          row = omega arith;
+          is = ap (told img u.words) (add-one row) ∙ ap some (symbol-new img s n t room long) ∙ sym (climb-hit img u.words u.symbols s x (record { node = n; scope = s }) held-own);
+        }
 
-    other-here : (y : ℕ) → y ≢ x → lookup img u s y ≡ lookup img t s y
+    other-here : (y : ℕ) → y ≢ x → found img u s y ≡ found img t s y
     other-here y f = ⊎_elim (λ z. at-root z) (λ z. at-child z) (eq-or-lt_of_le (let z : 0 ≤ s = omega arith in z))
       where
-        at-root : 0 ≡ s → lookup img u s y ≡ lookup img t s y
-        at-root z = lookup-root img u s y (omega arith) ∙ find-other y f ∙ sym (lookup-root img t s y (omega arith))
+        at-root : 0 ≡ s → found img u s y ≡ found img t s y
+        at-root z = found-root img u s y (omega arith) ∙ held-other y f ∙ sym (found-root img t s y (omega arith))
 
-        at-child : 0 < s → lookup img u s y ≡ lookup img t s y
+        at-child : 0 < s → found img u s y ≡ found img t s y
         at-child z =
             let p = parent_at N t.words s in
-            lookup-child img u s p y parent-same (o.lower z)
-            ∙ ap (λ i. or_else i (lookup img u p y)) (find-other y f)
-            ∙ ap (or_else (find img t s y)) (later.lookups p y (o.lower z))
-            ∙ sym (lookup-child img t s p y refl (o.lower z))
+            found-child img u s p y parent-same (o.lower z)
+            ∙ ap (λ i. or_else i (found img u p y)) (held-other y f)
+            ∙ ap (or_else (held img t s y)) (later.lookups p y (o.lower z))
+            ∙ sym (found-child img t s p y refl (o.lower z))
 
     -- what the new row hides: the name's word before, which tells what lookup gives above the scope
     own-hides : 0 < s → Hides img u new row
@@ -379,10 +383,10 @@ module _ (img : List ℕ) where
           name = (let b = name.below in omega arith);
           tells =
               tells-on later (bound-hidden env x row says.long name.below row-few)
-              (ap (λ i. lookup img u i (name_of img (node_at N u.words row))) above
-              ∙ ap (lookup img u p) named
+              (ap (λ i. found img u i (name_of img (node_at N u.words row))) above
+              ∙ ap (found img u p) named
               ∙ later.lookups p x lower
-              ∙ sym (lookup-child img t s p x refl lower ∙ ap (λ i. or_else i (lookup img t p x)) free))
+              ∙ sym (found-child img t s p x refl lower ∙ ap (λ i. or_else i (found img t p x)) free))
               (o.stands.here x name.below);
         }
 
@@ -422,8 +426,8 @@ module _ (img : List ℕ) where
                 says = symbol-says;
                 live = o.stands.live;
                 here = λ y l.
-                    at-or (λ i. Tells img u (standing new i) (lookup img u s i)) x y
-                    (subst (λ w. Tells img u w (lookup img u s x)) (sym (bound-name env x row says.long name.below)) own-here)
+                    at-or (λ i. Tells img u (standing new i) (found img u s i)) x y
+                    (subst (λ w. Tells img u w (found img u s x)) (sym (bound-name env x row says.long name.below)) own-here)
                     (λ f. tells-on later (bound-other env x row y f (λ q. omega arith)) (other-here y f) (o.stands.here y l));
               };
           newest = o.newest;
@@ -433,14 +437,15 @@ module _ (img : List ℕ) where
         }
 
   pub entered : {n x : ℕ} {e g : Walked} {env new : List ℕ} → g ≡ own_symbol img n e → new ≡ bound env x e.table.symbols → Opens img e env → Named img n x → find img e.table e.scope x ≡ none → e.table.symbols < nodes img → Opens img g new
+  unfolding find
   entered {n} {x} {e} {g} {env} p q o name free room =
-      subst (λ i. Opens img g i) (sym q) (subst (λ i. Opens img i (bound env x e.table.symbols)) (sym p) (opens-symbol n x e env o name free room))
+      subst (λ i. Opens img g i) (sym q) (subst (λ i. Opens img i (bound env x e.table.symbols)) (sym p) (opens-symbol n x e env o name (node-none _ free) room))
 
   -- a new scope with one symbol
   pub introduced : {n x : ℕ} {e g : Walked} {env new : List ℕ} → g ≡ introduce img n e → new ≡ bound env x e.table.symbols → Stands img e env → Named img n x → e.table.scopes < nodes img → e.table.symbols < nodes img → Stands img g new
   unfolding introduce child_scope new_scope
   introduced {n} {x} {e} {env = env} p q h name l room =
-      moved p q (opens-symbol n x (child_scope img e) env (opens-child l h) name (child-empty img e.scope e.table h.says.kept l x) room).stands
+      moved p q (opens-symbol n x (child_scope img e) env (opens-child l h) name (child-held img e.scope e.table h.says.kept l x) room).stands
 
   -- the start of the module: its scope, and no symbol
   pub opens-module : (ws env : List ℕ) → nodes img ≤ nodes_most → 0 < nodes img → table_length (nodes img) ≤ length ws → ((i : ℕ) → i < table_length (nodes img) → get_or ws i 0 ≡ 0) → env ≡ replicate environment_length 0
@@ -462,7 +467,7 @@ module _ (img : List ℕ) where
                     exits = λ m x l q. let f = exit m l in record { live = λ z. absurd (omega arith); tells = λ z. absurd (omega arith) };
                   };
               live = omega arith;
-              here = λ x l. subst (λ w. Tells img start w (lookup img start 0 x)) (sym (ap (λ i. get_or i x 0) fresh ∙ get_or-replicate environment_length x 0 0 (omega arith))) (nothing x);
+              here = λ x l. subst (λ w. Tells img start w (found img start 0 x)) (sym (ap (λ i. get_or i x 0) fresh ∙ get_or-replicate environment_length x 0 0 (omega arith))) (nothing x);
             };
         newest = omega arith;
         lower = λ z. absurd (omega arith);
@@ -488,15 +493,15 @@ module _ (img : List ℕ) where
       exit : (m : ℕ) → m < N → exit_at img start.words m ≡ 0
       exit m l = child-exit img all_ones bare empty some-node m l ∙ blank (exit_place N m) (omega arith)
 
-      nothing : (x : ℕ) → Tells img start 0 (lookup img start 0 x)
-      nothing x = record { row = omega arith; is = sym (lookup-root img start 0 x (omega arith) ∙ child-empty img all_ones bare empty some-node x) }
+      nothing : (x : ℕ) → Tells img start 0 (found img start 0 x)
+      nothing x = record { row = omega arith; is = sym (found-root img start 0 x (omega arith) ∙ child-held img all_ones bare empty some-node x) }
 
   -- after the module, back in its scope
   pub noted_of : {e : Walked} {env : List ℕ} → e.scope ≡ 0 → Stands img e env → Noted img e.table env
   noted_of {e} {env} q s =
       record {
         sized = s.says.sized;
-        outer = λ x l. subst (λ i. Tells img e.table (standing env x) (lookup img e.table i x)) q (s.here x l);
+        outer = λ x l. subst (λ i. Tells img e.table (standing env x) (found img e.table i x)) q (s.here x l);
         entries = λ n x l f. (s.says.entries n x l f).tells;
         exits = λ n x l f. (s.says.exits n x l f).tells;
       }
@@ -506,7 +511,7 @@ module _ (img : List ℕ) where
     pub scopes : t.scopes ≤ u.scopes
     pub symbols : t.symbols ≤ u.symbols
     pub rows : (w : ℕ) → w ≤ t.symbols → told img u.words w ≡ told img t.words w
-    pub lookups : (s x : ℕ) → s < t.scopes → lookup img u s x ≡ lookup img t s x
+    pub lookups : (s x : ℕ) → s < t.scopes → found img u s x ≡ found img t s x
 
-  pub tells-later : {t u : Table} {w s : ℕ} (x : ℕ) → Older t u → s < t.scopes → Tells img t w (lookup img t s x) → Tells img u w (lookup img u s x)
+  pub tells-later : {t u : Table} {w s : ℕ} (x : ℕ) → Older t u → s < t.scopes → Tells img t w (found img t s x) → Tells img u w (found img u s x)
   tells-later {w = w} {s} x o l h = record { row = (let a = o.symbols in let b = h.row in omega arith); is = o.rows w h.row ∙ h.is ∙ sym (o.lookups s x l) }

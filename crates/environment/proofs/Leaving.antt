@@ -12,8 +12,8 @@ use Rattle.ast.specs.Declarations.{or_else}
 use Rattle.ast.specs.Image.{nodes, name_of}
 use Rattle.table.specs.Rising.{scope_of, node_at, parent_at}
 use Rattle.table.specs.State.{Walked}
-use Rattle.table.specs.Table.{Table, row_is, find_from, find, lookup}
-use Rattle.table.proofs.Frame.{lookup-child}
+use Rattle.table.specs.Table.{Table, row_is, find_from, held, found}
+use Rattle.table.proofs.Frame.{found-child}
 use Rattle.environment.specs.Layout.{names_most, standing}
 use Rattle.environment.specs.Stands.{Tells, Says, Stands, above, First, Path, here, up}
 use Rattle.environment.specs.Builder.{Keeps, table_of}
@@ -35,15 +35,15 @@ module _ (img : List ℕ) where
   from-not zero ws j s x h = refl
   from-not (suc c) ws j s x h = rw (row-not ws j s x (h j (omega arith)), find_from) (from-not c ws (j + 1) s x (λ i l. h i (omega arith)))
 
-  find-not : (t : Table) (s x : ℕ) → ((i : ℕ) → i < t.symbols → scope_of (nodes img) t.words i ≡ s → name_of img (node_at (nodes img) t.words i) ≡ x → ⊥) → find img t s x ≡ none
-  unfolding find
-  find-not t s x h = from-not t.symbols t.words 0 s x (λ i l. h i (omega arith))
+  held-not : (t : Table) (s x : ℕ) → ((i : ℕ) → i < t.symbols → scope_of (nodes img) t.words i ≡ s → name_of img (node_at (nodes img) t.words i) ≡ x → ⊥) → held img t s x ≡ none
+  unfolding held
+  held-not t s x h = from-not t.symbols t.words 0 s x (λ i l. h i (omega arith))
 
   -- the word of the name x, where the rows from `first` to `row` were gone over: it tells what x is above the scope, or it still
   -- tells what x is in the scope, and none of the rows has that name
   pub data Word (t : Table) (s first row : ℕ) (env : List ℕ) (x : ℕ) : Type 0 where
-    outer : Tells img t (standing env x) (lookup img t (parent_at (nodes img) t.words s) x) → Word t s first row env x
-    still : Tells img t (standing env x) (lookup img t s x) → ((j : ℕ) → first ≤ j → j < row → name_of img (node_at (nodes img) t.words j) ≡ x → ⊥) → Word t s first row env x
+    outer : Tells img t (standing env x) (found img t (parent_at (nodes img) t.words s) x) → Word t s first row env x
+    still : Tells img t (standing env x) (found img t s x) → ((j : ℕ) → first ≤ j → j < row → name_of img (node_at (nodes img) t.words j) ≡ x → ⊥) → Word t s first row env x
 
   pub record Leaving (t : Table) (s first : ℕ) (env : List ℕ) (row : ℕ) : Type 0 where
     pub says : Says img t env
@@ -68,20 +68,20 @@ module _ (img : List ℕ) where
         let r = h.says.kept.rising.rises row j l b in
         done c (omega arith)
 
-    empty : (x : ℕ) → ((j : ℕ) → first ≤ j → j < row → name_of img (node_at (nodes img) t.words j) ≡ x → ⊥) → find img t s x ≡ none
-    empty x g = find-not t s x (λ j b q n. pick j b q n (dec_lt j first) (dec_lt j row))
+    empty : (x : ℕ) → ((j : ℕ) → first ≤ j → j < row → name_of img (node_at (nodes img) t.words j) ≡ x → ⊥) → held img t s x ≡ none
+    empty x g = held-not t s x (λ j b q n. pick j b q n (dec_lt j first) (dec_lt j row))
       where
         pick : (j : ℕ) → j < t.symbols → scope_of (nodes img) t.words j ≡ s → name_of img (node_at (nodes img) t.words j) ≡ x → Dec (j < first) → Dec (j < row) → ⊥
         pick j b q n (yes l) d = let z = h.first_is.before j l b in absurd (omega arith)
         pick j b q n (no l) (yes k) = g j (omega arith) k n
         pick j b q n (no l) (no k) = past j b (omega arith) q
 
-    word-done : (x : ℕ) → Word t s first row env x → Tells img t (standing env x) (lookup img t (parent_at (nodes img) t.words s) x)
+    word-done : (x : ℕ) → Word t s first row env x → Tells img t (standing env x) (found img t (parent_at (nodes img) t.words s) x)
     word-done x (outer w) = w
     word-done x (still w g) =
         let p = parent_at (nodes img) t.words s in
         subst (λ o. Tells img t (standing env x) o)
-        (lookup-child img t s p x refl h.first_is.lower ∙ ap (λ o. or_else o (lookup img t p x)) (empty x g)) w
+        (found-child img t s p x refl h.first_is.lower ∙ ap (λ o. or_else o (found img t p x)) (empty x g)) w
 
     pub leaving-done : Stands img (above img e) env
     leaving-done =

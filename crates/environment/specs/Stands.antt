@@ -1,4 +1,4 @@
--- What the environment's words say along a walk: by name, what lookup gives at the scope that the walk stands in; by symbol row,
+-- What the environment's words say along a walk: by name, what is found at the scope that the walk stands in; by symbol row,
 -- what the row's name is above its scope; by node, what the name asked for there is at the node's entry and at its exit.
 use Rattle.std.specs.Prelude.{◌≡◌, List, ℕ, zero, suc, ◌-◌, ◌<◌, ◌≤◌, length}
 use Rattle.std.proofs.Math.Option.{Option, none, some}
@@ -6,31 +6,31 @@ use Rattle.ast.specs.Image.{nodes, name_of}
 use Rattle.table.specs.Kept.{Kept}
 use Rattle.table.specs.Rising.{scope_of, node_at, parent_at}
 use Rattle.table.specs.State.{Walked}
-use Rattle.table.specs.Table.{Table, lookup, entry_at, exit_at}
+use Rattle.table.specs.Table.{Table, Found, symbol_at, found, entry_at, exit_at}
 use Rattle.environment.specs.Layout.{names_most, nodes_most, environment_length, standing, hidden, noted_entry, noted_exit}
 use Rattle.environment.specs.Asked.{asked}
 
 module _ (img : List ℕ) where
-  -- what a word tells: nothing, or the node of a symbol row, which it has by the row's number plus 1
-  unfoldable pub told : List ℕ → ℕ → Option ℕ
+  -- what a word tells: nothing, or the symbol of a row, which it has by the row's number plus 1
+  unfoldable pub told : List ℕ → ℕ → Option Found
   told ws zero = none
-  told ws (suc j) = some (node_at (nodes img) ws j)
+  told ws (suc j) = some (symbol_at img ws j)
 
   -- the word w tells o, by a row that is there
-  pub record Tells (t : Table) (w : ℕ) (o : Option ℕ) : Type 0 where
+  pub record Tells (t : Table) (w : ℕ) (o : Option Found) : Type 0 where
     pub row : w ≤ t.symbols
     pub is : told t.words w ≡ o
 
   -- the word w, noted for a node that is recorded with the scope s, tells the name x there; for the module's own scope nothing is noted
   pub record Notes (t : Table) (s w x : ℕ) : Type 0 where
     pub live : 0 < s → s < t.scopes
-    pub tells : 0 < s → Tells t w (lookup img t s x)
+    pub tells : 0 < s → Tells t w (found img t s x)
 
   -- what row j hides
   pub record Hides (t : Table) (env : List ℕ) (j : ℕ) : Type 0 where
     pub lower : parent_at (nodes img) t.words (scope_of (nodes img) t.words j) < scope_of (nodes img) t.words j
     pub name : name_of img (node_at (nodes img) t.words j) < names_most
-    pub tells : Tells t (hidden env j) (lookup img t (parent_at (nodes img) t.words (scope_of (nodes img) t.words j)) (name_of img (node_at (nodes img) t.words j)))
+    pub tells : Tells t (hidden env j) (found img t (parent_at (nodes img) t.words (scope_of (nodes img) t.words j)) (name_of img (node_at (nodes img) t.words j)))
 
   -- what the environment says wherever the walk stands
   pub record Says (t : Table) (env : List ℕ) : Type 0 where
@@ -45,7 +45,7 @@ module _ (img : List ℕ) where
 
   -- by name what it stands for at the scope s
   abbrev pub At : Table → ℕ → List ℕ → Type 0
-  At t s env = (x : ℕ) → x < names_most → Tells t (standing env x) (lookup img t s x)
+  At t s env = (x : ℕ) → x < names_most → Tells t (standing env x) (found img t s x)
 
   -- what a walk keeps of its environment: a predicate and no invariant, since it fails between a store in the table and its store here
   pub record Stands (e : Walked) (env : List ℕ) : Type 0 where
@@ -80,8 +80,8 @@ module _ (img : List ℕ) where
   pub record Noted (t : Table) (env : List ℕ) : Type 0 where
     pub sized : nodes img ≤ nodes_most
     pub outer : At t 0 env
-    pub entries : (n x : ℕ) → n < nodes img → asked img n ≡ some x → 0 < entry_at img t.words n → Tells t (noted_entry env n) (lookup img t (entry_at img t.words n) x)
-    pub exits : (n x : ℕ) → n < nodes img → asked img n ≡ some x → 0 < exit_at img t.words n → Tells t (noted_exit env n) (lookup img t (exit_at img t.words n) x)
+    pub entries : (n x : ℕ) → n < nodes img → asked img n ≡ some x → 0 < entry_at img t.words n → Tells t (noted_entry env n) (found img t (entry_at img t.words n) x)
+    pub exits : (n x : ℕ) → n < nodes img → asked img n ≡ some x → 0 < exit_at img t.words n → Tells t (noted_exit env n) (found img t (exit_at img t.words n) x)
 
   -- what a name needs to be bound: x is the node's name, and a name of the image
   pub record Named (n x : ℕ) : Type 0 where
@@ -95,4 +95,4 @@ module _ (img : List ℕ) where
     pub is : asked img n ≡ some x
     pub below : x < names_most
     pub live : entry < e.table.scopes
-    pub tells : Tells e.table v (lookup img e.table entry x)
+    pub tells : Tells e.table v (found img e.table entry x)

@@ -8,7 +8,7 @@ ghost use Rattle.ast.specs.Image as ImageSpec;
 ghost use Rattle.table.specs.Rising.{scope_of, node_at, parent_at};
 ghost use Rattle.table.specs.State as StateSpec;
 ghost use Rattle.table.specs.Table as TableSpec;
-ghost use Rattle.table.specs.Values.{option_of};
+ghost use Rattle.table.specs.Values.{found_of};
 ghost use Rattle.environment.specs.Layout.{environment_length, hidden, names_most, nodes_most, noted_entry, noted_exit, standing, standing_of};
 ghost use Rattle.environment.specs.Layout as LayoutSpec;
 ghost use Rattle.environment.specs.Asked.{asked};
@@ -17,7 +17,7 @@ ghost use Rattle.environment.specs.Stands.{told, Stands, Opens, above, First, Pa
 
 use ast::{NAMES, NODES, NodeId};
 use std::marker::Model;
-use table::{Array, NO_SCOPE, ScopeId};
+use table::{Array, Found, NO_SCOPE, ScopeId};
 
 mod reading;
 
@@ -142,11 +142,11 @@ impl Environment {
 }
 
 // The symbol that a name stands for.
-pub fn found(image: &[u8], table: &[u32], standing: Standing) -> Option<NodeId>
-    ensures { option_of result ≡ told image.now table.now standing }
+pub fn found(image: &[u8], table: &[u32], standing: Standing) -> Option<Found>
+    ensures { found_of result ≡ told image.now table.now standing }
 {
     let row = standing.row()?;
-    Some(table::symbol_node(image, table, row))
+    Some(table::symbol_at(image, table, row))
 }
 
 // What a walk reads and fills: the image, the lent table, what names stand for, and how many scopes and symbols the table has.
@@ -163,15 +163,15 @@ pub struct ScopeBuilder<'a> {
 // to leave the words as they are.
 impl<'a> ScopeBuilder<'a> {
     // The symbol that a name stands for.
-    pub fn found(&self, standing: Standing) -> Option<NodeId>
-        ensures { option_of result ≡ told self.now.image.now self.now.table.now standing }
+    pub fn found(&self, standing: Standing) -> Option<Found>
+        ensures { found_of result ≡ told self.now.image.now self.now.table.now standing }
     {
         found(self.image, self.table, standing)
     }
 
     // The first symbol of the name in the scope.
-    pub fn find(&self, scope: ScopeId, name: u32) -> Option<NodeId>
-        ensures { option_of result ≡ TableSpec.find_from self.now.image.now self.now.symbols self.now.table.now 0 scope.0 name }
+    pub fn find(&self, scope: ScopeId, name: u32) -> Option<Found>
+        ensures { found_of result ≡ TableSpec.find_from self.now.image.now self.now.symbols self.now.table.now 0 scope.0 name }
     {
         table::find(self.image, self.table, self.symbols, scope, name)
     }

@@ -1,33 +1,133 @@
--- A packed number stands for one answer only: the tag and the three fields give the answer back.
+-- A packed number stands for one answer only, of those that one call gives: the tag and the three fields give the answer back.
 use mathlib.Core.Path.{◌≡◌, sym, ap, ap₂, ◌∙◌}
-use Prim.Native.Nat.{ℕ}
+use mathlib.Core.List.{List}
+use mathlib.Core.Option.{Option, none, some}
+use lib.ListN.{length}
+use Prim.Native.Nat.{ℕ, zero, suc}
 use native.Mathlib.Omega.{arith}
-use Rattle.ast.specs.Answer.{Answer, refused, twice, result, other, Fits}
-use Rattle.exports.specs.Packed.{packed, Places}
+use Rattle.ast.specs.Answer.{Answer, refused, twice, result, located, other, Fits}
+use Rattle.names.specs.Number.{number_of}
 use Rattle.names.specs.declared.NamePlace.{NamePlace}
+use Rattle.table.specs.Table.{Table, Found}
+use Rattle.rows.specs.Rows.{Row}
+use Rattle.ast.specs.Rules.{module_rules}
+use Rattle.scopes.specs.Resolve.{test_table, Way, refuses, stops, fills, way, answer_by, table_call, resolve}
+use Rattle.scopes.specs.Calls.{test_rows, rows_call}
+use Rattle.scopes.specs.Lookup.{test_lookup, symbol_answer, found_by, lookup_call}
+use Rattle.bindings.specs.Errors.{error_rows, test_errors, errors}
+use Rattle.sorted.specs.Sorted.{placed, sorted}
+use Rattle.occurrences.specs.Occurrences.{occurrence_rows, lone, rows_by_rule, lone_answer, occurrences, once}
+use Rattle.exports.specs.Packed.{packed, Places}
 
-pub one_answer : (x y : Answer) → Fits x → Fits y → packed x ≡ packed y → x ≡ y
+-- what Lookup does not give, and what the other calls do not
+abbrev Counts : Answer → Type 0
+Counts (refused n) = ⊥
+Counts (twice x a b) = ⊥
+Counts (result a b) = Unit {0}
+Counts (located s k n) = ⊥
+Counts (other a b) = ⊥
+
+abbrev Locates : Answer → Type 0
+Locates (refused n) = ⊥
+Locates (twice x a b) = ⊥
+Locates (result a b) = ⊥
+Locates (located s k n) = Unit {0}
+Locates (other a b) = ⊥
+
+-- two answers that one call may give
+abbrev pub Alike : Answer → Answer → Type 0
+Alike x y = (Counts x → Locates y → ⊥) × (Locates x → Counts y → ⊥)
+
+pub one_answer : (x y : Answer) → Alike x y → Fits x → Fits y → packed x ≡ packed y → x ≡ y
 unfolding packed Fits
-one_answer (refused n) (refused m) f g e = ap refused (omega arith)
-one_answer (refused n) (twice y c d) f g e = absurd (omega arith)
-one_answer (refused n) (result c d) f g e = absurd (omega arith)
-one_answer (refused n) (other c d) f g e = absurd (omega arith)
-one_answer (twice x a b) (refused m) f g e = absurd (omega arith)
-one_answer (twice x a b) (twice y c d) f g e =
+one_answer (refused n) (refused m) u f g e = ap refused (omega arith)
+one_answer (refused n) (twice y c d) u f g e = absurd (omega arith)
+one_answer (refused n) (result c d) u f g e = absurd (omega arith)
+one_answer (refused n) (located s k m) u f g e = absurd (omega arith)
+one_answer (refused n) (other c d) u f g e = absurd (omega arith)
+one_answer (twice x a b) (refused m) u f g e = absurd (omega arith)
+one_answer (twice x a b) (twice y c d) u f g e =
     let p : x ≡ y = omega arith in
     let q : a ≡ c = omega arith in
     let r : b ≡ d = omega arith in
     cc
-one_answer (twice x a b) (result c d) f g e = absurd (omega arith)
-one_answer (twice x a b) (other c d) f g e = absurd (omega arith)
-one_answer (result a b) (refused m) f g e = absurd (omega arith)
-one_answer (result a b) (twice y c d) f g e = absurd (omega arith)
-one_answer (result a b) (result c d) f g e = let p : a ≡ c = omega arith in let q : b ≡ d = omega arith in cc
-one_answer (result a b) (other c d) f g e = absurd (omega arith)
-one_answer (other a b) (refused m) f g e = absurd (omega arith)
-one_answer (other a b) (twice y c d) f g e = absurd (omega arith)
-one_answer (other a b) (result c d) f g e = absurd (omega arith)
-one_answer (other a b) (other c d) f g e = let p : a ≡ c = omega arith in let q : b ≡ d = omega arith in cc
+one_answer (twice x a b) (result c d) u f g e = absurd (omega arith)
+one_answer (twice x a b) (located s k m) u f g e = absurd (omega arith)
+one_answer (twice x a b) (other c d) u f g e = absurd (omega arith)
+one_answer (result a b) (refused m) u f g e = absurd (omega arith)
+one_answer (result a b) (twice y c d) u f g e = absurd (omega arith)
+one_answer (result a b) (result c d) u f g e = let p : a ≡ c = omega arith in let q : b ≡ d = omega arith in cc
+one_answer (result a b) (located s k m) u f g e = absurd (u.0 tt tt)
+one_answer (result a b) (other c d) u f g e = absurd (omega arith)
+one_answer (located s k n) (refused m) u f g e = absurd (omega arith)
+one_answer (located s k n) (twice y c d) u f g e = absurd (omega arith)
+one_answer (located s k n) (result c d) u f g e = absurd (u.1 tt tt)
+one_answer (located s k n) (located t l m) u f g e =
+    let p : s ≡ t = omega arith in
+    let q : k ≡ l = omega arith in
+    let r : n ≡ m = omega arith in
+    cc
+one_answer (located s k n) (other c d) u f g e = absurd (omega arith)
+one_answer (other a b) (refused m) u f g e = absurd (omega arith)
+one_answer (other a b) (twice y c d) u f g e = absurd (omega arith)
+one_answer (other a b) (result c d) u f g e = absurd (omega arith)
+one_answer (other a b) (located s k m) u f g e = absurd (omega arith)
+one_answer (other a b) (other c d) u f g e = let p : a ≡ c = omega arith in let q : b ≡ d = omega arith in cc
+
+-- any two answers of Lookup are alike, and any two of calls that are lent a table to fill
+symbol-none : (img : List ℕ) (o : Option Found) → Counts (symbol_answer img o) → ⊥
+unfolding symbol_answer
+symbol-none img none h = h
+symbol-none img (some f) h = h
+
+lookup-none : (img tab : List ℕ) (s : ℕ) (bs : List ℕ) → Counts (lookup_call img tab s bs) → ⊥
+unfolding lookup_call
+lookup-none img tab s bs = go (test_lookup img tab s)
+  where
+    go : (r : ℕ) → Counts (elim r as (λ _. Answer) [ zero ↦ symbol_answer img (found_by img tab s (number_of img bs)) | suc i ↦ refused (suc i) ]) → ⊥
+    go zero h = symbol-none img (found_by img tab s (number_of img bs)) h
+    go (suc i) h = h
+
+pub lookups-alike : (img tab : List ℕ) (s : ℕ) (bs : List ℕ) (img' tab' : List ℕ) (s' : ℕ) (bs' : List ℕ) → Alike (lookup_call img tab s bs) (lookup_call img' tab' s' bs')
+lookups-alike img tab s bs img' tab' s' bs' = ((λ h l. lookup-none img tab s bs h), (λ l h. lookup-none img' tab' s' bs' h))
+
+unlocated : (f : Table → Answer) → ((t : Table) → Locates (f t) → ⊥) → (w : Way) → Locates (answer_by f w) → ⊥
+unfolding answer_by
+unlocated f n (refuses k) h = h
+unlocated f n (stops x a b) h = h
+unlocated f n (fills t) h = n t h
+
+table-none : (img tab : List ℕ) (r : ℕ) (f : Table → Answer) → ((t : Table) → Locates (f t) → ⊥) → Locates (table_call img tab r f).answer → ⊥
+unfolding table_call
+table-none img tab r f n = unlocated f n (way img tab r)
+
+rows-none : (img tab rows : List ℕ) (r : ℕ) (f : Table → List Row) → Locates (rows_call img tab rows r f).answer → ⊥
+unfolding rows_call
+rows-none img tab rows r f = unlocated (λ t. result 0 (length (f t))) (λ t h. h) (way img tab r)
+
+lone-none : (o : Option Row) → Locates (lone_answer o) → ⊥
+unfolding lone_answer
+lone-none none h = h
+lone-none (some w) h = h
+
+-- such a call: its answer, whatever it is lent
+pub data Filling : Answer → Type 0 where
+  resolving : (img tab : List ℕ) → Filling (resolve img tab).answer
+  checking : (img tab rows : List ℕ) (mode : ℕ) → Filling (errors img tab rows mode).answer
+  sorting : (img tab rows : List ℕ) (mode : ℕ) → Filling (sorted img tab rows mode).answer
+  counting : (img tab : List ℕ) → Filling (once img tab).answer
+  listing : (img tab rows : List ℕ) → Filling (occurrences img tab rows).answer
+
+filling-none : {a : Answer} → Filling a → Locates a → ⊥
+unfolding resolve errors sorted once occurrences
+filling-none (resolving img tab) h = table-none img tab (test_table img tab) (λ t. result t.scopes t.symbols) (λ t l. l) h
+filling-none (checking img tab rows mode) h = rows-none img tab rows (test_errors img tab rows mode) (λ t. error_rows img t mode) h
+filling-none (sorting img tab rows mode) h = rows-none img tab rows (test_errors img tab rows mode) (λ t. placed img (error_rows img t mode)) h
+filling-none (counting img tab) h = table-none img tab (test_table img tab) (λ t. lone_answer (lone (rows_by_rule img t (module_rules img)))) (λ t l. lone-none _ l) h
+filling-none (listing img tab rows) h = rows-none img tab rows (test_rows img tab rows) (occurrence_rows img) h
+
+pub fillings-alike : {a b : Answer} → Filling a → Filling b → Alike a b
+fillings-alike f g = ((λ c l. filling-none g l), (λ l c. filling-none f l))
 
 -- a number that Name hands back stands for one place only
 pub one-place : (r : ℕ) (p q : NamePlace) → Places r p → Places r q → p ≡ q

@@ -1,6 +1,6 @@
 -- The answers of the C interface, each packed in one 64-bit number.
 use Rattle.std.specs.Prelude.{◌≡◌, List, ℕ, ◌+◌, ◌*◌}
-use Rattle.ast.specs.Answer.{Answer, refused, twice, result, other, Short, Fits}
+use Rattle.ast.specs.Answer.{Answer, refused, twice, result, located, other, Short, Fits}
 use Rattle.names.specs.declared.NamePlace.{NamePlace}
 use Rattle.scopes.specs.Resolve.{Outcome}
 use Rattle.scopes.specs.Calls.{RowsOutcome}
@@ -14,6 +14,7 @@ unfoldable pub packed : Answer → ℕ
 packed (refused number) = fields 0 0 0 number
 packed (twice name first second) = fields 1 name first second
 packed (result a b) = fields 2 0 a b
+packed (located scope symbol node) = fields 2 scope symbol node
 packed (other a b) = fields 3 0 a b
 
 -- what an exported call hands back for an answer of document 01

@@ -62,7 +62,7 @@ fn pack_looked(answer: Result<Option<Looked>, Refusal>) -> u64
     ensures { result ≡ packed (looked_answer answer) }
 {
     match answer {
-        Ok(Some(looked)) => pack(2, 0, u32::from(looked.symbol), looked.node.0),
+        Ok(Some(looked)) => pack(2, looked.scope.0, u32::from(looked.symbol), looked.node.0),
         Ok(None) => pack(3, 0, 0, 0),
         Err(refusal) => pack_refused(refusal),
     }
@@ -98,7 +98,7 @@ pub fn eqlog_resolve(image: &[u8], table: &mut [u32]) -> u64
     pack_resolved(scopes::resolve_scopes(image, table))
 }
 
-// Lookup: what a name, given by its bytes, is in a scope of a table.
+// Lookup: what a name, given by its bytes, is in a scope of a table, and which scope holds it.
 pub fn eqlog_lookup(image: &[u8], table: &[u32], scope: u32, name: &[u8]) -> u64
     ensures { Packs result (lookup_call image.now table.now scope name.now) }
 {

@@ -17,7 +17,7 @@ pub extern "C" fn eqlog_resolve(image: &[u8], table: &mut [u32]) -> u64
     exports::eqlog_resolve(image, table)
 }
 
-// Lookup: what a name, given by its bytes, is in a scope of a table.
+// Lookup: what a name, given by its bytes, is in a scope of a table, and which scope holds it.
 #[unsafe(no_mangle)]
 pub extern "C" fn eqlog_lookup(image: &[u8], table: &[u32], scope: u32, name: &[u8]) -> u64
     ensures { Packs result (lookup_call image.now table.now scope name.now) }

@@ -1,7 +1,7 @@
 -- What document 01's report says of an image, line by line.
 use Rattle.std.specs.Prelude.{List, [], ◌∷◌, ◌++◌, ℕ, ◌+◌, replicate, take, drop}
 use Rattle.ast.specs.Image.{nodes}
-use Rattle.ast.specs.Answer.{Answer, refused, twice, result, other}
+use Rattle.ast.specs.Answer.{Answer, refused, twice, result, located, other}
 use Rattle.table.specs.Layout.{table_length}
 use Rattle.rows.specs.Rows.{rows_length}
 use Rattle.scopes.specs.Resolve.{resolve}
@@ -25,12 +25,14 @@ unfolding zipped
 row_lines f N (refused r) ws = []
 row_lines f N (twice x a b) ws = []
 row_lines f N (result a c) ws = zipped f (take c (drop 1 ws)) (take c (drop (1 + N) ws))
+row_lines f N (located s k n) ws = []
 row_lines f N (other a b) ws = []
 
 unfoldable pub end_lines : Answer → List Line
 end_lines (refused r) = []
 end_lines (twice x a b) = []
 end_lines (result a b) = end_ok ∷ []
+end_lines (located s k n) = []
 end_lines (other n b) = end_once n b ∷ []
 
 -- the words that the report lends: enough for any image
@@ -56,6 +58,7 @@ unfolding body_lines
 lines_of img (refused r) = refusal r ∷ []
 lines_of img (twice x a b) = declared_twice x a b ∷ []
 lines_of img (result k y) = resolved k y ∷ body_lines img
+lines_of img (located s k n) = []
 lines_of img (other a b) = []
 
 -- the report of an image

@@ -17,8 +17,9 @@ use Rattle.ast.proofs.Shapes.{tree_of, run-item}
 use Rattle.ast.proofs.Small.{Small, Smalls, tree-small, items-small}
 use Rattle.ast.proofs.Vars.{check_all}
 use Rattle.table.specs.State.{Walked, marked}
-use Rattle.table.specs.Table.{lookup}
-use Rattle.table.proofs.Frame.{mark-lookup}
+use Rattle.table.specs.Table.{found_node, lookup}
+use Rattle.table.proofs.Finds.{lookup-node}
+use Rattle.table.proofs.Frame.{mark-found}
 use Rattle.environment.specs.Layout.{names_most, standing}
 use Rattle.environment.specs.Stands.{told, Stands}
 use Rattle.ordered.specs.Promises.{over, inside, rest, Ends, Few, Ready, Variable, ReadyRun}
@@ -39,21 +40,21 @@ use Rattle.meaning.proofs.Told.{At, Alike, as-occurs, as-declares, rule-met}
 module _ (img : List ℕ) where
   -- by name, the words of env say what m does
   abbrev pub Say : Walked → List ℕ → Env → Type 0
-  Say e env m = (x : ℕ) → x < names_most → told img e.table.words (standing env x) ≡ m x
+  Say e env m = (x : ℕ) → x < names_most → found_node (told img e.table.words (standing env x)) ≡ m x
 
   -- what names stand for where a walk stands
   abbrev pub stands_for : Walked → Env
   stands_for e x = lookup img e.table e.scope x
 
   pub words-say : {e : Walked} {env : List ℕ} → Stands img e env → Say e env (stands_for e)
-  words-say s x l = (s.here x l).is
+  words-say s x l = lookup-node img _ _ _ (s.here x l).is
 
   -- trees of a rule, in a role
   pub words-meet : {r : Role} {p : Part} (ts : Trees) → Bodies img ts → Smalls (nodes img) ts → (e : Walked) {f : Walked} {v w : List ℕ}
       → Alike img (walk_seq img r ts e).table e.table.scopes r p → Few img (walk_seq img r ts e).table
       → Stands img e v → Ends img (walk_seq img r ts e) f w → Say f w (meet_seq (name_of img) (kind_at img) p ts (stands_for e))
   words-meet {r} {p} ts b small e {f} {v} {w} q few s h x l =
-      (h.stands.here x l).is ∙ ap (λ (g : Walked). stands_for g x) h.same ∙ met.reads x
+      lookup-node img _ _ _ (h.stands.here x l).is ∙ ap (λ (g : Walked). stands_for g x) h.same ∙ met.reads x
     where
       met : At img (walk_seq img r ts e).table (meet_seq (name_of img) (kind_at img) p ts (stands_for e)) (walk_seq img r ts e)
       met =
@@ -112,9 +113,7 @@ module _ (img : List ℕ) where
   unfolding marked in_body kind_of
   term-meets {n} {e} {f} p z s h x l =
       let k = other-ends img p z h refl refl in
-      (h.stands.here x l).is
-      ∙ sym (mark-lookup img n e.scope f.scope f.table p.is.below f.scope x)
-      ∙ sym (k.stands.here x l).is
+      ap found_node ((h.stands.here x l).is ∙ sym (mark-found img n e.scope f.scope f.table p.is.below f.scope x) ∙ sym (k.stands.here x l).is)
       ∙ walker-meets tt p s k x l
 
   -- the blocks of a branch: walk_branch

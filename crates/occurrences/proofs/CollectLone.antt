@@ -39,7 +39,7 @@ use Rattle.occurrences.specs.Promises.{rows_at, rows_of, joined, lists_in, lists
 use Rattle.occurrences.specs.declared.Lone.{Lone}
 use Rattle.occurrences.proofs.CollectSteps.{Gave}
 use Rattle.occurrences.proofs.CollectRules.{joined-append, seq_lists, seq-lists-none, RuleRun, rule_run, DeclItem, decl_item}
-use Rattle.occurrences.proofs.Few.{lookup-low}
+use Rattle.table.proofs.Below.{lookup-low}
 
 -- under two times
 few-is : (x : ℕ) → leb 2 x ≡ not (ltb x 2)

@@ -16,13 +16,13 @@ use Rattle.ast.specs.Tree.{Tree, node, block, Trees, none, ◌◂◌, tree_at, s
 use Rattle.ast.proofs.Accepted.{sized}
 use Rattle.ast.proofs.Count.{nodes_of, nodes_all, is_same, nothing-else, tree-size}
 use Rattle.ast.proofs.Unfold.{All, nil, cons, All-append, All-split}
-use Rattle.table.specs.Table.{Table, is_var, lookup}
+use Rattle.table.specs.Table.{Table, is_var}
 use Rattle.rows.specs.Rows.{Row, row}
 use Rattle.occurrences.specs.Spots.{Spot, spots, spots_seq, spots_back, spots_first, rule_spots}
 use Rattle.ast.specs.Rules.{Rule, says_all, rules, rules_all, rules_of, module_rules}
 use Rattle.occurrences.specs.Occurrences.{found, listed, rows_for, rule_rows, all_rows, occurrence_rows, lone_in, lone, rows_by_rule, times_bound}
 use Rattle.occurrences.specs.Promises.{Nodes}
-use Rattle.table.proofs.Below.{climb-low}
+use Rattle.table.proofs.Below.{lookup-low}
 
 -- no more spots than nodes -----------------------------------------------------------------------------------------------
 mutual
@@ -197,11 +197,6 @@ lone-in {P} all (v ∷ left) w e (more p h) = go (leb 2 (times_bound v.right all
     go false q r = let z : w ≡ v = cc in subst P (sym z) p
 
 module _ (img : List ℕ) (t : Table) (symbols : Nodes img t) where
-  -- what lookup gives is a node
-  pub lookup-low : (s x m : ℕ) → lookup img t s x ≡ some m → m < nodes img
-  unfolding lookup
-  lookup-low s x m e = climb-low img t symbols (suc s) s x m e
-
   abbrev pub Below : Row → Type 0
   Below w = (w.left < nodes img) × (w.right < nodes img)
 
@@ -217,7 +212,7 @@ module _ (img : List ℕ) (t : Table) (symbols : Nodes img t) where
   rows-below : (l : List Spot) → All (λ v. v < nodes img) (owners l) → Each Below (rows_for img t l)
   unfolding rows_for
   rows-below [] a = empty
-  rows-below (s ∷ l) (cons h a) = listed_below s.node (found img t s) (rows_for img t l) h (lookup-low _ _) (rows-below l a)
+  rows-below (s ∷ l) (cons h a) = listed_below s.node (found img t s) (rows_for img t l) h (lookup-low img t symbols _ _) (rows-below l a)
 
   -- the first lone row of some rules, each of whose nodes are below N
   pub data Within : List Rule → Type 0 where

@@ -289,7 +289,7 @@ impl<'a> OccurrencesChecker<'a> {
             return;
         };
         if table::is_var(self.scopes.image, found) {
-            rows.put(node.0, binding.0);
+            rows.put(node.0, binding.node.0);
         }
     }
 

@@ -2,7 +2,7 @@
 use mathlib.Core.Path.{◌≡◌, refl, sym, ap, subst, ◌∙◌}
 use mathlib.Core.Bool.{Bool, true, false}
 use mathlib.Core.List.{List, [], ◌∷◌}
-use mathlib.Core.Option.{none, some}
+use mathlib.Core.Option.{Option, none, some}
 use Prim.Native.Nat.{ℕ, suc, ◌<◌}
 use native.Mathlib.Omega.{arith}
 use lib.Dec.{eqb}
@@ -14,7 +14,7 @@ use Rattle.ast.specs.Tree.{tree_at}
 use Rattle.ast.proofs.Shapes.{head_kinds, term_kinds}
 use Rattle.ast.proofs.Small.{tree-small}
 use Rattle.typed.specs.RowShapes.{Two}
-use Rattle.table.specs.Table.{lookup, is_var, mark, new_scope, new_symbol}
+use Rattle.table.specs.Table.{Found, found_node, found, lookup, is_var, mark, new_scope, new_symbol}
 use Rattle.ast.specs.declared.NodeId.{NodeId}
 use Rattle.typed.proofs.Enums.{Cased}
 use Rattle.table.specs.State.{Walked, introduce, child_scope, own_symbol, marked, unmarked}
@@ -122,8 +122,8 @@ module _ (img : List ℕ) where
   unless-is {b} {i} r e n q = ap (λ (v : Bool). unless img v i e) (q ∙ ap (λ (y : ℕ). asks img r (lookup img e.table (from r e) y)) n.is) ∙ sym (ident-is r i e)
 
   -- the word of a name, where the walk stands
-  pub word-tells : {x w : ℕ} {e : Walked} {env : List ℕ} → Stands img e env → x < names_most → w ≡ standing env x → Tells img e.table w (lookup img e.table e.scope x)
-  word-tells {x} {e = e} s l q = subst (λ (v : ℕ). Tells img e.table v (lookup img e.table e.scope x)) (sym q) (s.here x l)
+  pub word-tells : {x w : ℕ} {e : Walked} {env : List ℕ} → Stands img e env → x < names_most → w ≡ standing env x → Tells img e.table w (found img e.table e.scope x)
+  word-tells {x} {e = e} s l q = subst (λ (v : ℕ). Tells img e.table v (found img e.table e.scope x)) (sym q) (s.here x l)
 
   -- and after the walk over the tree of a node
   pub older : (r : Role) (n : ℕ) {e f : Walked} {env : List ℕ} → Few img f.table → Stands img e env → f ≡ walk img r (tree_at img n) e → Older img e.table f.table
@@ -132,7 +132,7 @@ module _ (img : List ℕ) where
 
   pub record Later (x w : ℕ) (e f : Walked) : Type 0 where
     pub live : e.scope < f.table.scopes
-    pub tells : Tells img f.table w (lookup img f.table e.scope x)
+    pub tells : Tells img f.table w (found img f.table e.scope x)
 
   pub later : {x w : ℕ} (r : Role) (n : ℕ) {e f : Walked} {env : List ℕ} → Few img f.table → Stands img e env → x < names_most → w ≡ standing env x → f ≡ walk img r (tree_at img n) e → Later x w e f
   later {x} r n k s l q z =
@@ -177,11 +177,12 @@ module _ (img : List ℕ) where
 
   -- the same where the role asks from where the walk stands, by the word of the name
   pub ident_here : {r : Role} {n i x w : ℕ} {b : Bool} {e : Walked} {env : List ℕ} → Variable img r n e → Two img n 0 i → x ≡ field img i 0 → from r e ≡ e.scope → Stands img e env → w ≡ standing env x
-      → b ≡ asks img r (told img e.table.words w) → Ident r n i x b e (walk img r (tree_at img n) e)
+      → b ≡ asks img r (found_node (told img e.table.words w)) → Ident r n i x b e (walk img r (tree_at img n) e)
+  unfolding lookup
   ident_here {r} {x = x} {e = e} p t q z s l k =
       let v = var-ident img p t.first t.second in
       let h = word-tells s (ident-named img v.is q).below l in
-      ident_of p t q (k ∙ ap (asks img r) h.is ∙ ap (λ (y : ℕ). asks img r (lookup img e.table y x)) (sym z))
+      ident_of p t q (k ∙ ap (λ (o : Option Found). asks img r (found_node o)) h.is ∙ ap (λ (y : ℕ). asks img r (lookup img e.table y x)) (sym z))
 
   -- of an app head
   pub ident_head : {n i x : ℕ} {e : Walked} {env : List ℕ} → Ready img (kind_of 15) n e → Two img n 0 i → x ≡ field img i 0 → Stands img e env → Ident names n i x true e (over img n e)
@@ -277,13 +278,14 @@ module _ (img : List ℕ) where
 
   -- an ident, with the word w that its name has before the term is walked
   pub defining_ident : {n id v d i x w : ℕ} {b : Bool} {e f : Walked} {env env' : List ℕ} → Ready img (kind_of 29) n e → Defining img n id v d i → x ≡ field img i 0 → Stands img e env → w ≡ standing env x
-      → b ≡ is_var img (told img f.table.words w) → Ends img (over img d e) f env' → Ident (defines e.scope) v i x b f (walk img (defines e.scope) (tree_at img v) f)
+      → b ≡ is_var img (found_node (told img f.table.words w)) → Ends img (over img d e) f env' → Ident (defines e.scope) v i x b f (walk img (defines e.scope) (tree_at img v) f)
+  unfolding lookup
   defining_ident {v = v} {d} {x = x} {w} {e = e} {f} p g q s l k h =
       let o = defined_atom p g.defined g.terms.second in
       let u = given-variable v o g.terms.first h in
       let t = word-tells s (ident-named img (var-ident img u g.named.first g.named.second).is q).below l in
       let y = older occurs d (subst (λ (c : Walked). Few img c.table) (sym h.same) o.parts.first.room.few) s h.same in
-      ident_of u g.named q (k ∙ ap (is_var img) (y.rows w t.row ∙ t.is ∙ sym (y.lookups e.scope x s.live)))
+      ident_of u g.named q (k ∙ ap (λ (o : Option Found). is_var img (found_node o)) (y.rows w t.row ∙ t.is ∙ sym (y.lookups e.scope x s.live)))
 
   -- what the atom is left with
   pub defining-asking : {n id v d i x w : ℕ} {b : Bool} {e f h a : Walked} {env env' : List ℕ} → Ready img (kind_of 29) n e → Defining img n id v d i → Ident (defines e.scope) v i x b f a → Stands img e env → w ≡ standing env x

@@ -1,6 +1,6 @@
 -- The way from the end of a walk up to its start, and what the table at the end keeps of the one at the start.
 use Rattle.std.proofs.lemmas.Bool.{cases_lt}
-use mathlib.Core.Path.{◌≡◌, refl, sym, ap, subst, ◌∙◌}
+use mathlib.Core.Path.{◌≡◌, refl, sym, ap, ap₂, subst, ◌∙◌}
 use mathlib.Core.Logic.{⊎_elim}
 use mathlib.Core.List.{List}
 use mathlib.Core.Option.{some}
@@ -14,8 +14,8 @@ use Rattle.table.specs.Kept.{Kept}
 use Rattle.table.specs.Layout.{node_place}
 use Rattle.table.specs.Rising.{scope_of, node_at, parent_at}
 use Rattle.table.specs.State.{Walked, introduce, child_scope, own_symbol}
-use Rattle.table.specs.Table.{Table, lookup, mark, new_scope, new_symbol}
-use Rattle.table.proofs.Frame.{mark-parent, mark-lookup, child-parent, child-parent-other, name-parent, new-lookup-old, new-kept}
+use Rattle.table.specs.Table.{Table, found, mark, new_scope, new_symbol}
+use Rattle.table.proofs.Frame.{mark-parent, mark-found, child-parent, child-parent-other, name-parent, new-found-old, new-kept}
 use Rattle.table.proofs.Frames.{mark-word, scope-word, symbol-word, symbol-scope}
 use Rattle.table.proofs.Kept.{mark-kept, scope_kept, mark-rows, scope-rows, symbol-rows}
 use Rattle.environment.specs.Stands.{told, Stands, First, Path, here, up}
@@ -51,7 +51,7 @@ module _ (img : List ℕ) where
     rows : (j : ℕ) → j < e.table.symbols → scope_of N f.table.words j ≡ scope_of N e.table.words j
     named : (j : ℕ) → j < e.table.symbols → node_at N f.table.words j ≡ node_at N e.table.words j
     parents : (s : ℕ) → s < e.table.scopes → parent_at N f.table.words s ≡ parent_at N e.table.words s
-    lookups : (s x : ℕ) → s < e.table.scopes → lookup img f.table s x ≡ lookup img e.table s x
+    lookups : (s x : ℕ) → s < e.table.scopes → found img f.table s x ≡ found img e.table s x
     fresh : (j : ℕ) → e.table.symbols ≤ j → j < f.table.symbols → scope_of N f.table.words j + e.table.symbols ≡ e.table.scopes + j
     lower : (s : ℕ) → e.table.scopes ≤ s → s < f.table.scopes → parent_at N f.table.words s < s
     way : Way f.table e.table.scopes e.scope f.scope
@@ -104,7 +104,7 @@ module _ (img : List ℕ) where
         rows = λ j h. mark-rows img n c x e.table l j;
         named = λ j h. mark-word img n c x e.table (node_place N j) (omega arith) (omega arith);
         parents = λ s h. mark-parent img n c x e.table l s;
-        lookups = λ s y h. mark-lookup img n c x e.table l s y;
+        lookups = λ s y h. mark-found img n c x e.table l s y;
         fresh = λ j h z. absurd (omega arith);
         lower = λ s h z. absurd (omega arith);
         way = done;
@@ -130,7 +130,7 @@ module _ (img : List ℕ) where
         rows = λ j l. symbol-rows img e.table.scopes n t j l ∙ scope-rows img e.scope e.table K<N j;
         named = λ j l. symbol-word img e.table.scopes n t (node_place N j) (omega arith) (omega arith) ∙ scope-word img e.scope e.table (node_place N j) (omega arith);
         parents = λ s l. name-parent img e.table.scopes n t k₁ Y<N s (omega arith) ∙ child-parent-other img e.scope e.table k K<N s l;
-        lookups = λ s x l. new-lookup-old img n e k i K<N Y<N s x l;
+        lookups = λ s x l. new-found-old img n e k i K<N Y<N s x l;
         fresh = λ j l h. let q : j ≡ e.table.symbols = omega arith in let z = ap (scope_of N t₂.words) q in omega arith;
         lower = λ s l h. let q : s ≡ e.table.scopes = omega arith in let z = ap (parent_at N t₂.words) q in omega arith;
         way = step {s = e.table.scopes} (omega arith) (omega arith) (subst (Way t₂ e.table.scopes e.scope) (sym p) done);
@@ -215,4 +215,4 @@ module _ (img : List ℕ) where
     where
       told_same : Grown e (walk img r u e) → (w : ℕ) → w ≤ e.table.symbols → told img (walk img r u e).table.words w ≡ told img e.table.words w
       told_same g zero h = refl
-      told_same g (suc j) h = ap some (g.named j (omega arith))
+      told_same g (suc j) h = ap₂ (λ (m a : ℕ). some (record { node = m; scope = a })) (g.named j (omega arith)) (g.rows j (omega arith))

@@ -10,7 +10,8 @@ ghost use Rattle.ast.specs.Named.{app_head_kind, app_head_member_kind, arg_decl_
 ghost use Rattle.ast.specs.Tree.{tree_at};
 ghost use Rattle.typed.specs.RowShapes.{One, Two};
 ghost use Rattle.table.specs.State.{Walked};
-ghost use Rattle.table.specs.Values.{option_of};
+ghost use Rattle.table.specs.Table.{found_node};
+ghost use Rattle.table.specs.Values.{found_of};
 ghost use Rattle.environment.specs.Builder.{Keeps};
 ghost use Rattle.environment.specs.Stands.{told};
 ghost use Rattle.ordered.specs.Walk.{occurs, declares, walk};
@@ -19,7 +20,7 @@ ghost use Rattle.ordered.specs.Promises.{asks, from, over, over_all, Starts, Sta
 
 use ast::NodeId;
 use environment::ScopeBuilder;
-use table::ScopeId;
+use table::{Found, ScopeId};
 use typed::nodes::*;
 
 pub fn walk_arg_decl_list(
@@ -347,8 +348,8 @@ fn walk_app_head_member(
 trait Role {
     ghost role: { WalkSpec.Role };
 
-    fn is_known(image: &[u8], found: Option<NodeId>) -> bool
-        ensures { result ≡ asks image.now role (option_of found) };
+    fn is_known(image: &[u8], found: Option<Found>) -> bool
+        ensures { result ≡ asks image.now role (found_node (found_of found)) };
 
     // It asks from where the walk stands.
     ghost here: { (e : Walked) → from role e ≡ e.scope };
@@ -362,7 +363,7 @@ impl Role for Occurs {
 
     ghost here = { λ e. refl };
 
-    fn is_known(image: &[u8], found: Option<NodeId>) -> bool {
+    fn is_known(image: &[u8], found: Option<Found>) -> bool {
         table::is_value(image, found)
     }
 }
@@ -375,7 +376,7 @@ impl Role for Declares {
 
     ghost here = { λ e. refl };
 
-    fn is_known(image: &[u8], found: Option<NodeId>) -> bool {
+    fn is_known(image: &[u8], found: Option<Found>) -> bool {
         table::is_var(image, found)
     }
 }

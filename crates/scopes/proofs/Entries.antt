@@ -38,7 +38,7 @@ use Rattle.typed.specs.Items.{Others, trees_of}
 use Rattle.typed.proofs.Lists.{Within, Taken, taken, begun, begun-row, none-left, row-short}
 use Rattle.table.specs.Layout.{table_length}
 use Rattle.table.specs.State.{Walked, own_symbol, marked}
-use Rattle.table.specs.Table.{find, find_from, mark}
+use Rattle.table.specs.Table.{Found, found_node, find, find_from, mark}
 use Rattle.table.proofs.Kept.{past, mark-past, mark-length, symbol-past}
 use Rattle.table.specs.declared.ScopeId.{ScopeId}
 use Rattle.environment.specs.Asked.{asked}
@@ -201,30 +201,27 @@ module _ (img : List ℕ) where
   decl-quiet is = quiet img refl is
 
   -- one name -------------------------------------------------------------------------------------------------------------
-  found_here : (n : ℕ) (e : Walked) (x : ℕ) (o : Option ℕ) → x ≡ name_of img n → o ≡ find_from img e.table.symbols e.table.words 0 e.scope x
-      → find img e.table e.scope (name_of img n) ≡ o
-  unfolding find
-  found_here n e x o q p = sym (p ∙ ap (find_from img e.table.symbols e.table.words 0 e.scope) q)
+  found_here : (n : ℕ) (e : Walked) {x : ℕ} {o : Option ℕ} → x ≡ name_of img n → find img e.table e.scope x ≡ o → find img e.table e.scope (name_of img n) ≡ o
+  found_here n e q p = ap (find img e.table e.scope) (sym q) ∙ p
 
-  enter-new : (n : ℕ) (e : Walked) (x : ℕ) → x ≡ name_of img n → nothing ≡ find_from img e.table.symbols e.table.words 0 e.scope x
-      → enter_name img n e ≡ done (own_symbol img n e)
+  enter-new : (n : ℕ) (e : Walked) (x : ℕ) → x ≡ name_of img n → find img e.table e.scope x ≡ nothing → enter_name img n e ≡ done (own_symbol img n e)
   unfolding enter_name named
-  enter-new n e x q p = ap (named img n e) (found_here n e x nothing q p)
+  enter-new n e x q p = ap (named img n e) (found_here n e q p)
 
-  enter-twice : (n : ℕ) (e : Walked) (x a : ℕ) → x ≡ name_of img n → some a ≡ find_from img e.table.symbols e.table.words 0 e.scope x
-      → enter_name img n e ≡ twice x a n
-  unfolding enter_name named
-  enter-twice n e x a q p = ap (named img n e) (found_here n e x (some a) q p) ∙ ap (λ (y : ℕ). twice y a n) (sym q)
+  enter-twice : (n : ℕ) (e : Walked) (x : ℕ) (a : Found) → x ≡ name_of img n → some a ≡ find_from img e.table.symbols e.table.words 0 e.scope x
+      → enter_name img n e ≡ twice x a.node n
+  unfolding enter_name named find
+  enter-twice n e x a q p = ap (named img n e) (found_here n e q (sym (ap found_node p))) ∙ ap (λ (y : ℕ). twice y a.node n) (sym q)
 
   module _ {seen env : List ℕ} {e : Walked} (p : Entering img seen env 1 e) (n x : ℕ) (name-is : Named img n x) where
     -- the scope does not have it: its stamp was not there, or no row is found
     pub free_new : {us : List ℕ} {b : Bool} → Stamped seen x e.scope b us → b ≡ true → find img e.table e.scope x ≡ nothing
     unfolding find
-    free_new t q = let (a, l, d) = t.new q in seen_none img x p.stamps l a
+    free_new t q = let (a, l, d) = t.new q in ap found_node (seen_none img x p.stamps l a)
 
     pub free-old : nothing ≡ find_from img e.table.symbols e.table.words 0 e.scope x → find img e.table e.scope x ≡ nothing
     unfolding find
-    free-old o = sym o
+    free-old o = ap found_node (sym o)
 
     pub few : e.table.symbols < nodes img
     few = let z = p.room in omega arith
@@ -233,7 +230,7 @@ module _ (img : List ℕ) where
         → Seen img us (own_symbol img n e) → Entered img (enter_name img n e) e.table.words (Ok tt) us en g
     unfolding own_symbol
     entered {us} {en} h q o s =
-        let d = enter-new n e x name-is.is (unfold find in sym h) in
+        let d = enter-new n e x name-is.is h in
         record {
           same = ap done q ∙ sym d;
           stamps = λ f t. subst (Seen img us) (done-same (own_symbol img n e) f (sym d ∙ t)) s;
@@ -261,10 +258,10 @@ module _ (img : List ℕ) where
         (seen-symbol img n e few p.long (λ k. ap (λ (m : ℕ). get_or seen m 0) (sym name-is.is) ∙ y) p.stamps))
 
     -- the scope has it
-    pub enters-twice : {us en : List ℕ} (t : SymbolDeclaredTwice) → t.name ≡ x → some t.first.0 ≡ find_from img e.table.symbols e.table.words 0 e.scope x → t.second.0 ≡ n
+    pub enters-twice : {us en : List ℕ} (f : Found) (t : SymbolDeclaredTwice) → t.name ≡ x → t.first.0 ≡ f.node → some f ≡ find_from img e.table.symbols e.table.words 0 e.scope x → t.second.0 ≡ n
         → Entered img (enter_name img n e) e.table.words (Err t) us en e
-    enters-twice t m o q =
-        let g = enter-twice n e x t.first.0 name-is.is o in
+    enters-twice f t m a o q =
+        let g = enter-twice n e x f name-is.is o ∙ ap (λ (y : ℕ). twice x y n) (sym a) in
         record {
           same = ap (λ (y : ℕ). twice y t.first.0 t.second.0) m ∙ ap (twice x t.first.0) q ∙ sym g;
           stamps = λ f d. absurd (twice-done x t.first.0 n f (sym g ∙ d));

@@ -6,17 +6,17 @@ use mathlib.Core.Option.{Option, none as nothing, some}
 use Prim.Native.Nat.{ℕ, zero, suc, ◌<◌, ◌≤◌}
 use native.Mathlib.Nat.{zero-add}
 use native.Mathlib.Omega.{arith}
-use lib.Dec.{T, leb, leb→le}
+use lib.Dec.{T, leb, leb→le, ltb→lt}
 use lib.ListN.{length, get_or}
 use Rattle.ast.specs.Answer.{Answer, refused, result, Fits}
 use Rattle.ast.specs.Image.{nodes, kind_at}
 use Rattle.ast.specs.Tests.{need, verdict}
 use Rattle.ast.proofs.Accepted.{both, needed, ran, sized}
 use Rattle.rows.specs.Rows.{Row}
-use Rattle.table.specs.Rising.{node_at}
+use Rattle.table.specs.Rising.{scope_of, node_at}
 use Rattle.sound.specs.Sound.{symbols_in, scopes_in, parent_below, row_sound, test_sound}
 use Rattle.table.specs.State.{Walked}
-use Rattle.table.specs.Table.{Table, symbol_of, lookup}
+use Rattle.table.specs.Table.{Table, Found, symbol_at, symbol_of, found}
 use Rattle.scopes.specs.Lookup.{test_lookup, symbol_answer, found_by, lookup_call}
 use Rattle.scopes.specs.Resolve.{test_table, walked, counted, Way, refuses, stops, fills, way, answer_by, table_call, resolve}
 use Rattle.scopes.specs.Calls.{test_rows, rows_call}
@@ -27,7 +27,7 @@ use Rattle.scopes.proofs.Namings.{symbol-below}
 use Rattle.scopes.proofs.Calls.{Went, went}
 use Rattle.scopes.proofs.Resolving.{walked-ended, table-accepted}
 use Rattle.ast.proofs.Refusals.{Low, first-low, need-low, run-low, verdict-low}
-use Rattle.table.proofs.Below.{climb-low}
+use Rattle.table.proofs.Below.{climb-row}
 use Rattle.scopes.proofs.Clashing.{twice-fits}
 
 -- refusals ---------------------------------------------------------------------------------------------------------------
@@ -100,32 +100,40 @@ unfolding symbol_of few
 symbol-few k = few-at (0 ∷ 0 ∷ 0 ∷ 1 ∷ 2 ∷ 3 ∷ 7 ∷ 4 ∷ 6 ∷ 5 ∷ 8 ∷ 0 ∷ 0 ∷ 9 ∷ []) tt k
 
 module _ (img tab : List ℕ) (s : ℕ) (passes : test_lookup img tab s ≡ 0) where
-  -- the table is sound: its rows' nodes are below N
-  nodes-low : (j : ℕ) → j < symbols_in img tab → node_at (nodes img) tab j < nodes img
+  -- the table is sound: its rows' nodes are below N, and their scopes below K, which is not above N
+  abbrev Low_symbol : Found → Type 0
+  Low_symbol f = (f.node < nodes img) × (f.scope < nodes img)
+
+  rows_low : (j : ℕ) → j < symbols_in img tab → Low_symbol (symbol_at img tab j)
   unfolding test_lookup test_sound row_sound
-  nodes-low j h =
+  rows_low j h =
       let sound = (both _ _ (both _ _ passes).1).0 in
-      let rows = (both _ _ (both _ _ (both _ _ (both _ _ (both _ _ (both _ _ sound).1).1).1).1).1).1 in
-      let each = subst (λ (i : ℕ). row_sound img tab i ≡ 0) (zero-add j) (ran (row_sound img tab) (symbols_in img tab) 0 rows j h) in
-      symbol-below img (node_at (nodes img) tab j) (true-is _ (needed 15 _ (both _ _ each).1))
+      let few = both _ _ (both _ _ (both _ _ sound).1).1 in
+      let rows = (both _ _ (both _ _ (both _ _ few.1).1).1).1 in
+      let each = both _ _ (subst (λ (i : ℕ). row_sound img tab i ≡ 0) (zero-add j) (ran (row_sound img tab) (symbols_in img tab) 0 rows j h)) in
+      let within = leb→le (scopes_in img tab) (nodes img) (needed 15 _ few.0) in
+      let inside = ltb→lt (scope_of (nodes img) tab j) (scopes_in img tab) (needed 15 _ each.0) in
+      (symbol-below img (node_at (nodes img) tab j) (true-is _ (needed 15 _ each.1)), omega arith)
 
   accepted-by : verdict img ≡ 0
   unfolding test_lookup
   accepted-by = table-accepted img tab (both _ _ passes).0
 
-  symbol-fits : (o : Option ℕ) → ((n : ℕ) → o ≡ some n → n < nodes img) → Fits (symbol_answer img o)
+  symbol-fits : (o : Option Found) → ((f : Found) → o ≡ some f → Low_symbol f) → Fits (symbol_answer img o)
   unfolding symbol_answer Fits
-  symbol-fits nothing f = (omega arith, omega arith)
-  symbol-fits (some n) f =
-      let l = f n refl in
+  symbol-fits nothing h = (omega arith, omega arith)
+  symbol-fits (some f) h =
+      let l = h f refl in
       let d = sized img accepted-by in
-      let a = symbol-few (kind_at img n) in
-      (omega arith, omega arith)
+      let a = symbol-few (kind_at img f.node) in
+      (omega arith, omega arith, omega arith)
 
-  found-low : (o : Option ℕ) (n : ℕ) → found_by img tab s o ≡ some n → n < nodes img
-  unfolding found_by lookup
-  found-low nothing n e = absurd (let z : ◌≡◌ {A = ℕ} 0 1 = cc in omega arith)
-  found-low (some x) n e = climb-low img (record { words = tab; scopes = scopes_in img tab; symbols = symbols_in img tab }) nodes-low (suc s) s x n e
+  found-low : (o : Option ℕ) (f : Found) → found_by img tab s o ≡ some f → Low_symbol f
+  unfolding found_by found
+  found-low nothing f e = absurd (let z : ◌≡◌ {A = ℕ} 0 1 = cc in omega arith)
+  found-low (some x) f e =
+      let r = climb-row img tab (suc s) (symbols_in img tab) s x f e in
+      subst Low_symbol r.is (rows_low r.row r.within)
 
 pub lookup-fits : (img tab : List ℕ) (s : ℕ) (bs : List ℕ) → Fits (lookup_call img tab s bs)
 unfolding lookup_call

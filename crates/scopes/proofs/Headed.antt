@@ -1,6 +1,6 @@
 -- The table with its three counts in front: lookups, entries and exits are as before, and what was noted tells the same; and what a
 -- call finds in it.
-use mathlib.Core.Path.{◌≡◌, refl, sym, ap, subst, ◌∙◌}
+use mathlib.Core.Path.{◌≡◌, refl, sym, ap, ap₂, subst, ◌∙◌}
 use mathlib.Core.List.{List}
 use mathlib.Core.Option.{some}
 use Prim.Native.Nat.{ℕ, zero, suc, ◌<◌}
@@ -12,7 +12,7 @@ use Rattle.ast.specs.Tests.{verdict}
 use Rattle.table.specs.Layout.{entry_place, exit_place, parent_place, scope_place, node_place}
 use Rattle.table.specs.Rising.{node_at}
 use Rattle.table.specs.State.{Walked}
-use Rattle.table.specs.Table.{Table, find, lookup, entry_at, exit_at}
+use Rattle.table.specs.Table.{Table, found_node, held, found, lookup, entry_at, exit_at}
 use Rattle.table.proofs.Frames.{from-same}
 use Rattle.environment.specs.Layout.{noted_entry, noted_exit}
 use Rattle.environment.specs.Stands.{told, Tells, Noted}
@@ -23,18 +23,22 @@ use Rattle.scopes.specs.declared.Resolved.{Resolved}
 use Rattle.scopes.proofs.Calls.{Went, went}
 use Rattle.scopes.proofs.Namings.{symbol-below}
 use Rattle.scopes.proofs.Resolving.{table-accepted, walked-ended, headed-word}
-use Rattle.table.proofs.Agreed.{lookup-agree}
+use Rattle.table.proofs.Agreed.{found-agree}
 
 module _ (img : List ℕ) (t : Table) where
-  pub headed-lookup : (s x : ℕ) → lookup img t s x ≡ lookup img (counted img t) s x
-  unfolding find
-  headed-lookup s x =
-      lookup-agree img (suc s) t (counted img t) s x (omega arith)
+  headed-found : (s x : ℕ) → found img t s x ≡ found img (counted img t) s x
+  unfolding held
+  headed-found s x =
+      found-agree img (suc s) t (counted img t) s x (omega arith)
       (λ r h. (
         (λ y. from-same img t.symbols t.words (headed img t) 0 r y
             (record { scopes = λ i l. sym (headed-word img t (scope_place (nodes img) i) (omega arith)); nodes = λ i l. sym (headed-word img t (node_place (nodes img) i) (omega arith)) })),
         sym (headed-word img t (parent_place (nodes img) r) (omega arith)),
       ))
+
+  pub headed-lookup : (s x : ℕ) → lookup img t s x ≡ lookup img (counted img t) s x
+  unfolding lookup
+  headed-lookup s x = ap found_node (headed-found s x)
 
   pub headed-entry : (n : ℕ) → entry_at img t.words n ≡ entry_at img (headed img t) n
   headed-entry n = sym (headed-word img t (entry_place (nodes img) n) (omega arith))
@@ -45,18 +49,19 @@ module _ (img : List ℕ) (t : Table) where
   headed-told : (w : ℕ) → told img (headed img t) w ≡ told img t.words w
   unfolding told
   headed-told zero = refl
-  headed-told (suc j) = ap some (headed-word img t (node_place (nodes img) j) (omega arith))
+  headed-told (suc j) =
+      ap₂ (λ (m a : ℕ). some (record { node = m; scope = a })) (headed-word img t (node_place (nodes img) j) (omega arith)) (headed-word img t (scope_place (nodes img) j) (omega arith))
 
-  headed-tells : {w : ℕ} (s x : ℕ) → Tells img t w (lookup img t s x) → Tells img (counted img t) w (lookup img (counted img t) s x)
-  headed-tells {w} s x h = record { row = h.row; is = headed-told w ∙ h.is ∙ headed-lookup s x }
+  headed-tells : {w : ℕ} (s x : ℕ) → Tells img t w (found img t s x) → Tells img (counted img t) w (found img (counted img t) s x)
+  headed-tells {w} s x h = record { row = h.row; is = headed-told w ∙ h.is ∙ headed-found s x }
 
   pub headed-noted : {env : List ℕ} → Noted img t env → Noted img (counted img t) env
   headed-noted {env} h =
       record {
         sized = h.sized;
         outer = λ x l. headed-tells 0 x (h.outer x l);
-        entries = λ n x l a p. subst (λ (s : ℕ). Tells img (counted img t) (noted_entry env n) (lookup img (counted img t) s x)) (headed-entry n) (headed-tells (entry_at img t.words n) x (h.entries n x l a (let z = headed-entry n in omega arith)));
-        exits = λ n x l a p. subst (λ (s : ℕ). Tells img (counted img t) (noted_exit env n) (lookup img (counted img t) s x)) (headed-exit n) (headed-tells (exit_at img t.words n) x (h.exits n x l a (let z = headed-exit n in omega arith)));
+        entries = λ n x l a p. subst (λ (s : ℕ). Tells img (counted img t) (noted_entry env n) (found img (counted img t) s x)) (headed-entry n) (headed-tells (entry_at img t.words n) x (h.entries n x l a (let z = headed-entry n in omega arith)));
+        exits = λ n x l a p. subst (λ (s : ℕ). Tells img (counted img t) (noted_exit env n) (found img (counted img t) s x)) (headed-exit n) (headed-tells (exit_at img t.words n) x (h.exits n x l a (let z = headed-exit n in omega arith)));
       }
 
 -- what a call finds in a table that it has filled

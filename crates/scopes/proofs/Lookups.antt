@@ -14,7 +14,7 @@ use Rattle.std.specs.Prelude.{Option as Given, Result, Ok, Err, IsErrAnd}
 use Rattle.ast.specs.Image.{nodes, kind_at}
 use Rattle.ast.specs.Kinds.{Kind, kinds, kind_of}
 use Rattle.ast.specs.Tests.{verdict}
-use Rattle.ast.specs.Answer.{refused, result, other}
+use Rattle.ast.specs.Answer.{refused, located, other}
 use Rattle.ast.proofs.Accepted.{both, needed, ran, skip}
 use Rattle.ast.proofs.Bools.{true-is}
 use Rattle.ast.proofs.ByKind.{low-kind}
@@ -24,7 +24,7 @@ use Rattle.error.specs.Refusals.{refusal_number}
 use Rattle.error.specs.declared.Refusal.{Refusal}
 use Rattle.table.specs.Layout.{table_length}
 use Rattle.table.specs.Rising.{node_at}
-use Rattle.table.specs.Table.{lookup, climb, symbol_of, declares}
+use Rattle.table.specs.Table.{Found, found, climb, symbol_of, declares}
 use Rattle.table.proofs.Below.{climb-row}
 use Rattle.sound.specs.Sound.{has_name, is_symbol, scopes_in, symbols_in, row_sound, test_sound}
 use Rattle.sound.proofs.Sounds.{halt}
@@ -112,20 +112,20 @@ module _ (img tab : List ℕ) (s : ℕ) (passed : 0 ≡ test_lookup img tab s) w
       let c = and_parts (ltb n (nodes img)) (named (has_name img n) (kind_at img n)) h in
       named-declares (has_name img n) (kind_at img n) (low-kind img (lookup-accepted img tab s passed) n (ltb→lt n (nodes img) (subst T (sym c.0) tt))) c.1
 
-  pub looked-declares : {y n k : ℕ} (x : ℕ) → y ≡ symbols_in img tab → some n ≡ climb img (suc s) tab y s x → k ≡ kind_at img n → declares k ≡ true
-  looked-declares {y} {n} x q h e =
-      let r = climb-row img tab (suc s) y s x n (sym h) in
-      ap declares e ∙ symbol-declares n (subst (λ (m : ℕ). is_symbol img m ≡ true) r.node (row-symbol r.row (let z = r.within in omega arith)))
+  pub looked-declares : {y k : ℕ} (f : Found) (x : ℕ) → y ≡ symbols_in img tab → some f ≡ climb img (suc s) tab y s x → k ≡ kind_at img f.node → declares k ≡ true
+  looked-declares {y} f x q h e =
+      let r = climb-row img tab (suc s) y s x f (sym h) in
+      ap declares e ∙ symbol-declares f.node (subst (λ (g : Found). is_symbol img g.node ≡ true) r.is (row-symbol r.row (let z = r.within in omega arith)))
 
 -- the answer ----------------------------------------------------------------------------------------------------------
 module _ (img tab : List ℕ) (s : ℕ) where
-  pub found_at : (x y n k t : ℕ) → y ≡ symbols_in img tab → some n ≡ climb img (suc s) tab y s x → k ≡ kind_at img n → t ≡ symbol_of k
-      → result t n ≡ symbol_answer img (found_by img tab s (some x))
-  unfolding symbol_answer found_by lookup
-  found_at x y n k t e f g h = rw (h, g) (ap (symbol_answer img) (f ∙ ap (λ c. climb img (suc s) tab c s x) e))
+  pub found_at : (x y k t : ℕ) (l : Found) → y ≡ symbols_in img tab → some l ≡ climb img (suc s) tab y s x → k ≡ kind_at img l.node → t ≡ symbol_of k
+      → located l.scope t l.node ≡ symbol_answer img (found_by img tab s (some x))
+  unfolding symbol_answer found_by found
+  found_at x y k t l e f g h = rw (h, g) (ap (symbol_answer img) (f ∙ ap (λ c. climb img (suc s) tab c s x) e))
 
   pub found_none : (x y : ℕ) → y ≡ symbols_in img tab → none ≡ climb img (suc s) tab y s x → other 0 0 ≡ symbol_answer img (found_by img tab s (some x))
-  unfolding symbol_answer found_by lookup
+  unfolding symbol_answer found_by found
   found_none x y e f = ap (symbol_answer img) (f ∙ ap (λ c. climb img (suc s) tab c s x) e)
 
   module _ (bs : List ℕ) (k : ℕ) (tests-are : k ≡ test_lookup img tab s) where

@@ -1,6 +1,6 @@
 -- What the calls hand back: document 01's numbers and values for every case of the code's results.
 use Rattle.std.specs.Prelude.{◌≡◌, List, ℕ, Option, Some, None, Result, Ok, Err}
-use Rattle.ast.specs.Answer.{Answer, refused, result, other}
+use Rattle.ast.specs.Answer.{Answer, refused, result, located, other}
 use Rattle.error.specs.Refusals.{refusal_number, unresolved_answer}
 use Rattle.error.specs.declared.Refusal.{Refusal}
 use Rattle.error.specs.declared.SymbolDeclaredTwice.{SymbolDeclaredTwice}
@@ -35,8 +35,8 @@ pub record Resolves (img tab : List ℕ) (r : Result Resolved SymbolDeclaredTwic
   pub way_is : resolved_way r ws ≡ way img tab 0
   pub table_is : ws ≡ table_by img tab (way img tab 0)
 
--- Lookup: a symbol number with its node, or none
+-- Lookup: the scope that holds the symbol, its number and its node, or none
 abbrev pub looked_answer : Result (Option Looked) Refusal → Answer
-looked_answer (Ok (Some l)) = result (number_of l.symbol) l.node.0
+looked_answer (Ok (Some l)) = located l.scope.0 (number_of l.symbol) l.node.0
 looked_answer (Ok None) = other 0 0
 looked_answer (Err r) = refused (refusal_number r)

@@ -26,15 +26,16 @@ use std::marker::Model;
 use table::{NO_SCOPE, ScopeId, Symbol};
 use typed::nodes::*;
 
-// What Lookup finds: the symbol of a name, and its node. C is handed number and node: ten cases with ids would be taken apart again
-// at once.
+// What Lookup finds: the symbol of a name, its node, and the scope that holds it. C is handed number and node: ten cases with ids
+// would be taken apart again at once.
 #[derive(Clone, Copy, Debug, PartialEq, Eq)]
 pub struct Looked {
     pub symbol: Symbol,
     pub node: NodeId,
+    pub scope: ScopeId,
 }
 
-// Lookup: the symbol of a name given by its bytes.
+// Lookup: the symbol of a name given by its bytes, and the scope that holds it.
 pub fn lookup(
     image: &[u8],
     table: &[u32],
@@ -73,9 +74,13 @@ fn lookup_number(image: &[u8], table: &[u32], scope: ScopeId, name: u32) -> Opti
     ensures { looked_answer (Ok result) ≡ LookupSpec.symbol_answer image.now (LookupSpec.found_by image.now table.now scope.0 (some name)) }
 {
     let symbols = table::get(table, table::SYMBOLS_PLACE);
-    let node = table::lookup(image, table, symbols, scope, name)?;
-    let symbol = table::symbol_of(ast::kind_at(image, node))?;
-    Some(Looked { symbol, node })
+    let found = table::lookup(image, table, symbols, scope, name)?;
+    let symbol = table::symbol_of(ast::kind_at(image, found.node))?;
+    Some(Looked {
+        symbol,
+        node: found.node,
+        scope: found.scope,
+    })
 }
 
 // What Resolve hands back: K and Y.
@@ -230,7 +235,7 @@ fn insert_decl_symbol(
         if let Some(first) = builder.find(current, name) {
             return Err(SymbolDeclaredTwice {
                 name,
-                first,
+                first: first.node,
                 second: id,
             });
         }

@@ -15,8 +15,8 @@ use Rattle.ast.proofs.Declarations.{or_else-none, or_else-assoc, earliest-append
 use Rattle.ast.proofs.Unfold.{All, nil, cons, All-append}
 use Rattle.table.specs.Rising.{parent_at}
 use Rattle.table.specs.State.{Walked, child_scope, own_symbol, marked, back}
-use Rattle.table.specs.Table.{Table, find, is_kind, entry_at, exit_at}
-use Rattle.table.proofs.Frames.{find-mark}
+use Rattle.table.specs.Table.{Table, held, find, is_kind, entry_at, exit_at}
+use Rattle.table.proofs.Frames.{held-mark, find-mark}
 use Rattle.ordered.specs.Walk.{occurs, walk_seq}
 use Rattle.scopes.specs.Walk.{done, recorded_all, enter_name, and_then, enter_names, mark_all, enter_all, visit, visit_all}
 use Rattle.table.specs.Kept.{Kept}
@@ -25,7 +25,7 @@ use Rattle.ordered.proofs.Moves.{numbers_seq}
 use Rattle.scopes.proofs.Adds.{named, done-same, twice-done, and-inv}
 use Rattle.sight.specs.Sight.{In}
 use Rattle.ast.specs.Rules.{Rule, says_all, rules, rules_all}
-use Rattle.table.proofs.Frame.{name-find-other, name-find, name-parent, name-exit, name-entry, mark-parent, mark-exit, mark-entry}
+use Rattle.table.proofs.Frame.{name-held-other, name-find, name-parent, name-exit, name-entry, mark-parent, mark-exit, mark-entry}
 use Rattle.sight.proofs.Steps.{Bodies}
 
 -- the nodes that visiting marks
@@ -151,7 +151,7 @@ module _ (img : List ℕ) where
 
   pub record Entered (s : ℕ) (ns ds : List ℕ) (t t' : Table) : Type 0 where
     pub sane : Kept img t'
-    pub others : (r x : ℕ) → r ≢ s → find img t' r x ≡ find img t r x
+    pub others : (r x : ℕ) → r ≢ s → held img t' r x ≡ held img t r x
     pub here : (x : ℕ) → find img t' s x ≡ or_else (find img t s x) (earliest (name_of img) ds x)
     pub parents : (r : ℕ) → r < nodes img → parent_at (nodes img) t'.words r ≡ parent_at (nodes img) t.words r
     pub exits : (m : ℕ) → m < nodes img → (In m ns → ⊥) → exit_at img t'.words m ≡ exit_at img t.words m
@@ -178,7 +178,7 @@ module _ (img : List ℕ) where
       let f = entering v b (λ m j. sm m (inr j)) (mark-kept img n s s t l so) i in
       record {
         sane = f.sane;
-        others = λ r x h. f.others r x h ∙ find-mark img n s s t l r x;
+        others = λ r x h. f.others r x h ∙ held-mark img n s s t l r x;
         here = λ x. f.here x ∙ ap (λ o. or_else o (earliest (name_of img) ds x)) (find-mark img n s s t l s x);
         parents = λ r k. f.parents r k ∙ mark-parent img n s s t l r;
         exits = λ m k h. f.exits m k (λ j. h (inr j)) ∙ mark-exit img n s s t l m k (λ q. h (inl q));
@@ -192,7 +192,7 @@ module _ (img : List ℕ) where
       let f = entering v b sm (symbol-kept img s n t (omega arith) i so) i in
       record {
         sane = f.sane;
-        others = λ r x k. f.others r x k ∙ name-find-other img s n t so (omega arith) r x k;
+        others = λ r x k. f.others r x k ∙ name-held-other img s n t so (omega arith) r x k;
         here = λ x.
             f.here x ∙ ap (λ o. or_else o (earliest (name_of img) ds x)) (name-find img s n t so (omega arith) x)
             ∙ or_else-assoc (find img t s x) (earliest (name_of img) (n ∷ []) x) (earliest (name_of img) ds x)

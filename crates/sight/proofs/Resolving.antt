@@ -10,7 +10,7 @@ use Rattle.ast.specs.Tests.{verdict}
 use Rattle.ast.specs.Tree.{Tree}
 use Rattle.table.specs.Layout.{table_length}
 use Rattle.table.specs.State.{Walked}
-use Rattle.table.specs.Table.{climb, lookup}
+use Rattle.table.specs.Table.{found_node, climb, lookup}
 use Rattle.scopes.specs.Resolve.{test_table, zeroed, walked, headed, counted}
 use Rattle.scopes.specs.Walk.{done, resolve_tree}
 use Rattle.scopes.proofs.Resolving.{Ended, walk-ended, walked-ended, zeroed-long, headed-scopes, headed-symbols}
@@ -36,7 +36,7 @@ module _ (img tab : List ℕ) (e : Walked) (accepted : verdict img ≡ 0) (done-
   pub left-lookup : (s x : ℕ) → lookup img (table_in img (headed img e.table)) s x ≡ lookup img (counted img e.table) s x
   unfolding lookup
   left-lookup s x =
-      ap (λ (y : ℕ). climb img (suc s) (headed img e.table) y s x) (headed-symbols img e.table (let z = ended.long in let l = zeroed-long img tab in omega arith))
+      ap (λ (y : ℕ). found_node (climb img (suc s) (headed img e.table) y s x)) (headed-symbols img e.table (let z = ended.long in let l = zeroed-long img tab in omega arith))
 
 -- the table that a call leaves, as Lookup reads it, is the one that the walk ended with
 pub left-table : (img tab : List ℕ) → test_table img tab ≡ 0 → {e : Walked} → walked img tab ≡ done e → table_in img (headed img e.table) ≡ counted img e.table

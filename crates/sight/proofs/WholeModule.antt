@@ -17,7 +17,7 @@ use Rattle.table.specs.Layout.{all_ones, table_length}
 use Rattle.table.specs.Rising.{parent_at}
 use Rattle.table.specs.State.{Walked, child_scope, marked}
 use Rattle.table.specs.Table.{Table, mark, new_scope, find, lookup, is_kind, entry_at, exit_at}
-use Rattle.table.proofs.Frames.{find-mark, find-scope}
+use Rattle.table.proofs.Frames.{held-mark, find-mark, held-scope}
 use Rattle.ordered.specs.Walk.{occurs, walk_seq}
 use Rattle.scopes.specs.Walk.{done, recorded_all, enter_all, visit_all, resolve_tree}
 use Rattle.table.specs.Kept.{Kept}
@@ -159,7 +159,7 @@ module _ (img : List ℕ) where
     list-agree : Agree img K t t'
     unfolding new_scope
     list-agree r l = (
-      (λ x. sym (en.others r x (omega arith) ∙ find-mark img n K K t₀ n<N r x ∙ find-scope img s t K<N r x)),
+      (λ x. sym (en.others r x (omega arith) ∙ held-mark img n K K t₀ n<N r x ∙ held-scope img s t K<N r x)),
       sym (en.parents r (omega arith) ∙ mark-parent img n K K t₀ n<N r ∙ child-parent-other img s t so K<N r l),
     )
 

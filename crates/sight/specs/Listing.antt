@@ -2,7 +2,7 @@
 -- row is the first lone one, and the table in which a binding is looked up.
 use Rattle.std.specs.Prelude.{◌≡◌, ◌⊎◌, List, [], ◌∷◌, ◌++◌, ℕ, ◌≤◌, ◌<◌}
 use Rattle.std.proofs.Math.Option.{Option, some}
-use Rattle.ast.specs.Answer.{Answer, refused, twice, result, other}
+use Rattle.ast.specs.Answer.{Answer, refused, twice, result, located, other}
 use Rattle.ast.specs.Named.{term_kind}
 use Rattle.ast.specs.Image.{kind_at, name_of}
 use Rattle.rows.specs.Rows.{Row, row}
@@ -109,4 +109,5 @@ abbrev pub Unrefused : Answer → Type 0
 Unrefused (refused number) = ⊥
 Unrefused (twice name first second) = Unit {0}
 Unrefused (result a b) = Unit {0}
+Unrefused (located scope symbol node) = Unit {0}
 Unrefused (other a b) = Unit {0}

@@ -6,7 +6,7 @@ use Rattle.ast.specs.Kinds.{kind_of}
 use Rattle.ast.specs.Rows.{ones, numbers, ops_from, after_blocks, block_kids, block_counts, after, field_kids, field_shape, after_fields, fields_kids, fields_shape, fields_at, row_end, kids, shape, kids_to}
 use Rattle.ast.specs.Tree.{swap, swaps, ordered, grow_all, grow, class_at, tree_to, tree_at}
 use Rattle.ast.specs.Tests.{◌▸◌, need, run, is, times, same, test_sizes, test_names, in_row, is_child, child_word, test_blocks, test_field, test_fields, end_before, test_node, test_parents, first, is_var, test_var, test_tree, verdict}
-use Rattle.table.specs.Table.{symbol_of, mark_words, mark, new_scope, new_symbol, row_is, find_from, climb, find, lookup, is_kind, is_value}
+use Rattle.table.specs.Table.{symbol_of, mark_words, mark, new_scope, new_symbol, row_is, find_from, climb, held, found, find, lookup, is_kind, is_value}
 use Rattle.table.specs.State.{child_scope, own_symbol, introduce, marked, unmarked}
 use Rattle.ordered.specs.Walk.{walk_ident, head_role, walk_arg, walk, walk_seq, walk_first}
 use Rattle.scopes.specs.Walk.{enter_name, and_then, resolve_tree, enter_all, visit, visit_all, recorded, recorded_all, enter_names, mark_all}
@@ -26,7 +26,7 @@ use Rattle.occurrences.specs.Occurrences.{listed, rows_for, rule_rows, all_rows,
 use Rattle.ast.specs.Declarations.{rule_node, declared, declared_all, model_lists, model_lists_all, module_lists, earliest}
 use Rattle.starred.specs.Encode.{bytes_of, kinds_of, starts_of, words_of, ends_of, joined, encode}
 use Rattle.lines.specs.Report.{lent_table, lent_rows}
-use Rattle.ast.specs.Answer.{Answer, refused, result, other}
+use Rattle.ast.specs.Answer.{Answer, refused, result, located, other}
 use Rattle.starred.specs.Starred.{if_equal, enum_twice, model_list, repeated_args}
 
 -- a table that Resolve leaves
@@ -35,6 +35,9 @@ left img = (resolve img lent_table).table
 
 abbrev x : List ℕ
 x = 120 ∷ []
+
+abbrev p : List ℕ
+p = 112 ∷ []
 
 -- a call's answer, and what it is to be
 pub record Asked : Type 0 where
@@ -47,10 +50,14 @@ asked a w = record { answer = a; wanted = w }
 abbrev calls : List Asked
 calls =
     -- x in the rule's scope, in the module's, in no scope; a name that the image has not
-    asked (lookup_call (encode if_equal) (left (encode if_equal)) 1 x) (result 9 0)
+    asked (lookup_call (encode if_equal) (left (encode if_equal)) 1 x) (located 1 9 0)
     ∷ asked (lookup_call (encode if_equal) (left (encode if_equal)) 0 x) (other 0 0)
     ∷ asked (lookup_call (encode if_equal) (left (encode if_equal)) 2 x) (refused 17)
     ∷ asked (lookup_call (encode if_equal) (left (encode if_equal)) 1 (121 ∷ [])) (other 0 0)
+    -- p in the model's scope, which has its own, and in the module's; the model's name, asked for in its own scope, is the module's
+    ∷ asked (lookup_call (encode model_list) (left (encode model_list)) 1 p) (located 1 1 4)
+    ∷ asked (lookup_call (encode model_list) (left (encode model_list)) 0 p) (located 0 1 1)
+    ∷ asked (lookup_call (encode model_list) (left (encode model_list)) 1 (77 ∷ [])) (located 0 6 6)
     -- a table too short, one with another N, one whose first parent is a scope, one whose symbol is no named node
     ∷ asked (lookup_call (encode if_equal) (take 57 (left (encode if_equal))) 1 x) (refused 13)
     ∷ asked (lookup_call (encode if_equal) (set (left (encode if_equal)) 0 12) 1 x) (refused 16)
@@ -68,14 +75,14 @@ AsWanted [] = Unit {0}
 AsWanted (c ∷ cs) = (c.answer ≡ c.wanted) × AsWanted cs
 
 computed : AsWanted calls
-unfolding word nodes kind_at start_at op_at field name_of operands names bytes last name_end name_start name_bytes kind_of ones numbers ops_from after_blocks block_kids block_counts after field_kids field_shape after_fields fields_kids fields_shape fields_at row_end kids shape kids_to swap swaps ordered grow_all grow class_at tree_to tree_at ◌▸◌ need run is times same test_sizes test_names in_row is_child child_word test_blocks test_field test_fields end_before test_node test_parents first is_var test_var test_tree verdict symbol_of mark_words mark new_scope new_symbol row_is find_from climb find lookup is_kind is_value child_scope own_symbol introduce marked unmarked walk_ident head_role walk_arg walk walk_seq walk_first enter_name and_then resolve_tree enter_all visit visit_all test_table zeroed walked headed way_of way answer_by table_by table_call resolve has_name is_symbol parent_below row_sound test_sound number_from number_of test_lookup symbol_answer found_by lookup_call lefts rights filled written cleared test_rows rows_by rows_call among repeats declared_twice when same_node asks_for introduces introduced_row defined_row defined_rows arg_row arg_rows list_rows is_ctor app_rows pattern_rows plain_rows args_of repeated repeated_in repeated_to strict_from strict_rows is_strict error_rows test_errors errors rows_of rows_seq rows_first rows_defined decl_rows decls_rows add opened head_sort rule_places rule_spots rules_of module_rules outer_const place place_seq place_then place_first spots spots_seq spots_back spots_first rules rules_all listed rows_for rule_rows all_rows occurrence_rows times_bound lone_in lone rows_by_rule lone_answer occurrences once bytes_of kinds_of starts_of words_of ends_of joined encode recorded recorded_all enter_names mark_all some_repeats rule_node declared declared_all model_lists model_lists_all module_lists earliest
-computed = (refl, (refl, (refl, (refl, (refl, (refl, (refl, (refl, (refl, (refl, (refl, (refl, tt))))))))))))
+unfolding word nodes kind_at start_at op_at field name_of operands names bytes last name_end name_start name_bytes kind_of ones numbers ops_from after_blocks block_kids block_counts after field_kids field_shape after_fields fields_kids fields_shape fields_at row_end kids shape kids_to swap swaps ordered grow_all grow class_at tree_to tree_at ◌▸◌ need run is times same test_sizes test_names in_row is_child child_word test_blocks test_field test_fields end_before test_node test_parents first is_var test_var test_tree verdict symbol_of mark_words mark new_scope new_symbol row_is find_from climb held found find lookup is_kind is_value child_scope own_symbol introduce marked unmarked walk_ident head_role walk_arg walk walk_seq walk_first enter_name and_then resolve_tree enter_all visit visit_all test_table zeroed walked headed way_of way answer_by table_by table_call resolve has_name is_symbol parent_below row_sound test_sound number_from number_of test_lookup symbol_answer found_by lookup_call lefts rights filled written cleared test_rows rows_by rows_call among repeats declared_twice when same_node asks_for introduces introduced_row defined_row defined_rows arg_row arg_rows list_rows is_ctor app_rows pattern_rows plain_rows args_of repeated repeated_in repeated_to strict_from strict_rows is_strict error_rows test_errors errors rows_of rows_seq rows_first rows_defined decl_rows decls_rows add opened head_sort rule_places rule_spots rules_of module_rules outer_const place place_seq place_then place_first spots spots_seq spots_back spots_first rules rules_all listed rows_for rule_rows all_rows occurrence_rows times_bound lone_in lone rows_by_rule lone_answer occurrences once bytes_of kinds_of starts_of words_of ends_of joined encode recorded recorded_all enter_names mark_all some_repeats rule_node declared declared_all model_lists model_lists_all module_lists earliest
+computed = (refl, (refl, (refl, (refl, (refl, (refl, (refl, (refl, (refl, (refl, (refl, (refl, (refl, (refl, (refl, tt)))))))))))))))
 
 -- row 4 stands at the second argument
 strict : take 21 (errors (encode repeated_args) lent_table lent_rows 2).rows ≡ 1 ∷ 4 ∷ 0 ∷ 0 ∷ 0 ∷ 0 ∷ 0 ∷ 0 ∷ 0 ∷ 0 ∷ 0 ∷ 5 ∷ 0 ∷ 0 ∷ 0 ∷ 0 ∷ 0 ∷ 0 ∷ 0 ∷ 0 ∷ 0 ∷ []
-unfolding word nodes kind_at start_at op_at field name_of operands names bytes last name_end name_start name_bytes kind_of ones numbers ops_from after_blocks block_kids block_counts after field_kids field_shape after_fields fields_kids fields_shape fields_at row_end kids shape kids_to swap swaps ordered grow_all grow class_at tree_to tree_at ◌▸◌ need run is times same test_sizes test_names in_row is_child child_word test_blocks test_field test_fields end_before test_node test_parents first is_var test_var test_tree verdict symbol_of mark_words mark new_scope new_symbol row_is find_from climb find lookup is_kind is_value child_scope own_symbol introduce marked unmarked walk_ident head_role walk_arg walk walk_seq walk_first enter_name and_then resolve_tree enter_all visit visit_all test_table zeroed walked headed way_of way answer_by table_by table_call resolve has_name is_symbol parent_below row_sound test_sound number_from number_of test_lookup symbol_answer found_by lookup_call lefts rights filled written cleared test_rows rows_by rows_call among repeats declared_twice when same_node asks_for introduces introduced_row defined_row defined_rows arg_row arg_rows list_rows is_ctor app_rows pattern_rows plain_rows args_of repeated repeated_in repeated_to strict_from strict_rows is_strict error_rows test_errors errors rows_of rows_seq rows_first rows_defined decl_rows decls_rows add opened head_sort rule_places rule_spots rules_of module_rules outer_const place place_seq place_then place_first spots spots_seq spots_back spots_first rules rules_all listed rows_for rule_rows all_rows occurrence_rows times_bound lone_in lone rows_by_rule lone_answer occurrences once bytes_of kinds_of starts_of words_of ends_of joined encode recorded recorded_all enter_names mark_all some_repeats rule_node declared declared_all model_lists model_lists_all module_lists earliest
+unfolding word nodes kind_at start_at op_at field name_of operands names bytes last name_end name_start name_bytes kind_of ones numbers ops_from after_blocks block_kids block_counts after field_kids field_shape after_fields fields_kids fields_shape fields_at row_end kids shape kids_to swap swaps ordered grow_all grow class_at tree_to tree_at ◌▸◌ need run is times same test_sizes test_names in_row is_child child_word test_blocks test_field test_fields end_before test_node test_parents first is_var test_var test_tree verdict symbol_of mark_words mark new_scope new_symbol row_is find_from climb held found find lookup is_kind is_value child_scope own_symbol introduce marked unmarked walk_ident head_role walk_arg walk walk_seq walk_first enter_name and_then resolve_tree enter_all visit visit_all test_table zeroed walked headed way_of way answer_by table_by table_call resolve has_name is_symbol parent_below row_sound test_sound number_from number_of test_lookup symbol_answer found_by lookup_call lefts rights filled written cleared test_rows rows_by rows_call among repeats declared_twice when same_node asks_for introduces introduced_row defined_row defined_rows arg_row arg_rows list_rows is_ctor app_rows pattern_rows plain_rows args_of repeated repeated_in repeated_to strict_from strict_rows is_strict error_rows test_errors errors rows_of rows_seq rows_first rows_defined decl_rows decls_rows add opened head_sort rule_places rule_spots rules_of module_rules outer_const place place_seq place_then place_first spots spots_seq spots_back spots_first rules rules_all listed rows_for rule_rows all_rows occurrence_rows times_bound lone_in lone rows_by_rule lone_answer occurrences once bytes_of kinds_of starts_of words_of ends_of joined encode recorded recorded_all enter_names mark_all some_repeats rule_node declared declared_all model_lists model_lists_all module_lists earliest
 strict = refl
 
 twices : declared_twice (encode enum_twice) ∷ declared_twice (encode model_list) ∷ declared_twice (encode repeated_args) ∷ [] ≡ true ∷ false ∷ false ∷ []
-unfolding word nodes kind_at start_at op_at field name_of operands names bytes last name_end name_start name_bytes kind_of ones numbers ops_from after_blocks block_kids block_counts after field_kids field_shape after_fields fields_kids fields_shape fields_at row_end kids shape kids_to swap swaps ordered grow_all grow class_at tree_to tree_at ◌▸◌ need run is times same test_sizes test_names in_row is_child child_word test_blocks test_field test_fields end_before test_node test_parents first is_var test_var test_tree verdict symbol_of mark_words mark new_scope new_symbol row_is find_from climb find lookup is_kind is_value child_scope own_symbol introduce marked unmarked walk_ident head_role walk_arg walk walk_seq walk_first enter_name and_then resolve_tree enter_all visit visit_all test_table zeroed walked headed way_of way answer_by table_by table_call resolve has_name is_symbol parent_below row_sound test_sound number_from number_of test_lookup symbol_answer found_by lookup_call lefts rights filled written cleared test_rows rows_by rows_call among repeats declared_twice when same_node asks_for introduces introduced_row defined_row defined_rows arg_row arg_rows list_rows is_ctor app_rows pattern_rows plain_rows args_of repeated repeated_in repeated_to strict_from strict_rows is_strict error_rows test_errors errors rows_of rows_seq rows_first rows_defined decl_rows decls_rows add opened head_sort rule_places rule_spots rules_of module_rules outer_const place place_seq place_then place_first spots spots_seq spots_back spots_first rules rules_all listed rows_for rule_rows all_rows occurrence_rows times_bound lone_in lone rows_by_rule lone_answer occurrences once bytes_of kinds_of starts_of words_of ends_of joined encode recorded recorded_all enter_names mark_all some_repeats rule_node declared declared_all model_lists model_lists_all module_lists earliest
+unfolding word nodes kind_at start_at op_at field name_of operands names bytes last name_end name_start name_bytes kind_of ones numbers ops_from after_blocks block_kids block_counts after field_kids field_shape after_fields fields_kids fields_shape fields_at row_end kids shape kids_to swap swaps ordered grow_all grow class_at tree_to tree_at ◌▸◌ need run is times same test_sizes test_names in_row is_child child_word test_blocks test_field test_fields end_before test_node test_parents first is_var test_var test_tree verdict symbol_of mark_words mark new_scope new_symbol row_is find_from climb held found find lookup is_kind is_value child_scope own_symbol introduce marked unmarked walk_ident head_role walk_arg walk walk_seq walk_first enter_name and_then resolve_tree enter_all visit visit_all test_table zeroed walked headed way_of way answer_by table_by table_call resolve has_name is_symbol parent_below row_sound test_sound number_from number_of test_lookup symbol_answer found_by lookup_call lefts rights filled written cleared test_rows rows_by rows_call among repeats declared_twice when same_node asks_for introduces introduced_row defined_row defined_rows arg_row arg_rows list_rows is_ctor app_rows pattern_rows plain_rows args_of repeated repeated_in repeated_to strict_from strict_rows is_strict error_rows test_errors errors rows_of rows_seq rows_first rows_defined decl_rows decls_rows add opened head_sort rule_places rule_spots rules_of module_rules outer_const place place_seq place_then place_first spots spots_seq spots_back spots_first rules rules_all listed rows_for rule_rows all_rows occurrence_rows times_bound lone_in lone rows_by_rule lone_answer occurrences once bytes_of kinds_of starts_of words_of ends_of joined encode recorded recorded_all enter_names mark_all some_repeats rule_node declared declared_all model_lists model_lists_all module_lists earliest
 twices = refl

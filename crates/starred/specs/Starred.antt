@@ -5,7 +5,7 @@ use Rattle.ast.specs.Kinds.{kind_of}
 use Rattle.ast.specs.Rows.{ones, numbers, ops_from, after_blocks, block_kids, block_counts, after, field_kids, field_shape, after_fields, fields_kids, fields_shape, fields_at, row_end, kids, shape, kids_to}
 use Rattle.ast.specs.Tree.{swap, swaps, ordered, grow_all, grow, class_at, tree_to, tree_at}
 use Rattle.ast.specs.Tests.{◌▸◌, need, run, is, times, same, test_sizes, test_names, in_row, is_child, child_word, test_blocks, test_field, test_fields, end_before, test_node, test_parents, first, is_var, test_var, test_tree, verdict}
-use Rattle.table.specs.Table.{mark_words, mark, new_scope, new_symbol, row_is, find_from, climb, find, lookup, is_kind, is_value}
+use Rattle.table.specs.Table.{mark_words, mark, new_scope, new_symbol, row_is, find_from, climb, held, found, find, lookup, is_kind, is_value}
 use Rattle.table.specs.State.{child_scope, own_symbol, introduce, marked, unmarked}
 use Rattle.ordered.specs.Walk.{walk_ident, head_role, walk_arg, walk, walk_seq, walk_first}
 use Rattle.scopes.specs.Walk.{enter_name, and_then, resolve_tree, enter_all, visit, visit_all, recorded, recorded_all, enter_names, mark_all}
@@ -300,9 +300,9 @@ AsExpected (c ∷ cs) = (report c.image ≡ c.lines) × AsExpected cs
 
 -- ★A's report by itself
 pub case_a : report bytes_a ≡ resolved 2 1 ∷ var 1 0 ∷ var 3 0 ∷ end_ok ∷ []
-unfolding word nodes kind_at start_at op_at field name_of operands names bytes last name_end name_start name_bytes kind_of ones numbers ops_from after_blocks block_kids block_counts after field_kids field_shape after_fields fields_kids fields_shape fields_at row_end kids shape kids_to swap swaps ordered grow_all grow class_at tree_to tree_at ◌▸◌ need run is times same test_sizes test_names in_row is_child child_word test_blocks test_field test_fields end_before test_node test_parents first is_var test_var test_tree verdict mark_words mark new_scope new_symbol row_is find_from climb find lookup is_kind is_value child_scope own_symbol introduce marked unmarked walk_ident head_role walk_arg walk walk_seq walk_first enter_name and_then resolve_tree enter_all visit visit_all test_table zeroed walked headed way_of way answer_by table_by table_call resolve lefts rights filled written cleared test_rows rows_by rows_call among when same_node asked introduces introduced_row defined_row defined_rows arg_row arg_rows list_rows is_ctor app_rows pattern_rows plain_rows args_of repeated repeated_in repeated_to strict_from strict_rows is_strict error_rows test_errors errors rows_of rows_seq rows_first rows_defined decl_rows decls_rows add opened head_sort rule_places rule_spots rules_of module_rules outer_const place place_seq place_then place_first spots spots_seq spots_back spots_first rules rules_all listed rows_for rule_rows all_rows occurrence_rows times_bound lone_in lone rows_by_rule lone_answer occurrences once bytes_of kinds_of starts_of words_of ends_of joined encode zipped row_lines end_lines body_lines lines_of report recorded recorded_all enter_names mark_all rule_node declared declared_all earliest
+unfolding word nodes kind_at start_at op_at field name_of operands names bytes last name_end name_start name_bytes kind_of ones numbers ops_from after_blocks block_kids block_counts after field_kids field_shape after_fields fields_kids fields_shape fields_at row_end kids shape kids_to swap swaps ordered grow_all grow class_at tree_to tree_at ◌▸◌ need run is times same test_sizes test_names in_row is_child child_word test_blocks test_field test_fields end_before test_node test_parents first is_var test_var test_tree verdict mark_words mark new_scope new_symbol row_is find_from climb held found find lookup is_kind is_value child_scope own_symbol introduce marked unmarked walk_ident head_role walk_arg walk walk_seq walk_first enter_name and_then resolve_tree enter_all visit visit_all test_table zeroed walked headed way_of way answer_by table_by table_call resolve lefts rights filled written cleared test_rows rows_by rows_call among when same_node asked introduces introduced_row defined_row defined_rows arg_row arg_rows list_rows is_ctor app_rows pattern_rows plain_rows args_of repeated repeated_in repeated_to strict_from strict_rows is_strict error_rows test_errors errors rows_of rows_seq rows_first rows_defined decl_rows decls_rows add opened head_sort rule_places rule_spots rules_of module_rules outer_const place place_seq place_then place_first spots spots_seq spots_back spots_first rules rules_all listed rows_for rule_rows all_rows occurrence_rows times_bound lone_in lone rows_by_rule lone_answer occurrences once bytes_of kinds_of starts_of words_of ends_of joined encode zipped row_lines end_lines body_lines lines_of report recorded recorded_all enter_names mark_all rule_node declared declared_all earliest
 case_a = refl
 
 pub starred : AsExpected cases
-unfolding word nodes kind_at start_at op_at field name_of operands names bytes last name_end name_start name_bytes kind_of ones numbers ops_from after_blocks block_kids block_counts after field_kids field_shape after_fields fields_kids fields_shape fields_at row_end kids shape kids_to swap swaps ordered grow_all grow class_at tree_to tree_at ◌▸◌ need run is times same test_sizes test_names in_row is_child child_word test_blocks test_field test_fields end_before test_node test_parents first is_var test_var test_tree verdict mark_words mark new_scope new_symbol row_is find_from climb find lookup is_kind is_value child_scope own_symbol introduce marked unmarked walk_ident head_role walk_arg walk walk_seq walk_first enter_name and_then resolve_tree enter_all visit visit_all test_table zeroed walked headed way_of way answer_by table_by table_call resolve lefts rights filled written cleared test_rows rows_by rows_call among when same_node asked introduces introduced_row defined_row defined_rows arg_row arg_rows list_rows is_ctor app_rows pattern_rows plain_rows args_of repeated repeated_in repeated_to strict_from strict_rows is_strict error_rows test_errors errors rows_of rows_seq rows_first rows_defined decl_rows decls_rows add opened head_sort rule_places rule_spots rules_of module_rules outer_const place place_seq place_then place_first spots spots_seq spots_back spots_first rules rules_all listed rows_for rule_rows all_rows occurrence_rows times_bound lone_in lone rows_by_rule lone_answer occurrences once bytes_of kinds_of starts_of words_of ends_of joined encode zipped row_lines end_lines body_lines lines_of report recorded recorded_all enter_names mark_all rule_node declared declared_all earliest
+unfolding word nodes kind_at start_at op_at field name_of operands names bytes last name_end name_start name_bytes kind_of ones numbers ops_from after_blocks block_kids block_counts after field_kids field_shape after_fields fields_kids fields_shape fields_at row_end kids shape kids_to swap swaps ordered grow_all grow class_at tree_to tree_at ◌▸◌ need run is times same test_sizes test_names in_row is_child child_word test_blocks test_field test_fields end_before test_node test_parents first is_var test_var test_tree verdict mark_words mark new_scope new_symbol row_is find_from climb held found find lookup is_kind is_value child_scope own_symbol introduce marked unmarked walk_ident head_role walk_arg walk walk_seq walk_first enter_name and_then resolve_tree enter_all visit visit_all test_table zeroed walked headed way_of way answer_by table_by table_call resolve lefts rights filled written cleared test_rows rows_by rows_call among when same_node asked introduces introduced_row defined_row defined_rows arg_row arg_rows list_rows is_ctor app_rows pattern_rows plain_rows args_of repeated repeated_in repeated_to strict_from strict_rows is_strict error_rows test_errors errors rows_of rows_seq rows_first rows_defined decl_rows decls_rows add opened head_sort rule_places rule_spots rules_of module_rules outer_const place place_seq place_then place_first spots spots_seq spots_back spots_first rules rules_all listed rows_for rule_rows all_rows occurrence_rows times_bound lone_in lone rows_by_rule lone_answer occurrences once bytes_of kinds_of starts_of words_of ends_of joined encode zipped row_lines end_lines body_lines lines_of report recorded recorded_all enter_names mark_all rule_node declared declared_all earliest
 starred = (case_a, (refl, (refl, (refl, (refl, (refl, (refl, (refl, (refl, (refl, (refl, (refl, (refl, (refl, (refl, (refl, tt))))))))))))))))

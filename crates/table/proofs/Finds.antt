@@ -13,19 +13,38 @@ use Rattle.ast.specs.Image.{nodes, name_of}
 use Rattle.ast.specs.Named.{const_decl_kind}
 use Rattle.ast.proofs.Shapes.{one_more}
 use Rattle.table.specs.Rising.{scope_of, node_at, parent_at}
-use Rattle.table.specs.Table.{row_is, find_from, climb, is_kind, is_var, is_value}
+use Rattle.table.specs.Table.{Table, Found, found_node, symbol_at, row_is, find_from, climb, found, lookup, is_kind, is_var, is_value}
+
+-- the nodes of "or else"
+pub node-or_else : (o u : Option Found) → found_node (or_else o u) ≡ or_else (found_node o) (found_node u)
+node-or_else none u = refl
+node-or_else (some f) u = refl
+
+-- none has no node, and nothing else has none
+pub node-none : (o : Option Found) → found_node o ≡ none → o ≡ none
+node-none none e = refl
+node-none (some f) e = absurd (let z : ◌≡◌ {A = ℕ} 0 1 = cc in omega arith)
+
+pub node-some : (o : Option Found) (m : ℕ) → found_node o ≡ some m → (f : Found) × (o ≡ some f) × (f.node ≡ m)
+node-some none m e = absurd (let z : ◌≡◌ {A = ℕ} 0 1 = cc in omega arith)
+node-some (some f) m e = (f, refl, (let z : f.node ≡ m = cc in z))
 
 -- o, or else what climbing on gives, where b
-unfoldable pub or_climb : Option ℕ → Bool → Option ℕ → Option ℕ
-or_climb o b u = elim o [ some n ↦ some n | none ↦ elim b [ true ↦ u | false ↦ none ] ]
+unfoldable pub or_climb : Option Found → Bool → Option Found → Option Found
+or_climb o b u = elim o [ some f ↦ some f | none ↦ elim b [ true ↦ u | false ↦ none ] ]
 
-pub or_climb-same : (o : Option ℕ) (b : Bool) (u v : Option ℕ) → (b ≡ true → u ≡ v) → or_climb o b u ≡ or_climb o b v
+pub or_climb-same : (o : Option Found) (b : Bool) (u v : Option Found) → (b ≡ true → u ≡ v) → or_climb o b u ≡ or_climb o b v
 unfolding or_climb
-or_climb-same (some n) b u v h = refl
+or_climb-same (some f) b u v h = refl
 or_climb-same none true u v h = h refl
 or_climb-same none false u v h = refl
 
 module _ (img : List ℕ) where
+  -- the node of what is found is what lookup gives
+  pub lookup-node : (t : Table) (s x : ℕ) {o : Option Found} → o ≡ found img t s x → found_node o ≡ lookup img t s x
+  unfolding lookup
+  lookup-node t s x e = ap found_node e
+
   pub value-var : (o : Option ℕ) → is_var img o ≡ true → is_value img o ≡ true
   unfolding is_value
   value-var o h = rw (h, is_value)
@@ -36,10 +55,10 @@ module _ (img : List ℕ) where
 
 module _ (img ws : List ℕ) where
   -- row j, if it is of the scope and the name
-  unfoldable pub hit : Bool → ℕ → Option ℕ
-  hit b j = elim b [ true ↦ some (node_at (nodes img) ws j) | false ↦ none ]
+  unfoldable pub hit : Bool → ℕ → Option Found
+  hit b j = elim b [ true ↦ some (symbol_at img ws j) | false ↦ none ]
 
-  find_first : (b : Bool) (j : ℕ) (o u : Option ℕ) → or_else (elim b [ true ↦ some (node_at (nodes img) ws j) | false ↦ o ]) u ≡ elim b [ true ↦ some (node_at (nodes img) ws j) | false ↦ or_else o u ]
+  find_first : (b : Bool) (j : ℕ) (o u : Option Found) → or_else (elim b [ true ↦ some (symbol_at img ws j) | false ↦ o ]) u ≡ elim b [ true ↦ some (symbol_at img ws j) | false ↦ or_else o u ]
   find_first true j o u = refl
   find_first false j o u = refl
 
@@ -48,7 +67,7 @@ module _ (img ws : List ℕ) where
   unfolding find_from hit
   find-snoc zero j s x = ap (λ (i : ℕ). hit (row_is img ws i s x) i) (sym (add-zero j))
   find-snoc (suc c) j s x =
-      ap (λ (o : Option ℕ). elim (row_is img ws j s x) as (λ _. Option ℕ) [ true ↦ some (node_at (nodes img) ws j) | false ↦ o ]) (find-snoc c (j + 1) s x ∙ ap (λ (i : ℕ). or_else (find_from img c ws (j + 1) s x) (hit (row_is img ws i s x) i)) (let q : j + 1 + c ≡ j + suc c = omega arith in q))
+      ap (λ (o : Option Found). elim (row_is img ws j s x) as (λ _. Option Found) [ true ↦ some (symbol_at img ws j) | false ↦ o ]) (find-snoc c (j + 1) s x ∙ ap (λ (i : ℕ). or_else (find_from img c ws (j + 1) s x) (hit (row_is img ws i s x) i)) (let q : j + 1 + c ≡ j + suc c = omega arith in q))
       ∙ sym (find_first (row_is img ws j s x) j (find_from img c ws (j + 1) s x) (hit (row_is img ws (j + suc c) s x) (j + suc c)))
 
   pub row_out : (j s x : ℕ) → (scope_of (nodes img) ws j ≡ s → ⊥) → row_is img ws j s x ≡ false
@@ -59,7 +78,7 @@ module _ (img ws : List ℕ) where
   unfolding row_is
   row_in j s x h = rw (eq-eqb _ _ h, row_is)
 
-  pub find-hit : (c j s x : ℕ) → j < c → row_is img ws j s x ≡ true → find_from img (c - j) ws j s x ≡ some (node_at (nodes img) ws j)
+  pub find-hit : (c j s x : ℕ) → j < c → row_is img ws j s x ≡ true → find_from img (c - j) ws j s x ≡ some (symbol_at img ws j)
   unfolding find_from
   find-hit c j s x h e = rw (one_more h, find_from, e)
 
@@ -80,9 +99,9 @@ module _ (img ws : List ℕ) where
       or_climb-same (find_from img y ws 0 s x) (ltb (parent_at (nodes img) ws s) s) _ _
       (λ e. let l = ltb-true (parent_at (nodes img) ws s) s e in climb-fuel f g y (parent_at (nodes img) ws s) x (omega arith) (omega arith))
 
-  pub climb-hit : (y s x n : ℕ) → find_from img y ws 0 s x ≡ some n → climb img (suc s) ws y s x ≡ some n
+  pub climb-hit : (y s x : ℕ) (f : Found) → find_from img y ws 0 s x ≡ some f → climb img (suc s) ws y s x ≡ some f
   unfolding climb
-  climb-hit y s x n e = rw (e, climb)
+  climb-hit y s x f e = rw (e, climb)
 
   pub climb-end : (y s x p : ℕ) → find_from img y ws 0 s x ≡ none → p ≡ parent_at (nodes img) ws s → s ≤ p → climb img (suc s) ws y s x ≡ none
   unfolding climb

@@ -17,46 +17,58 @@ use Rattle.ast.proofs.Declarations.{or_else-none}
 use Rattle.table.specs.Layout.{entry_place, exit_place, parent_place}
 use Rattle.table.specs.Rising.{parent_at}
 use Rattle.table.specs.State.{Walked, introduce}
-use Rattle.table.specs.Table.{Table, mark, new_scope, new_symbol, row_is, find_from, find, climb, lookup, entry_at, exit_at}
-use Rattle.table.proofs.Finds.{row_out, hit, find-snoc, climb-fuel}
-use Rattle.table.proofs.Frames.{mark-word, scope-word, symbol-word, find-same, find_none, find-mark, find-scope, symbol-same, symbol-scope, find-symbol}
+use Rattle.table.specs.Table.{Table, Found, found_node, mark, new_scope, new_symbol, row_is, find_from, held, found, find, climb, lookup, entry_at, exit_at}
+use Rattle.table.proofs.Finds.{row_out, hit, find-snoc, climb-fuel, node-or_else}
+use Rattle.table.proofs.Frames.{mark-word, scope-word, symbol-word, find-same, held_none, held-mark, held-scope, symbol-same, symbol-scope, own, own-node, held-symbol, find-symbol}
 use Rattle.table.specs.Kept.{Kept}
 use Rattle.table.proofs.Kept.{scope_kept, symbol-kept}
-use Rattle.table.proofs.Agreed.{through, above, Agree, lookup-agree}
+use Rattle.table.proofs.Agreed.{through, above, Agree, found-agree}
 
-above_lower : (o : Option ℕ) (p s : ℕ) (u : Option ℕ) → p < s → above o p s u ≡ or_else o u
-above_lower (some n) p s u l = refl
+above_lower : (o : Option Found) (p s : ℕ) (u : Option Found) → p < s → above o p s u ≡ or_else o u
+above_lower (some f) p s u l = refl
 above_lower none p s u l = ap (λ (b : Bool). through b u) (lt-ltb p s l)
 
-above_root : (o : Option ℕ) (p s : ℕ) (u : Option ℕ) → s ≤ p → above o p s u ≡ o
-above_root (some n) p s u l = refl
+above_root : (o : Option Found) (p s : ℕ) (u : Option Found) → s ≤ p → above o p s u ≡ o
+above_root (some f) p s u l = refl
 above_root none p s u l = ap (λ (b : Bool). through b u) (le-ltb p s l)
 
 module _ (img : List ℕ) where
   abbrev N : ℕ
   N = nodes img
 
-  -- lookup at a scope: its own symbols, then its parent's meaning
-  pub lookup-child : (t : Table) (k s x : ℕ) → parent_at N t.words k ≡ s → s < k → lookup img t k x ≡ or_else (find img t k x) (lookup img t s x)
-  unfolding lookup climb find
-  lookup-child t k s x e l =
-      ap (λ p. above (find img t k x) p k (climb img k t.words t.symbols p x)) e
-      ∙ above_lower (find img t k x) s k (climb img k t.words t.symbols s x) l
-      ∙ ap (or_else (find img t k x)) (climb-fuel img t.words k (suc s) t.symbols s x l (omega arith))
+  -- at a scope: its own symbols, then its parent's meaning
+  pub found-child : (t : Table) (k s x : ℕ) → parent_at N t.words k ≡ s → s < k → found img t k x ≡ or_else (held img t k x) (found img t s x)
+  unfolding found climb held
+  found-child t k s x e l =
+      ap (λ p. above (held img t k x) p k (climb img k t.words t.symbols p x)) e
+      ∙ above_lower (held img t k x) s k (climb img k t.words t.symbols s x) l
+      ∙ ap (or_else (held img t k x)) (climb-fuel img t.words k (suc s) t.symbols s x l (omega arith))
 
-  -- lookup at a scope without a parent
+  pub lookup-child : (t : Table) (k s x : ℕ) → parent_at N t.words k ≡ s → s < k → lookup img t k x ≡ or_else (find img t k x) (lookup img t s x)
+  unfolding lookup find
+  lookup-child t k s x e l = ap found_node (found-child t k s x e l) ∙ node-or_else (held img t k x) (found img t s x)
+
+  -- at a scope without a parent
+  pub found-root : (t : Table) (k x : ℕ) → k ≤ parent_at N t.words k → found img t k x ≡ held img t k x
+  unfolding found climb held
+  found-root t k x l =
+      above_root (held img t k x) (parent_at N t.words k) k (climb img k t.words t.symbols (parent_at N t.words k) x) l
+
   pub lookup-root : (t : Table) (k x : ℕ) → k ≤ parent_at N t.words k → lookup img t k x ≡ find img t k x
-  unfolding lookup climb find
-  lookup-root t k x l =
-      above_root (find img t k x) (parent_at N t.words k) k (climb img k t.words t.symbols (parent_at N t.words k) x) l
+  unfolding lookup find
+  lookup-root t k x l = ap found_node (found-root t k x l)
 
   -- a node's mark
   module _ (n e x : ℕ) (t : Table) (l : n < N) where
     pub mark-parent : (r : ℕ) → parent_at N (mark img n e x t).words r ≡ parent_at N t.words r
     mark-parent r = mark-word img n e x t (parent_place N r) (omega arith) (omega arith)
 
+    pub mark-found : (s y : ℕ) → found img (mark img n e x t) s y ≡ found img t s y
+    mark-found s y = found-agree img (suc s) (mark img n e x t) t s y (omega arith) (λ r h. (held-mark img n e x t l r, mark-parent r))
+
     pub mark-lookup : (s y : ℕ) → lookup img (mark img n e x t) s y ≡ lookup img t s y
-    mark-lookup s y = lookup-agree img (suc s) (mark img n e x t) t s y (omega arith) (λ r h. (find-mark img n e x t l r, mark-parent r))
+    unfolding lookup
+    mark-lookup s y = ap found_node (mark-found s y)
 
     pub mark-exit : (m : ℕ) → m < N → m ≢ n → exit_at img (mark img n e x t).words m ≡ exit_at img t.words m
     mark-exit m h f = mark-word img n e x t (exit_place N m) (omega arith) (λ q. f (omega arith))
@@ -86,9 +98,13 @@ module _ (img : List ℕ) where
     pub child-parent-other : (r : ℕ) → r < t.scopes → parent_at N (new_scope img p t).words r ≡ parent_at N t.words r
     child-parent-other r h = scope-word img p t (parent_place N r) (omega arith)
 
+    pub child-held : (x : ℕ) → held img (new_scope img p t) t.scopes x ≡ none
+    child-held x =
+        held-scope img p t K<N t.scopes x ∙ held_none img t t.scopes x (λ i h q. let w = sane.under i h in omega arith)
+
     pub child-empty : (x : ℕ) → find img (new_scope img p t) t.scopes x ≡ none
-    child-empty x =
-        find-scope img p t K<N t.scopes x ∙ find_none img t t.scopes x (λ i h q. let w = sane.under i h in omega arith)
+    unfolding find
+    child-empty x = ap found_node (child-held x)
 
     pub child-exit : (m : ℕ) → m < N → exit_at img (new_scope img p t).words m ≡ exit_at img t.words m
     child-exit m h = scope-word img p t (exit_place N m) (omega arith)
@@ -102,9 +118,9 @@ module _ (img : List ℕ) where
     named = (new_symbol img s n t).words
 
     -- the new row counts in no other scope
-    pub name-find-other : (r x : ℕ) → r ≢ s → find img (new_symbol img s n t) r x ≡ find img t r x
-    unfolding new_symbol find hit
-    name-find-other r x f =
+    pub name-held-other : (r x : ℕ) → r ≢ s → held img (new_symbol img s n t) r x ≡ held img t r x
+    unfolding new_symbol held hit
+    name-held-other r x f =
         let y = t.symbols in
         ap (λ c. find_from img c named 0 r x) (add-one y)
         ∙ find-snoc img named y 0 r x
@@ -112,6 +128,9 @@ module _ (img : List ℕ) where
         ∙ ap (λ b. or_else (find_from img y named 0 r x) (hit img named b y)) (row_out img named y r x (λ q. f (sym q ∙ symbol-scope img s n t Y<N sane.rising.long)))
         ∙ or_else-none (find_from img y named 0 r x)
         ∙ find-same img (symbol-same img s n t Y<N) r x
+
+    pub name-held : (x : ℕ) → held img (new_symbol img s n t) s x ≡ or_else (held img t s x) (own img s n x)
+    name-held x = held-symbol img s n t Y<N sane.rising.long x
 
     pub name-find : (x : ℕ) → find img (new_symbol img s n t) s x ≡ or_else (find img t s x) (earliest (name_of img) (n ∷ []) x)
     name-find x = find-symbol img s n t Y<N sane.rising.long x
@@ -143,28 +162,35 @@ module _ (img : List ℕ) where
     old-agree : Agree img K t₂ e.table
     unfolding new_scope
     old-agree s h = (
-      (λ x. name-find-other K n t₁ sane₁ Y<N s x (omega arith) ∙ find-scope img e.scope e.table K<N s x),
+      (λ x. name-held-other K n t₁ sane₁ Y<N s x (omega arith) ∙ held-scope img e.scope e.table K<N s x),
       name-parent K n t₁ sane₁ Y<N s (omega arith) ∙ child-parent-other e.scope e.table sane K<N s h,
     )
 
-    pub new-lookup-old : (s x : ℕ) → s < K → lookup img (introduce img n e).table s x ≡ lookup img e.table s x
+    pub new-found-old : (s x : ℕ) → s < K → found img (introduce img n e).table s x ≡ found img e.table s x
     unfolding introduce
-    new-lookup-old s x h = lookup-agree img K t₂ e.table s x h old-agree
+    new-found-old s x h = found-agree img K t₂ e.table s x h old-agree
 
-    new-find : (x : ℕ) → find img t₂ K x ≡ earliest (name_of img) (n ∷ []) x
+    pub new-lookup-old : (s x : ℕ) → s < K → lookup img (introduce img n e).table s x ≡ lookup img e.table s x
+    unfolding lookup
+    new-lookup-old s x h = ap found_node (new-found-old s x h)
+
+    new-held : (x : ℕ) → held img t₂ K x ≡ own img K n x
     unfolding new_scope
-    new-find x =
-        name-find K n t₁ sane₁ Y<N x ∙ ap (λ o. or_else o (earliest (name_of img) (n ∷ []) x)) (child-empty e.scope e.table sane K<N x)
+    new-held x =
+        name-held K n t₁ sane₁ Y<N x ∙ ap (λ o. or_else o (own img K n x)) (child-held e.scope e.table sane K<N x)
 
     new-parent : parent_at N t₂.words K ≡ e.scope
     unfolding new_scope
     new-parent = name-parent K n t₁ sane₁ Y<N K K<N ∙ child-parent e.scope e.table sane K<N
 
     pub new-lookup : (x : ℕ) → lookup img (introduce img n e).table K x ≡ or_else (earliest (name_of img) (n ∷ []) x) (lookup img e.table e.scope x)
-    unfolding introduce
+    unfolding introduce lookup
     new-lookup x =
-        lookup-child t₂ K e.scope x new-parent inside
-        ∙ ap₂ or_else (new-find x) (lookup-agree img K t₂ e.table e.scope x inside old-agree)
+        ap found_node
+        (found-child t₂ K e.scope x new-parent inside
+        ∙ ap₂ or_else (new-held x) (found-agree img K t₂ e.table e.scope x inside old-agree))
+        ∙ node-or_else (own img K n x) (found img e.table e.scope x)
+        ∙ ap (λ o. or_else o (lookup img e.table e.scope x)) (own-node img K n x)
 
     pub new-exit : (m : ℕ) → m < N → exit_at img (introduce img n e).table.words m ≡ exit_at img e.table.words m
     unfolding introduce

@@ -1,4 +1,4 @@
--- The table of scopes and symbols; find in one scope, and lookup by climbing.
+-- The table of scopes and symbols; what a scope holds of a name, and what climbing finds.
 use Rattle.std.specs.Prelude.{Bool, List, [], ◌∷◌, eqb, ltb, get_or, set}
 use Rattle.std.proofs.Math.Bool.{true, false}
 use Rattle.std.proofs.Math.Option.{Option, none, some}
@@ -12,6 +12,16 @@ pub record Table : Type 0 where
   pub words : List ℕ
   pub scopes : ℕ
   pub symbols : ℕ
+
+-- a symbol as it is found: its node, and the scope that holds it
+pub record Found : Type 0 where
+  pub node : ℕ
+  pub scope : ℕ
+
+-- the node alone
+abbrev pub found_node : Option Found → Option ℕ
+found_node none = none
+found_node (some f) = some f.node
 
 -- a kind's symbol number, as the cases of `Symbol` go: Type 0, Pred 1, Func 2, Const 3, Enum 4, Ctor 5, Model 6, Rule 7,
 -- Arg 8, Var 9
@@ -51,23 +61,27 @@ module _ (img : List ℕ) where
         | false ↦ false
       ]
 
+  -- the symbol of row j
+  abbrev pub symbol_at : List ℕ → ℕ → Found
+  symbol_at ws j = record { node = get_or ws (node_place N j) 0; scope = get_or ws (scope_place N j) 0 }
+
   -- the first symbol of the name x in the scope s, among the c rows from j on: the earlier row wins
-  unfoldable pub find_from : ℕ → List ℕ → ℕ → ℕ → ℕ → Option ℕ
+  unfoldable pub find_from : ℕ → List ℕ → ℕ → ℕ → ℕ → Option Found
   unfolding row_is
   find_from zero ws j s x = none
   find_from (suc c) ws j s x =
       elim (row_is ws j s x) [
-        | true ↦ some (get_or ws (node_place N j) 0)
+        | true ↦ some (symbol_at ws j)
         | false ↦ find_from c ws (j + 1) s x
       ]
 
   -- climbs while the parent's number is smaller; the words hold y symbols
-  unfoldable pub climb : ℕ → List ℕ → ℕ → ℕ → ℕ → Option ℕ
+  unfoldable pub climb : ℕ → List ℕ → ℕ → ℕ → ℕ → Option Found
   unfolding find_from
   climb zero ws y s x = none
   climb (suc f) ws y s x =
       elim (find_from y ws 0 s x) [
-        | some n ↦ some n
+        | some f ↦ some f
         | none ↦
             elim (ltb (get_or ws (parent_place N s) 0) s) [
               | true ↦ climb f ws y (get_or ws (parent_place N s) 0) x
@@ -76,14 +90,23 @@ module _ (img : List ℕ) where
       ]
 
   -- the symbol of a name in a scope
-  unfoldable pub find : Table → ℕ → ℕ → Option ℕ
+  unfoldable pub held : Table → ℕ → ℕ → Option Found
   unfolding find_from
-  find t s x = find_from t.symbols t.words 0 s x
+  held t s x = find_from t.symbols t.words 0 s x
 
-  -- the symbol of a name in a scope, or in the nearest scope above it that has one
-  unfoldable pub lookup : Table → ℕ → ℕ → Option ℕ
+  -- the symbol of a name in a scope, or in the nearest scope above it that has one: document 02's lookup, with the scope
+  unfoldable pub found : Table → ℕ → ℕ → Option Found
   unfolding climb
-  lookup t s x = climb (suc s) t.words t.symbols s x
+  found t s x = climb (suc s) t.words t.symbols s x
+
+  -- their nodes, which the walk, Errors, Once and Occurrences go by: document 01's find and lookup
+  unfoldable pub find : Table → ℕ → ℕ → Option ℕ
+  unfolding held
+  find t s x = found_node (held t s x)
+
+  unfoldable pub lookup : Table → ℕ → ℕ → Option ℕ
+  unfolding found
+  lookup t s x = found_node (found t s x)
 
   -- of kind k
   unfoldable pub is_kind : ℕ → Option ℕ → Bool
@@ -106,7 +129,13 @@ module _ (img : List ℕ) where
   abbrev pub exit_at : List ℕ → ℕ → ℕ
   exit_at ws n = get_or ws (exit_place N n) 0
 
-  -- what the name of the IdentTerm i is at the entry of the node n, and at its exit
+  -- what the name of the IdentTerm i is at the entry of the node n, and at its exit; and the node of that
+  abbrev pub found_entry : Table → ℕ → ℕ → Option Found
+  found_entry t n i = found t (entry_at t.words n) (name_of img i)
+
+  abbrev pub found_exit : Table → ℕ → ℕ → Option Found
+  found_exit t n i = found t (exit_at t.words n) (name_of img i)
+
   abbrev pub at_entry : Table → ℕ → ℕ → Option ℕ
   at_entry t n i = lookup t (entry_at t.words n) (name_of img i)
 

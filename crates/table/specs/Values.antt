@@ -2,16 +2,21 @@
 use Rattle.std.specs.Prelude.{Bool, ℕ, Option as Given, Some, None}
 use Rattle.std.proofs.Math.Bool.{true, false}
 use Rattle.std.proofs.Math.Option.{Option, none, some}
-use Rattle.ast.specs.declared.NodeId.{NodeId}
+use Rattle.table.specs.Table.{Found}
 use Rattle.table.specs.Layout.{entries, exits, parents, symbol_scopes, symbol_nodes}
 use Rattle.table.specs.declared.Array.{Array}
 use Rattle.table.specs.declared.Array.TheVariants.{Entries, Exits, Parents, SymbolScopes, SymbolNodes}
+use Rattle.table.specs.declared.Found as code
 use Rattle.table.specs.declared.Symbol.{Symbol}
 use Rattle.table.specs.declared.Symbol.TheVariants as case
 
-abbrev pub option_of : Given NodeId → Option ℕ
-option_of (Some n) = some n.0
-option_of None = none
+-- a symbol as it is found, or none
+abbrev pub found_at : code.Found → Found
+found_at f = record { node = f.node.0; scope = f.scope.0 }
+
+abbrev pub found_of : Given code.Found → Option Found
+found_of (Some f) = some (found_at f)
+found_of None = none
 
 -- an array's rank
 abbrev pub rank_of : Array → ℕ

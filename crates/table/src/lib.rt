@@ -6,7 +6,8 @@ ghost use Rattle.ast.specs.Image as ImageSpec;
 ghost use Rattle.table.specs.Layout as LayoutSpec;
 ghost use Rattle.table.specs.Layout.{parent_place, scope_place, node_place, arrays, table_length};
 ghost use Rattle.table.specs.Table as TableSpec;
-ghost use Rattle.table.specs.Values.{option_of, rank_of, number_of, number_or_zero, is_symbol};
+ghost use Rattle.table.specs.Table.{found_node};
+ghost use Rattle.table.specs.Values.{found_at, found_of, rank_of, number_of, number_or_zero, is_symbol};
 
 use ast::NodeId;
 use ast::kind::Kind;
@@ -17,6 +18,13 @@ pub struct ScopeId(pub u32);
 // The word for no scope, as the parent of the first has it, and the places of an AppHeadMember: C reads it so, since the table's words
 // have room for no Option.
 pub const NO_SCOPE: ScopeId = ScopeId(4294967295);
+
+// A symbol as it is found: its node, and the scope that holds it.
+#[derive(Clone, Copy, Debug, PartialEq, Eq)]
+pub struct Found {
+    pub node: NodeId,
+    pub scope: ScopeId,
+}
 
 // What a symbol declares: the cases of the Rust's Symbol, without the nodes that they carry there.
 #[derive(Clone, Copy, Debug, PartialEq, Eq)]
@@ -118,6 +126,16 @@ pub fn symbol_node(image: &[u8], table: &[u32], j: u32) -> NodeId
     NodeId(word_of(image, table, Array::SymbolNodes, j))
 }
 
+// The symbol of row j.
+pub fn symbol_at(image: &[u8], table: &[u32], j: u32) -> Found
+    ensures { found_at result ≡ TableSpec.symbol_at image.now table.now j }
+{
+    Found {
+        node: symbol_node(image, table, j),
+        scope: symbol_scope(image, table, j),
+    }
+}
+
 // Row j is a symbol of the scope with the name.
 pub fn row_is(image: &[u8], table: &[u32], j: u32, scope: ScopeId, name: u32) -> bool
     ensures { result ≡ TableSpec.row_is image.now table.now j scope.0 name }
@@ -127,29 +145,23 @@ pub fn row_is(image: &[u8], table: &[u32], j: u32, scope: ScopeId, name: u32) ->
 }
 
 // The first symbol of the name in the scope.
-pub fn find(image: &[u8], table: &[u32], symbols: u32, scope: ScopeId, name: u32) -> Option<NodeId>
-    ensures { option_of result ≡ TableSpec.find_from image.now symbols table.now 0 scope.0 name }
+pub fn find(image: &[u8], table: &[u32], symbols: u32, scope: ScopeId, name: u32) -> Option<Found>
+    ensures { found_of result ≡ TableSpec.find_from image.now symbols table.now 0 scope.0 name }
 {
     for j in 0..symbols {
         if row_is(image, table, j, scope, name) {
-            return Some(symbol_node(image, table, j));
+            return Some(symbol_at(image, table, j));
         }
     }
     None
 }
 
 // The symbol of the name in the scope, or in the nearest scope above it that has one.
-pub fn lookup(
-    image: &[u8],
-    table: &[u32],
-    symbols: u32,
-    scope: ScopeId,
-    name: u32,
-) -> Option<NodeId>
-    ensures { option_of result ≡ TableSpec.climb image.now (suc scope.0) table.now symbols scope.0 name }
+pub fn lookup(image: &[u8], table: &[u32], symbols: u32, scope: ScopeId, name: u32) -> Option<Found>
+    ensures { found_of result ≡ TableSpec.climb image.now (suc scope.0) table.now symbols scope.0 name }
 {
     match find(image, table, symbols, scope, name) {
-        Some(node) => Some(node),
+        Some(found) => Some(found),
         None => {
             let parent = parent_of(image, table, scope);
             if parent.0 < scope.0 {
@@ -162,25 +174,25 @@ pub fn lookup(
 }
 
 // Of a kind, by the kind's number: any may be asked for.
-pub fn is_kind(image: &[u8], found: Option<NodeId>, kind: u32) -> bool
-    ensures { result ≡ TableSpec.is_kind image.now kind (option_of found) }
+pub fn is_kind(image: &[u8], found: Option<Found>, kind: u32) -> bool
+    ensures { result ≡ TableSpec.is_kind image.now kind (found_node (found_of found)) }
 {
     match found {
-        Some(node) => ast::kind_at(image, node) == kind,
+        Some(found) => ast::kind_at(image, found.node) == kind,
         None => false,
     }
 }
 
 // A Var.
-pub fn is_var(image: &[u8], found: Option<NodeId>) -> bool
-    ensures { result ≡ TableSpec.is_var image.now (option_of found) }
+pub fn is_var(image: &[u8], found: Option<Found>) -> bool
+    ensures { result ≡ TableSpec.is_var image.now (found_node (found_of found)) }
 {
     is_kind(image, found, u32::from(Kind::IdentTerm))
 }
 
 // A Var or a Const.
-pub fn is_value(image: &[u8], found: Option<NodeId>) -> bool
-    ensures { result ≡ TableSpec.is_value image.now (option_of found) }
+pub fn is_value(image: &[u8], found: Option<Found>) -> bool
+    ensures { result ≡ TableSpec.is_value image.now (found_node (found_of found)) }
 {
     is_var(image, found) || is_kind(image, found, u32::from(Kind::ConstDecl))
 }

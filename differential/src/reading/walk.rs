@@ -454,13 +454,14 @@ impl Lent<'_> {
             })
     }
 
-    fn lookup(&self, scope: u32, name: u32) -> Option<u32> {
+    /// The scope that holds the symbol, and the node.
+    fn lookup(&self, scope: u32, name: u32) -> Option<(u32, u32)> {
         let mut at = scope;
         loop {
             for j in 0..self.symbols() {
                 let (s, node) = self.symbol(j);
                 if s == at && self.rows.name(node) == Some(name) {
-                    return Some(node);
+                    return Some((s, node));
                 }
             }
             at = self.parent(at);
@@ -486,7 +487,7 @@ pub fn lookup_call(image: &[u8], table: &[u32], scope: u32, name: &[u8]) -> Answ
         &image[from..to] == name
     });
     match number.and_then(|x| lent.lookup(scope, x as u32)) {
-        Some(node) => Answer::Result(symbol_number(rows.kind(node)), node),
+        Some((scope, node)) => Answer::Located(scope, symbol_number(rows.kind(node)), node),
         None => Answer::Other(0, 0),
     }
 }

@@ -10,4 +10,4 @@ returns-in_err-row c = rw (c.from_residual.ensures, ← c.in_err-row.ensures)
 
 pub returns : goal.returns
 unfolding told
-returns c = ap some c.symbol_node.ensures ∙ ap (told _ _) (sym (add-one _) ∙ c.in_ok-row.ensures)
+returns c = ap some c.symbol_at.ensures ∙ ap (told _ _) (sym (add-one _) ∙ c.in_ok-row.ensures)

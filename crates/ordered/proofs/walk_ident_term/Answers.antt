@@ -1,5 +1,6 @@
 use borrow.Author.Rules.{rules}
 use mathlib.Core.Path.{◌≡◌, refl, ap, ◌∙◌}
+use Rattle.table.specs.Table.{found_node}
 use Rattle.ordered.specs.Promises.{asks, unless, Walks}
 use Rattle.ordered.proofs.Ends.{ends_in}
 use Rattle.ordered.proofs.Idents.{known-ends, new-ends, new-few, var-below, ident_here, ident-asking, ident-ends}
@@ -20,18 +21,18 @@ stands-before-requires g c = var-below _ c.requires.0.0 c.requires.1 c.ident_ter
 
 pub introduce-exit-requires : goal.introduce-exit-requires
 introduce-exit-requires g c =
-    let o = ident_here _ c.requires.0.0 c.requires.1 c.ident_term-name.ensures (g.met.R.Role.here _) c.requires.0.1 c.stands-before.ensures (c.is_known.ensures ∙ ap (asks _ _) c.found.ensures) in
+    let o = ident_here _ c.requires.0.0 c.requires.1 c.ident_term-name.ensures (g.met.R.Role.here _) c.requires.0.1 c.stands-before.ensures (c.is_known.ensures ∙ ap (asks _ _) (ap found_node c.found.ensures)) in
     let f = new-few _ _ _ c.if-is_known.false o.few in
     (c.requires.0.1, o.named, f.0, f.1)
 
 pub leave_asked-requires : goal.leave_asked-requires
 leave_asked-requires g c =
-    let o = ident_here _ c.requires.0.0 c.requires.1 c.ident_term-name.ensures (g.met.R.Role.here _) c.requires.0.1 c.stands-before.ensures (c.is_known.ensures ∙ ap (asks _ _) c.found.ensures) in
+    let o = ident_here _ c.requires.0.0 c.requires.1 c.ident_term-name.ensures (g.met.R.Role.here _) c.requires.0.1 c.stands-before.ensures (c.is_known.ensures ∙ ap (asks _ _) (ap found_node c.found.ensures)) in
     let k : c.if-is_known.builder.image.now ≡ c.args.builder.now.image.now = search rules in
     rw (c.leave-named.ensures.keeps.image, k) (ident-asking _ o c.requires.0.1 c.stands-before.ensures (bound g (goal.at.leave_asked-requires g c).Joined-is_known) (rw k at c.leave-named.ensures.walk) c.leave-named.ensures.env)
 
 pub returns-clause-walk : goal.returns-clause-walk
 returns-clause-walk g c =
-    let o = ident_here _ c.requires.0.0 c.requires.1 c.ident_term-name.ensures (g.met.R.Role.here _) c.requires.0.1 c.stands-before.ensures (c.is_known.ensures ∙ ap (asks _ _) c.found.ensures) in
+    let o = ident_here _ c.requires.0.0 c.requires.1 c.ident_term-name.ensures (g.met.R.Role.here _) c.requires.0.1 c.stands-before.ensures (c.is_known.ensures ∙ ap (asks _ _) (ap found_node c.found.ensures)) in
     let k : c.if-is_known.builder.image.now ≡ c.args.builder.now.image.now = search rules in
     ident-ends _ o (bound g (goal.at.returns-clause-walk g c).Joined-is_known) (rw k at c.leave-named.ensures.walk) (cc) (rw (c.leave-named.ensures.keeps.image, k) at c.leave_asked.ensures.stands)

@@ -1,6 +1,6 @@
 use borrow.Author.Rules.{rules}
 use mathlib.Core.Path.{◌≡◌, refl, ap, ◌∙◌}
-use Rattle.table.specs.Table.{is_var}
+use Rattle.table.specs.Table.{found_node, is_var}
 use Rattle.ordered.specs.Promises.{unless, Walks}
 use Rattle.ordered.proofs.Ends.{ends_in}
 use Rattle.ordered.proofs.Idents.{known-ends, new-ends, new-few, defining-below, ident-asking, ident-ends, defined_atom, given-ends, atom-asked, defining_ident, defining-asking}
@@ -26,19 +26,19 @@ stands-entry-requires c = defining-below _ c.requires.0.0 c.requires.1 c.ident_t
 
 pub introduce-exit-requires : goal.introduce-exit-requires
 introduce-exit-requires c =
-    let o = defining_ident _ c.requires.0.0 c.requires.1 c.ident_term-name.ensures c.requires.0.1 c.stands-at_atom.ensures (rw c.walk_term-after_term.ensures.keeps.image at (c.is_var.ensures ∙ ap (is_var _) c.found.ensures)) c.walk_term-after_term.ensures.walk in
+    let o = defining_ident _ c.requires.0.0 c.requires.1 c.ident_term-name.ensures c.requires.0.1 c.stands-at_atom.ensures (rw c.walk_term-after_term.ensures.keeps.image at (c.is_var.ensures ∙ ap (is_var _) (ap found_node c.found.ensures))) c.walk_term-after_term.ensures.walk in
     let f = new-few _ _ _ c.if-is_var.false o.few in
     rw c.walk_term-after_term.ensures.keeps.image (c.walk_term-after_term.ensures.walk.stands, o.named, f.0, f.1)
 
 pub leave_asked-defined-requires : goal.leave_asked-defined-requires
 leave_asked-defined-requires c =
-    let o = defining_ident _ c.requires.0.0 c.requires.1 c.ident_term-name.ensures c.requires.0.1 c.stands-at_atom.ensures (rw c.walk_term-after_term.ensures.keeps.image at (c.is_var.ensures ∙ ap (is_var _) c.found.ensures)) c.walk_term-after_term.ensures.walk in
+    let o = defining_ident _ c.requires.0.0 c.requires.1 c.ident_term-name.ensures c.requires.0.1 c.stands-at_atom.ensures (rw c.walk_term-after_term.ensures.keeps.image at (c.is_var.ensures ∙ ap (is_var _) (ap found_node c.found.ensures))) c.walk_term-after_term.ensures.walk in
     let j : c.if-is_var.builder.image.now ≡ c.args.builder.now.image.now = search rules in
     rw (c.leave-named.ensures.keeps.image, j) (ident-asking _ o c.walk_term-after_term.ensures.walk.stands c.stands-entry.ensures (rw c.walk_term-after_term.ensures.keeps.image at (bound (goal.at.leave_asked-defined-requires c).Joined-is_var)) (rw j at c.leave-named.ensures.walk) c.leave-named.ensures.env)
 
 pub leave_asked-requires : goal.leave_asked-requires
 leave_asked-requires c =
-    let o = defining_ident _ c.requires.0.0 c.requires.1 c.ident_term-name.ensures c.requires.0.1 c.stands-at_atom.ensures (rw c.walk_term-after_term.ensures.keeps.image at (c.is_var.ensures ∙ ap (is_var _) c.found.ensures)) c.walk_term-after_term.ensures.walk in
+    let o = defining_ident _ c.requires.0.0 c.requires.1 c.ident_term-name.ensures c.requires.0.1 c.stands-at_atom.ensures (rw c.walk_term-after_term.ensures.keeps.image at (c.is_var.ensures ∙ ap (is_var _) (ap found_node c.found.ensures))) c.walk_term-after_term.ensures.walk in
     let d = defined_atom _ c.requires.0.0 c.requires.1.defined c.requires.1.terms.second in
     let j : c.if-is_var.builder.image.now ≡ c.args.builder.now.image.now = search rules in
     let n = rw (c.leave-named.ensures.keeps.image, j) at c.leave_asked-defined.ensures in
@@ -51,7 +51,7 @@ leave_asked-requires c =
 
 pub returns-clause-walk : goal.returns-clause-walk
 returns-clause-walk c =
-    let o = defining_ident _ c.requires.0.0 c.requires.1 c.ident_term-name.ensures c.requires.0.1 c.stands-at_atom.ensures (rw c.walk_term-after_term.ensures.keeps.image at (c.is_var.ensures ∙ ap (is_var _) c.found.ensures)) c.walk_term-after_term.ensures.walk in
+    let o = defining_ident _ c.requires.0.0 c.requires.1 c.ident_term-name.ensures c.requires.0.1 c.stands-at_atom.ensures (rw c.walk_term-after_term.ensures.keeps.image at (c.is_var.ensures ∙ ap (is_var _) (ap found_node c.found.ensures))) c.walk_term-after_term.ensures.walk in
     let d = defined_atom _ c.requires.0.0 c.requires.1.defined c.requires.1.terms.second in
     let j : c.if-is_var.builder.image.now ≡ c.args.builder.now.image.now = search rules in
     let n = rw (c.leave-named.ensures.keeps.image, j) at c.leave_asked-defined.ensures in

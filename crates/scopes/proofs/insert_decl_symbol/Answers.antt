@@ -4,7 +4,7 @@ use Rattle.scopes.proofs.insert_decl_symbol.Goals as goal
 use Rattle.scopes.proofs.insert_decl_symbol.Goals.{then-not-stamp+in_default, else-not-stamp}
 
 pub returns-in-Some-clause-walk : goal.returns-in-Some-clause-walk
-returns-in-Some-clause-walk c = enters-twice _ c.requires.entering _ _ c.requires.name _ refl c.in-Some.ensures refl
+returns-in-Some-clause-walk c = enters-twice _ c.requires.entering _ _ c.requires.name _ _ refl refl c.in-Some.ensures refl
 
 pub enter-requires : goal.enter-requires
 enter-requires c =

@@ -7,7 +7,7 @@ use Rattle.table.proofs.find.Goals as goal
 pub returns-then-row_is : goal.returns-then-row_is
 returns-then-row_is c =
     let l = c.loop-j in
-    ap some c.symbol_node.ensures ∙ sym (l.invariant.1 ∙ find-hit _ _ _ _ _ _ c.loop-j-test.true (sym c.row_is.ensures ∙ c.if-row_is.true))
+    ap some c.symbol_at.ensures ∙ sym (l.invariant.1 ∙ find-hit _ _ _ _ _ _ c.loop-j-test.true (sym c.row_is.ensures ∙ c.if-row_is.true))
 
 pub loop-j-preserved : goal.loop-j-preserved
 loop-j-preserved c =

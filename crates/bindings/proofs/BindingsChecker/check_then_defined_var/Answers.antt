@@ -1,5 +1,6 @@
 use mathlib.Core.Path.{sym, ap, ◌∙◌}
-use Rattle.table.specs.Table.{lookup, is_var}
+use Rattle.table.proofs.Finds.{lookup-node}
+use Rattle.table.specs.Table.{is_var}
 use Rattle.rows.proofs.Parts.{appends-as, appends-no}
 use Rattle.typed.proofs.Enums.{term_is, no-ident}
 use Rattle.bindings.proofs.Leaves.{fits-as, when-so, when-not}
@@ -14,13 +15,10 @@ pub at_entry-found-requires : goal.at_entry-found-requires
 at_entry-found-requires c = let o = term_is _ c.requires.is c.term.ensures c.in-Ident.is in c.requires.asks _ o.number o.child
 
 pub report-requires : goal.report-requires
-unfolding lookup
-report-requires c = let o = term_is _ c.requires.is c.term.ensures c.in-Ident.is in fits-as _ (when-so _ (defined-ident _ _ _ c.requires.is o.number o.child) (c.is_var.ensures ∙ ap (is_var _) c.at_entry-found.ensures) c.if-is_var.true) c.requires.fits
+report-requires c = let o = term_is _ c.requires.is c.term.ensures c.in-Ident.is in fits-as _ (when-so _ (defined-ident _ _ _ c.requires.is o.number o.child) (c.is_var.ensures ∙ ap (is_var _) (lookup-node _ _ _ _ c.at_entry-found.ensures)) c.if-is_var.true) c.requires.fits
 
 pub returns-then-is_var : goal.returns-then-is_var
-unfolding lookup
-returns-then-is_var c = let o = term_is _ c.requires.is c.term.ensures c.in-Ident.is in appends-as (sym (when-so _ (defined-ident _ _ _ c.requires.is o.number o.child) (c.is_var.ensures ∙ ap (is_var _) c.at_entry-found.ensures) c.if-is_var.true)) c.report.ensures
+returns-then-is_var c = let o = term_is _ c.requires.is c.term.ensures c.in-Ident.is in appends-as (sym (when-so _ (defined-ident _ _ _ c.requires.is o.number o.child) (c.is_var.ensures ∙ ap (is_var _) (lookup-node _ _ _ _ c.at_entry-found.ensures)) c.if-is_var.true)) c.report.ensures
 
 pub returns-else-is_var : goal.returns-else-is_var
-unfolding lookup
-returns-else-is_var c = let o = term_is _ c.requires.is c.term.ensures c.in-Ident.is in appends-no _ (when-not _ (defined-ident _ _ _ c.requires.is o.number o.child) (c.is_var.ensures ∙ ap (is_var _) c.at_entry-found.ensures) c.if-is_var.false)
+returns-else-is_var c = let o = term_is _ c.requires.is c.term.ensures c.in-Ident.is in appends-no _ (when-not _ (defined-ident _ _ _ c.requires.is o.number o.child) (c.is_var.ensures ∙ ap (is_var _) (lookup-node _ _ _ _ c.at_entry-found.ensures)) c.if-is_var.false)
