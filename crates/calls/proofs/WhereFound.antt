@@ -20,7 +20,7 @@ use Rattle.table.proofs.Finds.{row_in, row_out}
 use Rattle.table.proofs.Frame.{found-child, found-root}
 use Rattle.scopes.specs.Lookup.{test_lookup, symbol_answer, found_by, lookup_call}
 use Rattle.sight.specs.Listing.{table_in}
-use Rattle.calls.specs.Where.{Holds, Over, itself, higher, FoundAt, FoundNowhere}
+use Rattle.calls.specs.Where.{Holds, Over, itself, higher, FoundAt, FoundNowhere, Located}
 
 module _ (img : List ℕ) (t : Table) where
   abbrev up : ℕ → ℕ
@@ -162,7 +162,7 @@ module _ (img : List ℕ) (t : Table) where
       go zero s l = absurd (omega arith)
       go (suc f) s l = step s (held img t s x) refl (dec_lt (up s) s) (λ m. go f (up s) (omega arith))
 
-  -- there is at most one such symbol, so each of the two says exactly when
+  -- at most one symbol stands so; with that each of the two is told both ways
   one-scope : {s x : ℕ} {f g : Found} → FoundAt img t s x f → FoundAt img t s x g → Over img t f.scope g.scope → f.scope ≡ g.scope
   one-scope {f = f} {g} h k o = go (ℕ_discrete g.scope f.scope)
     where
@@ -202,19 +202,12 @@ module _ (img : List ℕ) (t : Table) where
 
 -- Lookup's answer, of an image and a table that it does not refuse ------------------------------------------------------------
 module _ (img tab : List ℕ) (s : ℕ) (bs : List ℕ) where
-  -- the name, the symbol found, and that its number is by the node's kind
-  pub record Located (u k n : ℕ) : Type 0 where
-    pub name : ℕ
-    pub named : number_of img bs ≡ some name
-    pub at : FoundAt img (table_in img tab) s name (record { node = n; scope = u })
-    pub symbol : k ≡ symbol_of (kind_at img n)
-
-  located-by : (o : Option ℕ) → number_of img bs ≡ o → (u k n : ℕ) → symbol_answer img (found_by img tab s o) ≡ located u k n → Located u k n
+  located-by : (o : Option ℕ) → number_of img bs ≡ o → (u k n : ℕ) → symbol_answer img (found_by img tab s o) ≡ located u k n → Located img tab s bs u k n
   unfolding found_by symbol_answer
   located-by none q u k n e = absurd (let z : ◌≡◌ {A = ℕ} 0 1 = cc in omega arith)
   located-by (some x) q u k n e = go (found img (table_in img tab) s x) refl e
     where
-      go : (o : Option Found) → found img (table_in img tab) s x ≡ o → symbol_answer img o ≡ located u k n → Located u k n
+      go : (o : Option Found) → found img (table_in img tab) s x ≡ o → symbol_answer img o ≡ located u k n → Located img tab s bs u k n
       go none r h = absurd (let z : ◌≡◌ {A = ℕ} 0 1 = cc in omega arith)
       go (some f) r h =
           let a : f.scope ≡ u = cc in
@@ -223,11 +216,11 @@ module _ (img tab : List ℕ) (s : ℕ) (bs : List ℕ) where
           let g : f ≡ record { node = n; scope = u } = ap₂ (λ (m v : ℕ). record { node = m; scope = v }) b a in
           record { name = x; named = q; at = subst (FoundAt img (table_in img tab) s x) g ((found-exactly img (table_in img tab) s x f).0 r); symbol = sym c ∙ ap (λ (m : ℕ). symbol_of (kind_at img m)) b }
 
-  pub lookup-located : (u k n : ℕ) → lookup_call img tab s bs ≡ located u k n → Located u k n
+  pub lookup-located : (u k n : ℕ) → lookup_call img tab s bs ≡ located u k n → Located img tab s bs u k n
   unfolding lookup_call
   lookup-located u k n e = go (test_lookup img tab s) e
     where
-      go : (r : ℕ) → elim r as (λ _. Answer) [ zero ↦ symbol_answer img (found_by img tab s (number_of img bs)) | suc i ↦ refused (suc i) ] ≡ located u k n → Located u k n
+      go : (r : ℕ) → elim r as (λ _. Answer) [ zero ↦ symbol_answer img (found_by img tab s (number_of img bs)) | suc i ↦ refused (suc i) ] ≡ located u k n → Located img tab s bs u k n
       go zero h = located-by (number_of img bs) refl u k n h
       go (suc i) h = absurd (let z : ◌≡◌ {A = ℕ} 0 1 = cc in omega arith)
 

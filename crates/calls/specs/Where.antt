@@ -1,9 +1,12 @@
 -- Where a symbol is found, by the rows and the parents of a table: the words of document 02's S-2.
 use Rattle.std.specs.Prelude.{◌≡◌, List, ℕ, ◌<◌}
+use Rattle.std.proofs.Math.Option.{some}
 use mathlib.Core.Logic.{◌≢◌}
-use Rattle.ast.specs.Image.{nodes, name_of}
+use Rattle.ast.specs.Image.{nodes, kind_at, name_of}
+use Rattle.names.specs.Number.{number_of}
+use Rattle.sight.specs.Listing.{table_in}
 use Rattle.table.specs.Rising.{scope_of, node_at, parent_at}
-use Rattle.table.specs.Table.{Table, Found}
+use Rattle.table.specs.Table.{Table, Found, symbol_of}
 
 module _ (img : List ℕ) (t : Table) where
   -- row j is one of the scope s, of a node with the name x
@@ -30,3 +33,11 @@ module _ (img : List ℕ) (t : Table) where
   -- it is found nowhere
   abbrev pub FoundNowhere : ℕ → ℕ → Type 0
   FoundNowhere s x = (v : ℕ) → Over v s → (j : ℕ) → Holds v x j → ⊥
+
+-- what Lookup says of the name with the bytes bs, from the scope s, by a scope, a symbol number and a node: it is found so, and the number
+-- is that of the node's kind
+pub record Located (img tab : List ℕ) (s : ℕ) (bs : List ℕ) (u k n : ℕ) : Type 0 where
+  pub name : ℕ
+  pub named : number_of img bs ≡ some name
+  pub at : FoundAt img (table_in img tab) s name (record { node = n; scope = u })
+  pub symbol : k ≡ symbol_of (kind_at img n)

@@ -17,26 +17,8 @@ use Rattle.scopes.specs.Lookup.{test_lookup, symbol_answer, found_by, lookup_cal
 use Rattle.bindings.specs.Errors.{error_rows, test_errors, errors}
 use Rattle.sorted.specs.Sorted.{placed, sorted}
 use Rattle.occurrences.specs.Occurrences.{occurrence_rows, lone, rows_by_rule, lone_answer, occurrences, once}
+use Rattle.exports.specs.Alike.{Counts, Locates, Alike, Filling, resolving, checking, sorting, counting, listing}
 use Rattle.exports.specs.Packed.{packed, Places}
-
--- what Lookup does not give, and what the other calls do not
-abbrev Counts : Answer → Type 0
-Counts (refused n) = ⊥
-Counts (twice x a b) = ⊥
-Counts (result a b) = Unit {0}
-Counts (located s k n) = ⊥
-Counts (other a b) = ⊥
-
-abbrev Locates : Answer → Type 0
-Locates (refused n) = ⊥
-Locates (twice x a b) = ⊥
-Locates (result a b) = ⊥
-Locates (located s k n) = Unit {0}
-Locates (other a b) = ⊥
-
--- two answers that one call may give
-abbrev pub Alike : Answer → Answer → Type 0
-Alike x y = (Counts x → Locates y → ⊥) × (Locates x → Counts y → ⊥)
 
 pub one_answer : (x y : Answer) → Alike x y → Fits x → Fits y → packed x ≡ packed y → x ≡ y
 unfolding packed Fits
@@ -109,14 +91,6 @@ lone-none : (o : Option Row) → Locates (lone_answer o) → ⊥
 unfolding lone_answer
 lone-none none h = h
 lone-none (some w) h = h
-
--- such a call: its answer, whatever it is lent
-pub data Filling : Answer → Type 0 where
-  resolving : (img tab : List ℕ) → Filling (resolve img tab).answer
-  checking : (img tab rows : List ℕ) (mode : ℕ) → Filling (errors img tab rows mode).answer
-  sorting : (img tab rows : List ℕ) (mode : ℕ) → Filling (sorted img tab rows mode).answer
-  counting : (img tab : List ℕ) → Filling (once img tab).answer
-  listing : (img tab rows : List ℕ) → Filling (occurrences img tab rows).answer
 
 filling-none : {a : Answer} → Filling a → Locates a → ⊥
 unfolding resolve errors sorted once occurrences
