@@ -7,12 +7,12 @@
  *
  * Lent memory
  *
- * An image, a table and rows are pointers, each followed by its length: bytes of an image or a name, 32-bit words of a
- * table or rows. A pointer is good for that many elements for as long as the call runs, and nothing else writes them
- * meanwhile. A table or rows that a call writes overlap nothing else that is lent to it; what it only reads may overlap.
- * The image and a name may have any alignment; a table and rows are aligned as uint32_t is. A length of 0 may come with
+ * An image, a table, rows and an index are pointers, each followed by its length: bytes of an image or a name, 32-bit
+ * words of a table, rows or an index. A pointer is good for that many elements for as long as the call runs, and nothing
+ * else writes them meanwhile. Words that a call writes overlap nothing else that is lent to it; what it only reads may
+ * overlap. The image and a name may have any alignment; words are aligned as uint32_t is. A length of 0 may come with
  * any pointer, NULL too: nothing is read or written through it. A call writes no word past EQLOG_TABLE_WORDS(N) of a
- * table and past EQLOG_ROWS_WORDS(N) of rows, whatever their lengths.
+ * table, past EQLOG_ROWS_WORDS(N) of rows and past EQLOG_INDEX_WORDS(N, S) of an index, whatever their lengths.
  *
  * Stack: EQLOG_STACK_BYTES are enough for any call on any image. Nesting reaches some 1,000 levels, and the walks
  * over the tree call themselves once or more for each. Measured on the deepest images of eight forms (terms, app heads,
@@ -34,6 +34,12 @@
  * N, K scopes, Y symbols, then arrays of N words each: entry scope and exit scope of each node, parent of each scope,
  * scope and node of each symbol. Unused places are 0; EQLOG_NONE is the parent of scope 0 and both scopes of an
  * AppHeadMember.
+ *
+ * The index of a table
+ *
+ * For each of the S names the first symbol row whose node has that name; then for each of N rows the next row of the same
+ * name. EQLOG_NONE is for no row: it ends a chain and fills unused places. So from EQLOG_INDEX_FIRST(name) on, each next at
+ * EQLOG_INDEX_NEXT(S, row), stand all symbols of a name, in the order in which they were inserted.
  */
 #ifndef EQLOG_SCOPES_H
 #define EQLOG_SCOPES_H
@@ -85,6 +91,13 @@ enum eqlog_array {
 #define EQLOG_ROW_LEFT(n, i) (1 + (size_t)(i))
 #define EQLOG_ROW_RIGHT(n, i) (1 + (size_t)(n) + (size_t)(i))
 
+/* The words of an index for an image of n nodes and s names; and the places in it: the first row of a name, the row after a
+ * row in its chain. */
+#define EQLOG_INDEX_WORDS(n, s) ((size_t)(s) + (size_t)(n))
+#define EQLOG_INDEX_FIRST(name) ((size_t)(name))
+#define EQLOG_INDEX_NEXT(s, row) ((size_t)(s) + (size_t)(row))
+#define EQLOG_MAX_INDEX_WORDS EQLOG_INDEX_WORDS(EQLOG_MAX_NODES, EQLOG_MAX_NAMES)
+
 #define EQLOG_NONE UINT32_MAX
 
 #define EQLOG_STACK_BYTES (512 * 1024)
@@ -124,7 +137,8 @@ enum eqlog_refusal {
     EQLOG_REFUSED_ROWS = 14,       /* the rows have under EQLOG_ROWS_WORDS(N) words */
     EQLOG_REFUSED_MODE = 15,       /* a mode over 2 */
     EQLOG_REFUSED_UNSOUND = 16,    /* the table is not one that a lookup can go through */
-    EQLOG_REFUSED_SCOPE = 17       /* a scope not below K */
+    EQLOG_REFUSED_SCOPE = 17,      /* a scope not below K */
+    EQLOG_REFUSED_INDEX = 18       /* the index has under EQLOG_INDEX_WORDS(N, S) words, or is not that of the table */
 };
 
 enum eqlog_symbol {
@@ -160,6 +174,17 @@ uint64_t eqlog_resolve(const uint8_t *image, size_t image_len, uint32_t *table, 
  * list is the entry and the exit of its ModelDecl. */
 uint64_t eqlog_lookup(const uint8_t *image, size_t image_len, const uint32_t *table, size_t table_len, uint32_t scope,
                       const uint8_t *name, size_t name_len);
+
+/* Writes the index of a table. Result: c is Y, the symbol rows in its chains. Refuses 1 to 13, 16, 18. Any sound table
+ * will do; the table is only read. */
+uint64_t eqlog_index(const uint8_t *image, size_t image_len, const uint32_t *table, size_t table_len, uint32_t *index,
+                     size_t index_len);
+
+/* As eqlog_lookup in its answer, but it goes along the chain of the name and not through all symbols. Refuses 1 to 13, 16,
+ * 17, then 18: words that are not what eqlog_index writes for this image and table; past EQLOG_INDEX_WORDS(N, S) any may
+ * stand. */
+uint64_t eqlog_lookup_indexed(const uint8_t *image, size_t image_len, const uint32_t *table, size_t table_len,
+                              const uint32_t *index, size_t index_len, uint32_t scope, const uint8_t *name, size_t name_len);
 
 /* Resolves, then writes the error rows: a count, then error numbers and nodes. Result: c is the count. Refuses 1 to 15. */
 uint64_t eqlog_errors(const uint8_t *image, size_t image_len, uint32_t *table, size_t table_len, uint32_t *rows,

@@ -10,7 +10,7 @@ use differential::image::{Sketch, Word};
 use differential::inputs::{deep, pad, Deep};
 use differential::make::{Make, Style};
 use differential::random::Random;
-use differential::reading::layout::{rows_words, table_words};
+use differential::reading::layout::{index_words, rows_words, table_words};
 use differential::reading::tests::{sizes, verdict};
 use original::Built;
 use Word::{Child, MaybeName, Name, Plain};
@@ -362,6 +362,72 @@ fn run_sorted(subject: &dyn Calls) {
     }
 }
 
+/// The image test, the call that makes the index, and both lookups from the last scope, of so many names in turn: medians in
+/// microseconds, of one lookup. First how many symbols and scopes there are.
+fn time_indexed(image: &[u8], subject: &dyn Calls) -> (u32, u32, [f64; 4]) {
+    let (n, s) = (sizes(image).n, sizes(image).s);
+    let mut table = vec![0u32; table_words(n)];
+    let Answer::Result(scopes, symbols) = subject.resolve(image, &mut table) else { panic!("no table") };
+    let mut index = vec![0u32; index_words(n, s)];
+    assert_eq!(subject.index(image, &table, &mut index), Answer::Result(0, symbols));
+    let names: Vec<&[u8]> = (0..s)
+        .step_by(s.div_ceil(20))
+        .map(|i| {
+            let (start, len) = subject.name(image, i as u32);
+            &image[start..start + len]
+        })
+        .collect();
+    let mut times = vec![Vec::new(); 4];
+    for _ in 0..ROUNDS {
+        times[0].push(clock(|| sink(refused(subject.resolve(image, &mut [])))));
+        times[1].push(clock(|| sink(count(subject.index(image, &table, &mut index)))));
+        let each = |f: &dyn Fn(&[u8]) -> Answer| clock(|| names.iter().for_each(|name| sink(found(f(name))))) / names.len() as f64;
+        times[2].push(each(&|name| subject.lookup(image, &table, scopes - 1, name)));
+        times[3].push(each(&|name| subject.lookup_indexed(image, &table, &index, scopes - 1, name)));
+    }
+    (symbols, scopes, [0, 1, 2, 3].map(|i| median(&mut times[i])))
+}
+
+/// The number of a refusal.
+fn refused(answer: Answer) -> usize {
+    match answer {
+        Answer::Refused(number) => number as usize,
+        other => panic!("{other:?}"),
+    }
+}
+
+/// What a lookup found, as a number.
+fn found(answer: Answer) -> usize {
+    match answer {
+        Answer::Located(scope, _, node) => (scope + node) as usize,
+        Answer::Other(0, 0) => 0,
+        other => panic!("{other:?}"),
+    }
+}
+
+/// Lookup beside lookup through the index. Both test image and table first, which is most of their time; the index test is
+/// in the second.
+fn run_indexed(subject: &dyn Calls) {
+    let inputs: [(&str, Vec<u8>); 5] = [
+        ("typical, 30 rules", typical(30, 2047)),
+        ("typical of 128 nodes", typical(1000, 128)),
+        ("1,000 declarations", declarations(1000)),
+        ("900 scopes in one chain", one_atom(false, 900)),
+        ("largest, mixed", mixed(2048)),
+    ];
+    println!();
+    println!("| input | N | symbols | scopes | L tests | L index | L lookup | L indexed | indexed / lookup |");
+    println!("|---|---|---|---|---|---|---|---|---|");
+    for (name, image) in &inputs {
+        let (symbols, scopes, [tests, index, lookup, indexed]) = time_indexed(image, subject);
+        println!(
+            "| {name} | {} | {symbols} | {scopes} | {tests:.1} | {index:.1} | {lookup:.1} | {indexed:.1} | {:.2} |",
+            sizes(image).n,
+            indexed / lookup
+        );
+    }
+}
+
 #[cfg(feature = "library")]
 fn subject() -> impl Calls {
     differential::calls::Library
@@ -423,6 +489,7 @@ fn run() {
         );
     }
     run_sorted(&subject);
+    run_indexed(&subject);
 }
 
 fn main() {

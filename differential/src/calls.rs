@@ -5,17 +5,19 @@ pub enum Answer {
     Refused(u32),
     /// Name, first node, second node.
     Twice(u32, u32, u32),
-    /// Resolve: K and Y; Errors, Sorted and Occurrences: 0 and the count; Once: 0 and 0 for "ok".
+    /// Resolve: K and Y; Errors, Sorted and Occurrences: 0 and the count; Index: 0 and Y; Once: 0 and 0 for "ok".
     Result(u32, u32),
-    /// Lookup: the scope that holds the symbol, its number and its node.
+    /// Lookup, by climbing and through an index: the scope that holds the symbol, its number and its node.
     Located(u32, u32, u32),
-    /// Lookup: none, 0 and 0; Once: the lone occurrence and its binding.
+    /// A lookup: none, 0 and 0; Once: the lone occurrence and its binding.
     Other(u32, u32),
 }
 
 pub trait Calls {
     fn resolve(&self, image: &[u8], table: &mut [u32]) -> Answer;
     fn lookup(&self, image: &[u8], table: &[u32], scope: u32, name: &[u8]) -> Answer;
+    fn index(&self, image: &[u8], table: &[u32], index: &mut [u32]) -> Answer;
+    fn lookup_indexed(&self, image: &[u8], table: &[u32], index: &[u32], scope: u32, name: &[u8]) -> Answer;
     fn errors(&self, image: &[u8], table: &mut [u32], rows: &mut [u32], mode: u32) -> Answer;
     fn sorted(&self, image: &[u8], table: &mut [u32], rows: &mut [u32], mode: u32) -> Answer;
     fn once(&self, image: &[u8], table: &mut [u32]) -> Answer;
@@ -37,6 +39,14 @@ mod library {
         Answer::Twice(t.name, t.first, t.second)
     }
 
+    fn looked(answer: lib::Lookup) -> Answer {
+        match answer {
+            lib::Lookup::Refused(r) => Answer::Refused(r.number()),
+            lib::Lookup::Found { symbol, node, scope } => Answer::Located(scope, symbol.number(), node),
+            lib::Lookup::Nothing => Answer::Other(0, 0),
+        }
+    }
+
     fn rows_answer(answer: lib::Rows) -> Answer {
         match answer {
             lib::Rows::Refused(r) => Answer::Refused(r.number()),
@@ -55,11 +65,18 @@ mod library {
         }
 
         fn lookup(&self, image: &[u8], table: &[u32], scope: u32, name: &[u8]) -> Answer {
-            match lib::lookup(image, table, scope, name) {
-                lib::Lookup::Refused(r) => Answer::Refused(r.number()),
-                lib::Lookup::Found { symbol, node, scope } => Answer::Located(scope, symbol.number(), node),
-                lib::Lookup::Nothing => Answer::Other(0, 0),
+            looked(lib::lookup(image, table, scope, name))
+        }
+
+        fn index(&self, image: &[u8], table: &[u32], index: &mut [u32]) -> Answer {
+            match lib::index(image, table, index) {
+                lib::Index::Refused(r) => Answer::Refused(r.number()),
+                lib::Index::Made(rows) => Answer::Result(0, rows),
             }
+        }
+
+        fn lookup_indexed(&self, image: &[u8], table: &[u32], index: &[u32], scope: u32, name: &[u8]) -> Answer {
+            looked(lib::lookup_indexed(image, table, index, scope, name))
         }
 
         fn errors(&self, image: &[u8], table: &mut [u32], rows: &mut [u32], mode: u32) -> Answer {

@@ -6,7 +6,7 @@ use original::{Answers, Built};
 use crate::calls::{Answer, Calls};
 use crate::counts::{Counts, CHANGED, CHANGED_WITH_EQUALS};
 use crate::random::Random;
-use crate::reading::layout::{place, rows_words, table_words, Array, COUNTS};
+use crate::reading::layout::{index_words, place, rows_words, table_words, Array, COUNTS};
 use crate::reading::tests::{fields, name_span, sizes, verdict, Field};
 use crate::reading::walk::Rows;
 use crate::reading::{checks, sight, Reading};
@@ -135,6 +135,44 @@ impl Compare<'_> {
         Ok(got)
     }
 
+    /// The index of a table, its answer and its words; and lookup through it, which must answer as lookup does, and through
+    /// words that are not it.
+    fn indexed(&self, image: &[u8], table: &[u32], scope: u32, name: &[u8], looked: Answer, r: &mut Random, counts: &mut Counts) -> Checked {
+        let need = if verdict(image).is_none() { index_words(sizes(image).n, sizes(image).s) } else { 1 + r.below(40) };
+        let len = length(r, need, counts);
+        let lent = lent(r, len);
+        let mut index = lent.clone();
+        let answer = self.subject.index(image, table, &mut index);
+        let mut wanted = lent.clone();
+        let wanted_answer = Reading.index(image, table, &mut wanted);
+        if (answer, &index) != (wanted_answer, &wanted) {
+            return Err(format!("index: {answer:?}, or its words, are not those of the reading, {wanted_answer:?}"));
+        }
+        counts.answer("index", answer);
+        let through = |index: &[u32], scope: u32, counts: &mut Counts| {
+            let got = self.subject.lookup_indexed(image, table, index, scope, name);
+            let wanted = Reading.lookup_indexed(image, table, index, scope, name);
+            counts.answer("indexed", got);
+            if got == wanted { Ok(got) } else { Err(format!("lookup of {name:?} in {scope} through an index: {got:?}, the reading says {wanted:?}")) }
+        };
+        let got = through(&index, scope, counts)?;
+        let Answer::Result(..) = answer else {
+            return if matches!(got, Answer::Refused(_)) { Ok(()) } else { Err("lookup through words that are no index".into()) };
+        };
+        if got != looked {
+            return Err(format!("lookup of {name:?} in {scope}: {looked:?}, through the index {got:?}"));
+        }
+        // other words: one altered, one past the index altered, too few, a scope that there is not beside them
+        let mut other = index.clone();
+        let at = r.below(index.len());
+        let drawn = r.word() as u32;
+        other[at] = *r.pick(&[other[at].wrapping_add(1), other[at].wrapping_sub(1), u32::MAX, 0, drawn]);
+        through(&other, scope, counts)?;
+        through(&index[..r.below(need)], scope, counts)?;
+        through(&other[..r.below(other.len() + 1)], scope.wrapping_add(r.word() as u32 % 4), counts)?;
+        Ok(())
+    }
+
     /// Lookup in the table that Resolve left (or left alone), and in tables that were changed.
     fn lookups(&self, image: &[u8], resolved: &Done, r: &mut Random, counts: &mut Counts) -> Checked {
         let accepted = verdict(image).is_none();
@@ -149,7 +187,8 @@ impl Compare<'_> {
             Answer::Result(k, _) => k + r.below(3) as u32,
             _ => r.below(4) as u32,
         };
-        self.lookup(image, &resolved.table, scope, &name, counts)?;
+        let looked = self.lookup(image, &resolved.table, scope, &name, counts)?;
+        self.indexed(image, &resolved.table, scope, &name, looked, r, counts)?;
         let Answer::Result(k, y) = resolved.answer else { return Ok(()) };
         let n = sizes(image).n;
         for _ in 0..2 {
@@ -161,9 +200,11 @@ impl Compare<'_> {
                 table.truncate(r.below(table_words(n)));
             }
             let scope = if r.one_in(5) { r.word() as u32 } else { r.below(k as usize) as u32 };
-            if let Answer::Located(..) | Answer::Other(..) = self.lookup(image, &table, scope, &name, counts)? {
+            let looked = self.lookup(image, &table, scope, &name, counts)?;
+            if let Answer::Located(..) | Answer::Other(..) = looked {
                 counts.see("lookups in sound tables that Resolve did not leave");
             }
+            self.indexed(image, &table, scope, &name, looked, r, counts)?;
         }
         Ok(())
     }
@@ -270,15 +311,21 @@ impl Compare<'_> {
         same("error rows by place", &sorted, &checks::by_place(&rows, wanted.errors))?;
         same("occurrences", &list, &wanted.occurrences)?;
         same("once", once, wanted.lone.map_or(Answer::Result(0, 0), |(node, binding)| Answer::Other(node, binding)))?;
+        let mut index = lent(r, index_words(n, rows.names));
+        same("index", self.subject.index(image, &table, &mut index), Answer::Result(0, y as u32))?;
         for ((scope, name), found) in asked.iter().zip(found) {
-            // the original does not say in which scope it found the symbol
-            let got = match self.lookup(image, &table, *scope, name.as_bytes(), counts)? {
-                Answer::Located(_, symbol, node) => Some((symbol, node)),
-                Answer::Other(0, 0) => None,
-                other => return Err(format!("lookup of {name:?} in {scope}: {other:?}")),
-            };
-            same(&format!("lookup of {name:?} in {scope}"), got, found)?;
-            counts.see("lookups compared with the original");
+            let climbed = self.lookup(image, &table, *scope, name.as_bytes(), counts)?;
+            let chained = self.subject.lookup_indexed(image, &table, &index, *scope, name.as_bytes());
+            for (what, answer) in [("", climbed), (" through the index", chained)] {
+                // the original does not say in which scope it found the symbol
+                let got = match answer {
+                    Answer::Located(_, symbol, node) => Some((symbol, node)),
+                    Answer::Other(0, 0) => None,
+                    other => return Err(format!("lookup of {name:?} in {scope}{what}: {other:?}")),
+                };
+                same(&format!("lookup of {name:?} in {scope}{what}"), got, found)?;
+                counts.see(&format!("lookups{what} compared with the original"));
+            }
         }
         Ok(())
     }

@@ -4,7 +4,7 @@ use std::collections::BTreeMap;
 
 use crate::calls::Answer;
 
-pub const CALLS: [&str; 7] = ["resolve", "lookup", "errors", "sorted", "once", "occurrences", "name"];
+pub const CALLS: [&str; 9] = ["resolve", "lookup", "index", "indexed", "errors", "sorted", "once", "occurrences", "name"];
 
 /// Lists of error rows that sorting by place must have met.
 pub const CHANGED: &str = "error rows: lists that sorting changes";
@@ -24,15 +24,15 @@ pub struct Counts {
 fn label(call: &str, answer: Answer) -> String {
     match answer {
         Answer::Refused(r) => format!("{r:2} refused"),
-        Answer::Twice(..) => "18 twice".to_string(),
+        Answer::Twice(..) => "50 twice".to_string(),
         Answer::Result(..) => match call {
-            "once" => "21 ok".to_string(),
-            _ => "19 result".to_string(),
+            "once" => "53 ok".to_string(),
+            _ => "51 result".to_string(),
         },
-        Answer::Located(..) => "19 result".to_string(),
+        Answer::Located(..) => "51 result".to_string(),
         Answer::Other(..) => match call {
-            "once" => "22 lone".to_string(),
-            _ => "20 none".to_string(),
+            "once" => "54 lone".to_string(),
+            _ => "52 none".to_string(),
         },
     }
 }
@@ -71,8 +71,8 @@ impl Counts {
     /// The refusals and answers that no call has given, of those that some call can give.
     pub fn missing(&self) -> Vec<String> {
         let mut missing: Vec<String> = Vec::new();
-        let wanted = (1..=17).map(|r| format!("{r:2} refused"));
-        let others = ["18 twice", "19 result", "20 none", "21 ok", "22 lone"].map(String::from);
+        let wanted = (1..=18).map(|r| format!("{r:2} refused"));
+        let others = ["50 twice", "51 result", "52 none", "53 ok", "54 lone"].map(String::from);
         for label in wanted.chain(others) {
             if !self.answers.keys().any(|k| k.0 == label) {
                 missing.push(label);

@@ -59,7 +59,7 @@ fn deepest() {
     use differential::calls::Answer;
     use differential::inputs::{deep, DEEP};
     use differential::random::Random;
-    use differential::reading::layout::{rows_words, table_words};
+    use differential::reading::layout::{index_words, rows_words, table_words};
     use differential::reading::tests::{sizes, verdict};
     for form in DEEP {
         let image = (2000..=2048)
@@ -73,11 +73,14 @@ fn deepest() {
             let mut table = vec![0; table_words(2048)];
             let mut rows = vec![0; rows_words(2048)];
             if let Answer::Result(scopes, _) = subject.resolve(&image, &mut table) {
+                let mut index = vec![0; index_words(2048, 1024)];
+                subject.index(&image, &table, &mut index);
                 // from the last scope, of every name: the longest way up
                 for name in 0..sizes(&image).s as u32 {
                     let (start, len) = subject.name(&image, name);
                     let bytes = &image[start..start + len];
                     subject.lookup(&image, &table, scopes.saturating_sub(1), bytes);
+                    subject.lookup_indexed(&image, &table, &index, scopes.saturating_sub(1), bytes);
                 }
             }
             subject.errors(&image, &mut table, &mut rows, 2);

@@ -1,17 +1,18 @@
 //! Recorded answers, for the program that replays them without any Rust.
 //!
-//! A record is 22 little-endian words: the image's length in bytes, the table's and the rows' in words, the mode, the scope,
-//! the length of the name looked up, the name number asked for, 0; then the packed answers of eqlog_resolve, eqlog_errors,
-//! eqlog_once, eqlog_occurrences, eqlog_lookup, eqlog_name and eqlog_sorted, low word first. After them the image, the
-//! name, and what the calls leave: the table after resolve, the rows after errors, occurrences and sorted. Every lent
-//! word is 7 before each call but lookup, which is given the table that resolve leaves.
+//! A record is 26 little-endian words: the image's length in bytes, the table's and the rows' in words, the mode, the scope,
+//! the length of the name looked up, the name number asked for, the index's length in words; then the packed answers of
+//! eqlog_resolve, eqlog_errors, eqlog_once, eqlog_occurrences, eqlog_lookup, eqlog_name, eqlog_sorted, eqlog_index and
+//! eqlog_lookup_indexed, low word first. After them the image, the name, and what the calls leave: the table after resolve,
+//! the rows after errors, occurrences and sorted, the index after index. Every lent word is 7 before each call but the
+//! lookups and index, which are given the table that resolve leaves, and lookup_indexed the index that index leaves.
 
 use crate::calls::{Answer, Calls};
 use crate::compare::Compare;
 use crate::counts::Counts;
 use crate::inputs::input;
 use crate::random::Random;
-use crate::reading::layout::{rows_words, table_words};
+use crate::reading::layout::{index_words, rows_words, table_words};
 use crate::reading::tests::{sizes, verdict};
 use crate::reading::Reading;
 
@@ -53,19 +54,25 @@ fn record(image: &[u8], r: &mut Random) -> Vec<u8> {
     let (from, len) = Reading.name(image, name_number);
     let name = if len == 0 { b"nowhere".to_vec() } else { image[from..from + len].to_vec() };
     let found = Reading.lookup(image, &table, scope, &name);
+    let s = if verdict(image).is_none() { sizes(image).s } else { r.below(8) };
+    let mut index = vec![7; index_words(n, s) - (n + s > 0 && r.one_in(20)) as usize + spare];
+    let index_answer = Reading.index(image, &table, &mut index);
+    let chained = Reading.lookup_indexed(image, &table, &index, scope, &name);
     let place = (from as u64) << 32 | len as u64;
     let mut bytes: Vec<u8> = Vec::new();
-    for word in [image.len(), table_len, rows_len, mode as usize, scope as usize, name.len(), name_number as usize, 0] {
+    for word in [image.len(), table_len, rows_len, mode as usize, scope as usize, name.len(), name_number as usize, index.len()] {
         bytes.extend((word as u32).to_le_bytes());
     }
     for answer in [resolved, error_answer, once, list_answer, found] {
         bytes.extend(packed(answer).to_le_bytes());
     }
     bytes.extend(place.to_le_bytes());
-    bytes.extend(packed(sorted_answer).to_le_bytes());
+    for answer in [sorted_answer, index_answer, chained] {
+        bytes.extend(packed(answer).to_le_bytes());
+    }
     bytes.extend(image);
     bytes.extend(name);
-    for words in [table, errors, list, sorted] {
+    for words in [table, errors, list, sorted, index] {
         bytes.extend(words.iter().flat_map(|w| w.to_le_bytes()));
     }
     bytes

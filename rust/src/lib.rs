@@ -1,8 +1,8 @@
 //! Safe calls of the proved scope resolver for eqlog sharing rules.
 //!
-//! An image is a rule file in the binary form that the project's header `include/eqlog_scopes.h` describes; a table and
-//! rows are lent by the caller, [`table_len`] and [`rows_len`] words of them. No call panics, allocates or keeps
-//! anything; every image, damaged ones included, gets an answer.
+//! An image is a rule file in the binary form that the project's header `include/eqlog_scopes.h` describes; a table, rows
+//! and an index are lent by the caller, [`table_len`], [`rows_len`] and [`index_len`] words of them. No call panics,
+//! allocates or keeps anything; every image, damaged ones included, gets an answer.
 //!
 //! ```
 //! let image = eqlog_scopes::EMPTY_MODULE;
@@ -54,11 +54,19 @@ pub const fn rows_len(nodes: usize) -> usize {
     1 + 2 * nodes
 }
 
+/// The words that the index of a table needs, for an image of so many nodes and names.
+pub const fn index_len(nodes: usize, names: usize) -> usize {
+    names + nodes
+}
+
 /// The stack that is enough for any call on any image: nesting reaches some 1,000 levels.
 pub const STACK_BYTES: usize = 512 * 1024;
 
 /// A word of the table that stands for nothing: the parent of the first scope, both scopes of an AppHeadMember.
 pub const NO_SCOPE: u32 = u32::MAX;
+
+/// A word of an index that stands for no symbol row: it ends a chain and fills unused places.
+pub const NO_ROW: u32 = u32::MAX;
 
 /// The image of a module without declarations.
 pub const EMPTY_MODULE: [u8; 36] = [
@@ -75,6 +83,25 @@ mod raw {
             image_len: usize,
             table: *const u32,
             table_len: usize,
+            scope: u32,
+            name: *const u8,
+            name_len: usize,
+        ) -> u64;
+        pub fn eqlog_index(
+            image: *const u8,
+            image_len: usize,
+            table: *const u32,
+            table_len: usize,
+            index: *mut u32,
+            index_len: usize,
+        ) -> u64;
+        pub fn eqlog_lookup_indexed(
+            image: *const u8,
+            image_len: usize,
+            table: *const u32,
+            table_len: usize,
+            index: *const u32,
+            index_len: usize,
             scope: u32,
             name: *const u8,
             name_len: usize,
@@ -148,9 +175,11 @@ pub enum Refusal {
     Unsound = 16,
     /// A scope that the table does not have.
     Scope = 17,
+    /// The index is too short, or not that of the table.
+    Index = 18,
 }
 
-const REFUSALS: [Refusal; 17] = [
+const REFUSALS: [Refusal; 18] = [
     Refusal::Header,
     Refusal::Limits,
     Refusal::Length,
@@ -168,15 +197,16 @@ const REFUSALS: [Refusal; 17] = [
     Refusal::Mode,
     Refusal::Unsound,
     Refusal::Scope,
+    Refusal::Index,
 ];
 
 impl Refusal {
-    /// Its number in the table of refusals, 1 to 17.
+    /// Its number in the table of refusals, 1 to 18.
     pub fn number(self) -> u32 {
         self as u32
     }
 
-    /// The refusal of a number from 1 to 17.
+    /// The refusal of a number from 1 to 18.
     pub fn from_number(number: u32) -> Option<Refusal> {
         REFUSALS.get((number as usize).wrapping_sub(1)).copied()
     }
@@ -241,6 +271,14 @@ pub enum Lookup {
     Nothing,
 }
 
+/// The answer of [`index`].
+#[derive(Copy, Clone, Debug, PartialEq, Eq, Hash)]
+pub enum Index {
+    Refused(Refusal),
+    /// So many symbol rows stand in the chains.
+    Made(u32),
+}
+
 /// The answer of [`errors`], of [`sorted`] and of [`occurrences`].
 #[derive(Copy, Clone, Debug, PartialEq, Eq, Hash)]
 pub enum Rows {
@@ -275,7 +313,7 @@ fn parts(packed: u64) -> (u64, u32, u32, u32) {
 }
 
 fn refusal(number: u32) -> Refusal {
-    Refusal::from_number(number).expect("refusals are numbered 1 to 17")
+    Refusal::from_number(number).expect("refusals are numbered 1 to 18")
 }
 
 /// Fills the table: entry and exit scope of each node, the scopes' parents, the symbols.
@@ -301,11 +339,43 @@ pub fn lookup(image: &[u8], table: &[u32], scope: u32, name: &[u8]) -> Lookup {
             name.len(),
         )
     };
+    looked(packed)
+}
+
+fn looked(packed: u64) -> Lookup {
     match parts(packed) {
         (0, _, _, number) => Lookup::Refused(refusal(number)),
         (2, scope, symbol, node) => Lookup::Found { symbol: SYMBOLS[symbol as usize], node, scope },
         _ => Lookup::Nothing,
     }
+}
+
+/// Writes the index of a table: for each name its first symbol row, then for each row the next of the same name.
+pub fn index(image: &[u8], table: &[u32], index: &mut [u32]) -> Index {
+    let packed = unsafe {
+        raw::eqlog_index(image.as_ptr(), image.len(), table.as_ptr(), table.len(), index.as_mut_ptr(), index.len())
+    };
+    match parts(packed) {
+        (0, _, _, number) => Index::Refused(refusal(number)),
+        (_, _, _, rows) => Index::Made(rows),
+    }
+}
+
+/// The same answer as [`lookup`], by way of the index of the table, which [`index`] has written.
+pub fn lookup_indexed(image: &[u8], table: &[u32], index: &[u32], scope: u32, name: &[u8]) -> Lookup {
+    looked(unsafe {
+        raw::eqlog_lookup_indexed(
+            image.as_ptr(),
+            image.len(),
+            table.as_ptr(),
+            table.len(),
+            index.as_ptr(),
+            index.len(),
+            scope,
+            name.as_ptr(),
+            name.len(),
+        )
+    })
 }
 
 /// Resolves, then writes the error rows: a count, then an array of error numbers and one of nodes.
@@ -389,4 +459,12 @@ pub fn pairs(rows: &[u32], nodes: usize) -> impl Iterator<Item = (u32, u32)> + '
     let lefts = rows.iter().skip(1).copied();
     let rights = rows.iter().skip(nodes.saturating_add(1)).copied();
     lefts.zip(rights).take(count)
+}
+
+/// The symbol rows of a name, in the order in which they were inserted: of an index for so many names. Of words that no call
+/// has written, rows until they end or lead nowhere.
+pub fn rows_of(index: &[u32], names: usize, name: u32) -> impl Iterator<Item = u32> + '_ {
+    let row = |place: usize| index.get(place).copied().filter(|&row| row != NO_ROW);
+    let first = if (name as usize) < names { row(name as usize) } else { None };
+    std::iter::successors(first, move |&last| row(names.checked_add(last as usize)?)).take(index.len())
 }

@@ -180,6 +180,58 @@ fn lookup_tells_where() {
 }
 
 #[test]
+fn index_chains_the_symbols_of_a_name() {
+    let (image, mut table) = (model(), vec![0; table_len(9)]);
+    assert_eq!(resolve(&image, &mut table), Resolve::Done { scopes: 2, symbols: 3 });
+    let mut words = vec![7; index_len(9, 2) + 1];
+    assert_eq!(index(&image, &table, &mut words), Index::Made(3));
+    // p stands in rows 0 and 2, M in row 1; nothing past the index is written
+    assert_eq!(rows_of(&words, 2, 0).collect::<Vec<_>>(), [0, 2]);
+    assert_eq!(rows_of(&words, 2, 1).collect::<Vec<_>>(), [1]);
+    assert_eq!(words[..5], [0, 1, 2, NO_ROW, NO_ROW]);
+    assert!(words[5..11].iter().all(|&w| w == NO_ROW));
+    assert_eq!(words[11], 7);
+    let node = |row| table[place(Array::SymbolNode, 9, row)];
+    assert_eq!((node(0), node(1), node(2)), (1, 6, 4));
+    // refused, it alters nothing
+    let mut short = vec![7; index_len(9, 2) - 1];
+    assert_eq!(index(&image, &table, &mut short), Index::Refused(Refusal::Index));
+    assert_eq!(index(&image, &table[1..], &mut words), Index::Refused(Refusal::Table));
+    assert!(short.iter().all(|&w| w == 7));
+    assert_eq!(words[..5], [0, 1, 2, NO_ROW, NO_ROW]);
+}
+
+#[test]
+fn lookup_by_the_index() {
+    let (image, mut table) = (model(), vec![0; table_len(9)]);
+    resolve(&image, &mut table);
+    let mut words = vec![7; index_len(9, 2) + 1];
+    index(&image, &table, &mut words);
+    for scope in 0..3 {
+        for name in [&b"p"[..], b"M", b"q", b""] {
+            assert_eq!(lookup_indexed(&image, &table, &words, scope, name), lookup(&image, &table, scope, name));
+        }
+    }
+    let refused = |words: &[u32], scope| lookup_indexed(&image, &table, words, scope, b"p");
+    assert_eq!(refused(&words[..10], 1), Lookup::Refused(Refusal::Index));
+    // a scope that there is not comes before a wrong index
+    assert_eq!(refused(&words[..10], 2), Lookup::Refused(Refusal::Scope));
+    words[11] = 8;
+    assert_eq!(refused(&words, 1), Lookup::Found { symbol: Symbol::Pred, node: 4, scope: 1 });
+    words[10] = 0;
+    assert_eq!(refused(&words, 1), Lookup::Refused(Refusal::Index));
+}
+
+#[test]
+fn rows_of_any_words() {
+    assert_eq!(rows_of(&[], 0, 0).count(), 0);
+    assert_eq!(rows_of(&[0, 0], 1, 0).count(), 2);
+    assert_eq!(rows_of(&[5, 9], 1, 0).collect::<Vec<_>>(), [5]);
+    assert_eq!(rows_of(&[5, 9], 1, 1).count(), 0);
+    assert_eq!(rows_of(&[1, 2], usize::MAX, 0).collect::<Vec<_>>(), [1]);
+}
+
+#[test]
 fn errors_writes_rows() {
     let (mut table, mut rows) = lent();
     assert_eq!(errors(&case_a(), &mut table, &mut rows, Mode::Plain), Rows::Written(0));
@@ -258,11 +310,11 @@ fn names_are_parts_of_the_image() {
 
 #[test]
 fn refusals_by_number() {
-    for number in 1..=17 {
+    for number in 1..=18 {
         assert_eq!(Refusal::from_number(number).map(Refusal::number), Some(number));
     }
     assert_eq!(Refusal::from_number(0), None);
-    assert_eq!(Refusal::from_number(18), None);
+    assert_eq!(Refusal::from_number(19), None);
 }
 
 #[test]

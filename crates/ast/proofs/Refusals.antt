@@ -1,17 +1,18 @@
--- No test of an image gives a number above 17, the last refusal.
+-- No test of an image gives a number that a field of a packed answer has no room for.
 use mathlib.Core.Bool.{Bool, true, false}
 use mathlib.Core.List.{List, [], ◌∷◌}
-use Prim.Native.Nat.{ℕ, zero, suc, ◌+◌, ◌≤◌}
+use Prim.Native.Nat.{ℕ, zero, suc, ◌+◌}
 use native.Mathlib.Omega.{arith}
 use lib.Dec.{eqb}
 use lib.ListN.{get_or}
+use Rattle.ast.specs.Answer.{Short}
 use Rattle.ast.specs.Image.{kind_at, op_at}
 use Rattle.ast.specs.Kinds.{Field, name, opt_name, child, opt_child, list, lists, cases, no_child}
 use Rattle.ast.specs.Rows.{after}
 use Rattle.ast.specs.Tests.{◌▸◌, need, run, test_sizes, test_ends, unequal, test_twice, test_names, in_row, is_child, child_word, test_blocks, test_field, test_fields, test_node, test_parents, first, is_var, test_var, test_tree, verdict}
 
 abbrev pub Low : ℕ → Type 0
-Low r = r ≤ 17
+Low r = Short r
 
 pub first-low : (a b : ℕ) → Low a → Low b → Low (a ▸ b)
 unfolding ◌▸◌

@@ -28,7 +28,7 @@ use Rattle.table.specs.State.{Walked}
 use Rattle.table.specs.Table.{Table, Found, symbol_of, found, exit_at}
 use Rattle.table.proofs.Below.{FoundRow, lookup-row}
 use Rattle.rows.specs.Rows.{Row}
-use Rattle.sound.specs.Sound.{scopes_in, is_symbol}
+use Rattle.sound.specs.Sound.{scopes_in, is_symbol, table_in}
 use Rattle.scopes.specs.Calls.{test_rows, RowsOutcome, rows_call}
 use Rattle.scopes.specs.Lookup.{test_lookup, symbol_answer, found_by, lookup_call}
 use Rattle.scopes.specs.Resolve.{test_table, walked, headed, counted}
@@ -38,7 +38,7 @@ use Rattle.scopes.proofs.Calls.{rows-table, rowed-done}
 use Rattle.scopes.proofs.Resolving.{table-accepted, walked-ended, zeroed-long, headed-sound, headed-word, headed-length, headed-scopes}
 use Rattle.scopes.proofs.Single.{single-done}
 use Rattle.occurrences.specs.Occurrences.{occurrence_rows, occurrences}
-use Rattle.sight.specs.Listing.{places_of, Occurs, table_in, Unrefused}
+use Rattle.sight.specs.Listing.{places_of, Occurs, Unrefused}
 use Rattle.sight.specs.Sight.{Place, In}
 use Rattle.sight.proofs.Answering.{passes}
 use Rattle.sight.proofs.Demand as demand
@@ -46,7 +46,7 @@ use Rattle.sight.proofs.Resolving.{resolved, left-table}
 use Rattle.sight.proofs.WholeModule.{exit_below}
 
 -- the number of a name's own bytes ------------------------------------------------------------------------------------------
-same_self : (xs : List ℕ) → same xs xs ≡ true
+pub same_self : (xs : List ℕ) → same xs xs ≡ true
 unfolding same
 same_self [] = refl
 same_self (x ∷ xs) = ap (λ (b : Bool). elim b [ true ↦ same xs xs | false ↦ false ]) (eq-eqb x x refl) ∙ same_self xs

@@ -29,7 +29,8 @@ use Rattle.bindings.proofs.Calls.{mode-strict, mode-plain, errors-are, errors-ta
 use Rattle.sentences.specs.Places.{Introduced, NotNew, NotFresh, Repeated}
 use Rattle.sentences.proofs.Repeats as repeats
 use Rattle.sentences.proofs.Sentences as sentences
-use Rattle.sight.specs.Listing.{table_in, Unrefused}
+use Rattle.sight.specs.Listing.{Unrefused}
+use Rattle.sound.specs.Sound.{table_in}
 use Rattle.sight.proofs.Answering.{passes}
 use Rattle.sight.proofs.Resolving.{left-table}
 

@@ -1,6 +1,7 @@
 pub mod Untouched
 pub mod ErrorRows
 pub mod ByBytes
-pub mod WhereFound
+pub mod Located
 pub mod Orders
 pub mod SortedRows
+pub mod Chains

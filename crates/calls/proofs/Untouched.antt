@@ -6,6 +6,7 @@ use mathlib.Core.Option.{Option, none, some}
 use Prim.Native.Nat.{ℕ, ◌≤◌, ◌<◌}
 use native.Mathlib.Omega.{arith}
 use lib.ListN.{length, get_or, drop}
+use Rattle.sound.specs.Sound.{table_in}
 use Rattle.ast.specs.Answer.{Answer, refused, twice, result, located, other}
 use Rattle.ast.specs.Image.{nodes}
 use Rattle.ast.specs.Tests.{verdict}
@@ -18,7 +19,6 @@ use Rattle.scopes.specs.Calls.{test_rows, rows_by, rows_call}
 use Rattle.scopes.specs.Walk.{done}
 use Rattle.scopes.proofs.Calls.{Went, went, rows-table, rows_long}
 use Rattle.scopes.proofs.Resolving.{past-kept, long_kept, table-accepted, walked-ended, zeroed-long, headed-word, headed-scopes, headed-symbols}
-use Rattle.sight.specs.Listing.{table_in}
 use Rattle.bindings.specs.Errors.{error_rows, errors}
 use Rattle.bindings.proofs.Bound.{rows_few}
 use Rattle.bindings.proofs.Calls.{errors-rows}

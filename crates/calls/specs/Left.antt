@@ -1,11 +1,12 @@
 -- What a call leaves in the words that it is lent, by its answer.
 use Rattle.std.specs.Prelude.{◌≡◌, List, ℕ, ◌+◌, ◌<◌, ◌≤◌, length, get_or, drop}
 use Rattle.ast.specs.Answer.{Answer, refused, twice, result, located, other}
-use Rattle.ast.specs.Image.{nodes}
+use Rattle.ast.specs.Image.{nodes, names}
 use Rattle.rows.specs.Rows.{rows_length}
+use Rattle.table.specs.Layout.{all_ones, table_length}
+use Rattle.sound.specs.Sound.{symbols_in, table_in}
 use Rattle.scopes.specs.Resolve.{Unused}
-use Rattle.sight.specs.Listing.{table_in}
-use Rattle.table.specs.Layout.{table_length}
+use Rattle.index.specs.Index.{index_length}
 
 -- the answer is a refusal; it is "twice"; it is one of the others
 abbrev pub Refuses : Answer → Type 0
@@ -47,3 +48,11 @@ module _ (img old : List ℕ) (answer : Answer) (new : List ℕ) where
     pub long : length new ≡ length old
     pub past : drop (rows_length (nodes img)) new ≡ drop (rows_length (nodes img)) old
     pub unused : Fills answer → (i : ℕ) → get_or new 0 0 ≤ i → i < nodes img → (get_or new (1 + i) 0 ≡ 0) × (get_or new (1 + nodes img + i) 0 ≡ 0)
+
+-- of a lent index of a table: under a refusal every word stays; the length and the words past S + N always do; else the places of the
+-- second array past the table's rows are all ones
+pub record IndexLeft (img tab old : List ℕ) (answer : Answer) (new : List ℕ) : Type 0 where
+  pub untouched : Refuses answer → new ≡ old
+  pub long : length new ≡ length old
+  pub past : drop (index_length img) new ≡ drop (index_length img) old
+  pub unused : Fills answer → (y : ℕ) → symbols_in img tab ≤ y → y < nodes img → get_or new (names img + y) 0 ≡ all_ones

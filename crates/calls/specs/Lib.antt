@@ -1,3 +1,4 @@
 pub mod Left
 pub mod Order
 pub mod Where
+pub mod Chains

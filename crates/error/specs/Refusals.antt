@@ -26,6 +26,7 @@ refusal_number refusal.ShortRows = 14
 refusal_number refusal.UnknownMode = 15
 refusal_number refusal.UnsoundTable = 16
 refusal_number refusal.UnknownScope = 17
+refusal_number refusal.WrongIndex = 18
 
 -- the number that a test of the definitions gives: 0 where nothing is refused
 abbrev pub refusal_of : {A : Type 0} → Result A Refusal → ℕ

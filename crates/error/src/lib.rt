@@ -35,6 +35,8 @@ pub enum Refusal {
     // Lookup
     UnsoundTable,
     UnknownScope,
+    // the name index
+    WrongIndex,
 }
 
 // Its number in the table.

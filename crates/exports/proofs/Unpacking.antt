@@ -1,8 +1,8 @@
 -- A packed number stands for one answer only, of those that one call gives: the tag and the three fields give the answer back.
 use mathlib.Core.Path.{◌≡◌, sym, ap, ap₂, ◌∙◌}
-use mathlib.Core.List.{List}
+use mathlib.Core.List.{List, ◌++◌}
 use mathlib.Core.Option.{Option, none, some}
-use lib.ListN.{length}
+use lib.ListN.{length, drop}
 use Prim.Native.Nat.{ℕ, zero, suc}
 use native.Mathlib.Omega.{arith}
 use Rattle.ast.specs.Answer.{Answer, refused, twice, result, located, other, Fits}
@@ -16,8 +16,10 @@ use Rattle.scopes.specs.Calls.{test_rows, rows_call}
 use Rattle.scopes.specs.Lookup.{test_lookup, symbol_answer, found_by, lookup_call}
 use Rattle.bindings.specs.Errors.{error_rows, test_errors, errors}
 use Rattle.sorted.specs.Sorted.{placed, sorted}
+use Rattle.index.specs.Index.{Outcome, index_length, index_words, test_index, index_call, test_indexed, indexed_call}
+use Rattle.sound.specs.Sound.{symbols_in}
 use Rattle.occurrences.specs.Occurrences.{occurrence_rows, lone, rows_by_rule, lone_answer, occurrences, once}
-use Rattle.exports.specs.Alike.{Counts, Locates, Alike, Filling, resolving, checking, sorting, counting, listing}
+use Rattle.exports.specs.Alike.{Counts, Locates, Alike, Looking, climbing, chaining, Filling, resolving, checking, sorting, counting, listing, indexing}
 use Rattle.exports.specs.Packed.{packed, Places}
 
 pub one_answer : (x y : Answer) → Alike x y → Fits x → Fits y → packed x ≡ packed y → x ≡ y
@@ -56,7 +58,7 @@ one_answer (other a b) (result c d) u f g e = absurd (omega arith)
 one_answer (other a b) (located s k m) u f g e = absurd (omega arith)
 one_answer (other a b) (other c d) u f g e = let p : a ≡ c = omega arith in let q : b ≡ d = omega arith in cc
 
--- any two answers of Lookup are alike, and any two of calls that are lent a table to fill
+-- any two answers of lookups are alike, and any two of calls that are lent words to fill
 symbol-none : (img : List ℕ) (o : Option Found) → Counts (symbol_answer img o) → ⊥
 unfolding symbol_answer
 symbol-none img none h = h
@@ -70,8 +72,20 @@ lookup-none img tab s bs = go (test_lookup img tab s)
     go zero h = symbol-none img (found_by img tab s (number_of img bs)) h
     go (suc i) h = h
 
-pub lookups-alike : (img tab : List ℕ) (s : ℕ) (bs : List ℕ) (img' tab' : List ℕ) (s' : ℕ) (bs' : List ℕ) → Alike (lookup_call img tab s bs) (lookup_call img' tab' s' bs')
-lookups-alike img tab s bs img' tab' s' bs' = ((λ h l. lookup-none img tab s bs h), (λ l h. lookup-none img' tab' s' bs' h))
+indexed-none : (img tab index : List ℕ) (s : ℕ) (bs : List ℕ) → Counts (indexed_call img tab index s bs) → ⊥
+unfolding indexed_call
+indexed-none img tab index s bs = go (test_indexed img tab index s)
+  where
+    go : (r : ℕ) → Counts (elim r as (λ _. Answer) [ zero ↦ lookup_call img tab s bs | suc i ↦ refused (suc i) ]) → ⊥
+    go zero h = lookup-none img tab s bs h
+    go (suc i) h = h
+
+looking-none : {a : Answer} → Looking a → Counts a → ⊥
+looking-none (climbing img tab s bs) h = lookup-none img tab s bs h
+looking-none (chaining img tab index s bs) h = indexed-none img tab index s bs h
+
+pub lookings-alike : {a b : Answer} → Looking a → Looking b → Alike a b
+lookings-alike f g = ((λ c l. looking-none f c), (λ l c. looking-none g c))
 
 unlocated : (f : Table → Answer) → ((t : Table) → Locates (f t) → ⊥) → (w : Way) → Locates (answer_by f w) → ⊥
 unfolding answer_by
@@ -92,6 +106,17 @@ unfolding lone_answer
 lone-none none h = h
 lone-none (some w) h = h
 
+index-none : (img tab index : List ℕ) → Locates (index_call img tab index).answer → ⊥
+unfolding index_call
+index-none img tab index = go (test_index img tab index)
+  where
+    go : (r : ℕ) → Locates (elim r as (λ _. Outcome) [
+      | zero ↦ record { answer = result 0 (symbols_in img tab); index = index_words img tab ++ drop (index_length img) index }
+      | suc i ↦ record { answer = refused (suc i); index = index }
+    ]).answer → ⊥
+    go zero h = h
+    go (suc i) h = h
+
 filling-none : {a : Answer} → Filling a → Locates a → ⊥
 unfolding resolve errors sorted once occurrences
 filling-none (resolving img tab) h = table-none img tab (test_table img tab) (λ t. result t.scopes t.symbols) (λ t l. l) h
@@ -99,6 +124,7 @@ filling-none (checking img tab rows mode) h = rows-none img tab rows (test_error
 filling-none (sorting img tab rows mode) h = rows-none img tab rows (test_errors img tab rows mode) (λ t. placed img (error_rows img t mode)) h
 filling-none (counting img tab) h = table-none img tab (test_table img tab) (λ t. lone_answer (lone (rows_by_rule img t (module_rules img)))) (λ t l. lone-none _ l) h
 filling-none (listing img tab rows) h = rows-none img tab rows (test_rows img tab rows) (occurrence_rows img) h
+filling-none (indexing img tab index) h = index-none img tab index h
 
 pub fillings-alike : {a b : Answer} → Filling a → Filling b → Alike a b
 fillings-alike f g = ((λ c l. filling-none g l), (λ l c. filling-none f l))

@@ -4,6 +4,7 @@ use Rattle.ast.specs.Answer.{Answer, refused, twice, result, located, other, Sho
 use Rattle.names.specs.declared.NamePlace.{NamePlace}
 use Rattle.scopes.specs.Resolve.{Outcome}
 use Rattle.scopes.specs.Calls.{RowsOutcome}
+use Rattle.index.specs.Index.{Outcome as IndexOutcome}
 
 -- a tag and three fields of 16 bits: tag · 2^48 + a · 2^32 + b · 2^16 + c
 abbrev pub fields : ℕ → ℕ → ℕ → ℕ → ℕ
@@ -32,6 +33,11 @@ pub record LeavesRows (o : RowsOutcome) (r : ℕ) (table rows : List ℕ) : Type
   pub packs : Packs r o.answer
   pub table_is : table ≡ o.table
   pub rows_are : rows ≡ o.rows
+
+-- what the call that makes an index does: its packed answer, and the words of the index afterwards
+pub record LeavesIndex (o : IndexOutcome) (r : ℕ) (index : List ℕ) : Type 0 where
+  pub packs : Packs r o.answer
+  pub index_is : index ≡ o.index
 
 -- the place of a name's bytes in the image: start · 2^32 + length
 abbrev pub placed : NamePlace → ℕ

@@ -6,13 +6,14 @@ ghost use Rattle.names.specs.Name.{name_place};
 ghost use Rattle.scopes.specs.Answers.{resolved_answer, looked_answer, rowed_answer};
 ghost use Rattle.scopes.specs.Resolve.{resolve};
 ghost use Rattle.scopes.specs.Lookup.{lookup_call};
+ghost use Rattle.index.specs.Index.{index_answer, index_call, indexed_call};
 ghost use Rattle.bindings.specs.Errors.{errors};
 ghost use Rattle.sorted.specs.Sorted.{sorted};
 ghost use Rattle.occurrences.specs.Answers.{once_answer};
 ghost use Rattle.occurrences.specs.Occurrences as CallsSpec;
 ghost use Rattle.ast.specs.Answer.{refused, Short, Fits};
 ghost use Rattle.error.specs.Refusals.{refusal_number, unresolved_answer};
-ghost use Rattle.exports.specs.Packed.{fields, packed, Packs, Leaves, LeavesRows, Places};
+ghost use Rattle.exports.specs.Packed.{fields, packed, Packs, Leaves, LeavesRows, LeavesIndex, Places};
 
 use error::{Refusal, Unresolved};
 use occurrences::Lone;
@@ -45,7 +46,7 @@ fn pack_unresolved(answer: Unresolved) -> u64
     }
 }
 
-// What Resolve hands back. This and the next three differ in what they make of a result: what they share stands above.
+// What Resolve hands back. This and the next four differ in what they make of a result: what they share stands above.
 fn pack_resolved(answer: Result<Resolved, Unresolved>) -> u64
     requires { Fits (resolved_answer answer) }
     ensures { result ≡ packed (resolved_answer answer) }
@@ -64,6 +65,17 @@ fn pack_looked(answer: Result<Option<Looked>, Refusal>) -> u64
     match answer {
         Ok(Some(looked)) => pack(2, looked.scope.0, u32::from(looked.symbol), looked.node.0),
         Ok(None) => pack(3, 0, 0, 0),
+        Err(refusal) => pack_refused(refusal),
+    }
+}
+
+// What Index hands back.
+fn pack_indexed(answer: Result<u32, Refusal>) -> u64
+    requires { Fits (index_answer answer) }
+    ensures { result ≡ packed (index_answer answer) }
+{
+    match answer {
+        Ok(count) => pack(2, 0, 0, count),
         Err(refusal) => pack_refused(refusal),
     }
 }
@@ -103,6 +115,32 @@ pub fn eqlog_lookup(image: &[u8], table: &[u32], scope: u32, name: &[u8]) -> u64
     ensures { Packs result (lookup_call image.now table.now scope name.now) }
 {
     pack_looked(scopes::lookup(image, table, ScopeId(scope), name))
+}
+
+// Index: writes the name index of a table.
+pub fn eqlog_index(image: &[u8], table: &[u32], index: &mut [u32]) -> u64
+    ensures { LeavesIndex (index_call image.now table.now index.old) result index.new }
+{
+    pack_indexed(index::index(image, table, index))
+}
+
+// Lookup through the index: as Lookup, along the chain of the name in the table's index.
+pub fn eqlog_lookup_indexed(
+    image: &[u8],
+    table: &[u32],
+    index: &[u32],
+    scope: u32,
+    name: &[u8],
+) -> u64
+    ensures { Packs result (indexed_call image.now table.now index.now scope name.now) }
+{
+    pack_looked(index::lookup_indexed(
+        image,
+        table,
+        index,
+        ScopeId(scope),
+        name,
+    ))
 }
 
 // Errors: resolves, then writes the error rows.

@@ -4,10 +4,11 @@
 ghost use Rattle.names.specs.Name.{name_place};
 ghost use Rattle.scopes.specs.Resolve.{resolve};
 ghost use Rattle.scopes.specs.Lookup.{lookup_call};
+ghost use Rattle.index.specs.Index.{index_call, indexed_call};
 ghost use Rattle.bindings.specs.Errors.{errors};
 ghost use Rattle.sorted.specs.Sorted.{sorted};
 ghost use Rattle.occurrences.specs.Occurrences as CallsSpec;
-ghost use Rattle.exports.specs.Packed.{Packs, Leaves, LeavesRows, Places};
+ghost use Rattle.exports.specs.Packed.{Packs, Leaves, LeavesRows, LeavesIndex, Places};
 
 // Resolve: fills the table.
 #[unsafe(no_mangle)]
@@ -23,6 +24,28 @@ pub extern "C" fn eqlog_lookup(image: &[u8], table: &[u32], scope: u32, name: &[
     ensures { Packs result (lookup_call image.now table.now scope name.now) }
 {
     exports::eqlog_lookup(image, table, scope, name)
+}
+
+// Index: writes the name index of a table.
+#[unsafe(no_mangle)]
+pub extern "C" fn eqlog_index(image: &[u8], table: &[u32], index: &mut [u32]) -> u64
+    ensures { LeavesIndex (index_call image.now table.now index.old) result index.new }
+{
+    exports::eqlog_index(image, table, index)
+}
+
+// Lookup through the index: as Lookup, along the chain of the name in the table's index.
+#[unsafe(no_mangle)]
+pub extern "C" fn eqlog_lookup_indexed(
+    image: &[u8],
+    table: &[u32],
+    index: &[u32],
+    scope: u32,
+    name: &[u8],
+) -> u64
+    ensures { Packs result (indexed_call image.now table.now index.now scope name.now) }
+{
+    exports::eqlog_lookup_indexed(image, table, index, scope, name)
 }
 
 // Errors: resolves, then writes the error rows.

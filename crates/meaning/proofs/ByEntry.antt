@@ -21,7 +21,8 @@ use Rattle.scopes.proofs.Resolving.{table-accepted}
 use Rattle.scopes.proofs.Single.{single-done}
 use Rattle.bindings.specs.Errors.{introduces}
 use Rattle.occurrences.specs.Spots.{Spot}
-use Rattle.sight.specs.Listing.{places_of, table_in, Unrefused}
+use Rattle.sight.specs.Listing.{places_of, Unrefused}
+use Rattle.sound.specs.Sound.{table_in}
 use Rattle.sight.specs.Sight.{Sort, ordinary, declared, applied, defined, Place, Met, add, opened, head_sort, place, place_seq, place_then, place_first, rule_places, In}
 use Rattle.sight.proofs.Answering.{passes}
 use Rattle.sight.proofs.Listing.{spot_of}

@@ -19,10 +19,10 @@ use Rattle.scopes.proofs.Resolving.{table-accepted, own-counts}
 use Rattle.scopes.proofs.Single.{single-done}
 use Rattle.bindings.specs.Errors.{error_rows, test_errors, errors}
 use Rattle.bindings.proofs.Calls.{errors-table, errors-are}
-use Rattle.sight.specs.Listing.{table_in, Unrefused}
+use Rattle.sight.specs.Listing.{Unrefused}
 use Rattle.sight.proofs.Answering.{passes}
 use Rattle.sight.specs.Sight.{In}
-use Rattle.sound.specs.Sound.{scopes_in}
+use Rattle.sound.specs.Sound.{scopes_in, table_in}
 use Rattle.table.specs.Table.{Table}
 use Rattle.bindings.specs.Promises.{of_mode}
 use Rattle.bindings.proofs.Bound.{rows_few}

@@ -3,7 +3,8 @@ use mathlib.Core.Path.{◌≡◌, refl, sym}
 use mathlib.Core.Bool.{Bool, true, false, cond}
 use mathlib.Core.List.{List}
 use mathlib.Core.Option.{some}
-use Prim.Native.Nat.{ℕ, zero, suc, ◌+◌}
+use Prim.Native.Nat.{ℕ, zero, suc, ◌+◌, ◌<◌}
+use native.Mathlib.Omega.{arith}
 use lib.Dec.{eqb}
 use Rattle.std.specs.Prelude.{Option, Some, None}
 use Rattle.std.specs.Cmp.Lexicographic.{pointwise}
@@ -35,3 +36,17 @@ module _ (img bs : List ℕ) where
   pub number-find : (c : ℕ) → c ≡ names img → number_in (find test (range_with_len 0 c)) ≡ number_of img bs
   unfolding number_of
   number-find c e = rw e (found-from (names img) 0)
+
+  -- it is below S
+  below-from : (c i x : ℕ) → number_from img c i bs ≡ some x → x < i + c
+  unfolding number_from
+  below-from zero i x e = absurd (let z : ◌≡◌ {A = ℕ} 0 1 = cc in omega arith)
+  below-from (suc c) i x e = go (same (name_bytes img i) bs) e (below-from c (i + 1) x)
+    where
+      go : (b : Bool) → elim b [ true ↦ some i | false ↦ number_from img c (i + 1) bs ] ≡ some x → (number_from img c (i + 1) bs ≡ some x → x < i + 1 + c) → x < i + suc c
+      go true q r = let z : i ≡ x = cc in omega arith
+      go false q r = let z = r q in omega arith
+
+  pub number-below : (x : ℕ) → number_of img bs ≡ some x → x < names img
+  unfolding number_of
+  number-below x e = let z = below-from (names img) 0 x e in omega arith

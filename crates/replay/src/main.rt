@@ -10,7 +10,7 @@ use std::io::{BufReader, Read};
 // At most so many records are replayed.
 const MOST_RECORDS: u64 = 1_000_000;
 
-// A record whose image, name, table or rows are larger is not read on.
+// A record whose image, name, table, rows or index are larger is not read on.
 const MOST_IMAGE_BYTES: u32 = 65536;
 
 const MOST_NAME_BYTES: u32 = 8192;
@@ -18,6 +18,8 @@ const MOST_NAME_BYTES: u32 = 8192;
 const MOST_TABLE_WORDS: u32 = 10246;
 
 const MOST_ROWS_WORDS: u32 = 4100;
+
+const MOST_INDEX_WORDS: u32 = 3080;
 
 // What every lent word is before a call.
 const LENT: u32 = 7;
@@ -85,6 +87,8 @@ struct Answers {
     lookup: u64,
     name: u64,
     sorted: u64,
+    index: u64,
+    lookup_indexed: u64,
 }
 
 impl Answers {
@@ -97,6 +101,8 @@ impl Answers {
             lookup: input.read_u64::<LittleEndian>()?,
             name: input.read_u64::<LittleEndian>()?,
             sorted: input.read_u64::<LittleEndian>()?,
+            index: input.read_u64::<LittleEndian>()?,
+            lookup_indexed: input.read_u64::<LittleEndian>()?,
         })
     }
 }
@@ -111,6 +117,7 @@ struct Head {
     scope: u32,
     name_bytes: u32,
     name_number: u32,
+    index_words: u32,
     answers: Answers,
 }
 
@@ -123,7 +130,7 @@ impl Head {
         let scope = input.read_u32::<LittleEndian>()?;
         let name_bytes = input.read_u32::<LittleEndian>()?;
         let name_number = input.read_u32::<LittleEndian>()?;
-        let _zero = input.read_u32::<LittleEndian>()?;
+        let index_words = input.read_u32::<LittleEndian>()?;
         let answers = Answers::read(input)?;
         Ok(Head {
             image_bytes,
@@ -133,6 +140,7 @@ impl Head {
             scope,
             name_bytes,
             name_number,
+            index_words,
             answers,
         })
     }
@@ -148,6 +156,7 @@ struct Record {
     errors: Vec<u32>,
     occurrences: Vec<u32>,
     sorted: Vec<u32>,
+    index: Vec<u32>,
 }
 
 impl Record {
@@ -159,6 +168,7 @@ impl Record {
             errors: read_words(alloc, input, head.rows_words, MOST_ROWS_WORDS)?,
             occurrences: read_words(alloc, input, head.rows_words, MOST_ROWS_WORDS)?,
             sorted: read_words(alloc, input, head.rows_words, MOST_ROWS_WORDS)?,
+            index: read_words(alloc, input, head.index_words, MOST_INDEX_WORDS)?,
             head,
         })
     }
@@ -191,8 +201,16 @@ impl Record {
         Ok(call(&self.image, &mut table, &mut rows) == answer && rows.as_slice() == after)
     }
 
-    // Whether every call answers and leaves what is recorded; lookup and name leave nothing. Lookup is given the recorded
-    // table, which resolve must leave.
+    // Whether the call that makes the index, given the recorded table, hands back the recorded answer and leaves the recorded
+    // index.
+    fn leaves_index(&self, alloc: Global) -> Result<bool, AllocError> {
+        let mut index = vec![in alloc; LENT; self.index.len()]?;
+        let answer = exports::eqlog_index(&self.image, &self.table, &mut index);
+        Ok(answer == self.head.answers.index && index == self.index)
+    }
+
+    // Whether every call answers and leaves what is recorded; lookups and name leave nothing. A lookup is given the recorded
+    // table, which resolve must leave, and the recorded index.
     fn is_as_recorded(&self, alloc: Global) -> Result<bool, AllocError> {
         let Head {
             mode,
@@ -202,6 +220,13 @@ impl Record {
             ..
         } = self.head;
         let found = exports::eqlog_lookup(&self.image, &self.table, scope, &self.name);
+        let chained = exports::eqlog_lookup_indexed(
+            &self.image,
+            &self.table,
+            &self.index,
+            scope,
+            &self.name,
+        );
         let place = exports::eqlog_name(&self.image, name_number);
         let errors = |image: &[u8], table: &mut [u32], rows: &mut [u32]| exports::eqlog_errors(
             image, table, rows, mode,
@@ -211,6 +236,7 @@ impl Record {
         );
         Ok(
             found == answers.lookup
+                && chained == answers.lookup_indexed
                 && place == answers.name
                 && self.leaves_table(alloc, answers.resolve, exports::eqlog_resolve)?
                 && self.leaves_table(alloc, answers.once, exports::eqlog_once)?
@@ -221,7 +247,8 @@ impl Record {
                     &self.occurrences,
                     exports::eqlog_occurrences,
                 )?
-                && self.leaves_rows(alloc, answers.sorted, &self.sorted, sorted)?,
+                && self.leaves_rows(alloc, answers.sorted, &self.sorted, sorted)?
+                && self.leaves_index(alloc)?,
         )
     }
 }

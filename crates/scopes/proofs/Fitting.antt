@@ -4,17 +4,17 @@ use mathlib.Core.Bool.{Bool, true, false, ◌&&◌}
 use mathlib.Core.List.{List, [], ◌∷◌}
 use mathlib.Core.Option.{Option, none as nothing, some}
 use Prim.Native.Nat.{ℕ, zero, suc, ◌<◌, ◌≤◌}
-use native.Mathlib.Nat.{zero-add}
 use native.Mathlib.Omega.{arith}
-use lib.Dec.{T, leb, leb→le, ltb→lt}
+use lib.Dec.{T, leb, leb→le}
 use lib.ListN.{length, get_or}
 use Rattle.ast.specs.Answer.{Answer, refused, result, Fits}
 use Rattle.ast.specs.Image.{nodes, kind_at}
 use Rattle.ast.specs.Tests.{need, verdict}
-use Rattle.ast.proofs.Accepted.{both, needed, ran, sized}
+use Rattle.ast.proofs.Accepted.{both, sized}
 use Rattle.rows.specs.Rows.{Row}
-use Rattle.table.specs.Rising.{scope_of, node_at}
-use Rattle.sound.specs.Sound.{symbols_in, scopes_in, parent_below, row_sound, test_sound}
+use Rattle.table.specs.Rising.{node_at}
+use Rattle.sound.specs.Sound.{symbols_in, parent_below, row_sound, test_sound}
+use Rattle.sound.proofs.Sounds.{sound-is}
 use Rattle.table.specs.State.{Walked}
 use Rattle.table.specs.Table.{Table, Found, symbol_at, symbol_of, found}
 use Rattle.scopes.specs.Lookup.{test_lookup, symbol_answer, found_by, lookup_call}
@@ -22,7 +22,6 @@ use Rattle.scopes.specs.Resolve.{test_table, walked, counted, Way, refuses, stop
 use Rattle.scopes.specs.Calls.{test_rows, rows_call}
 use Rattle.scopes.specs.Walk.{done}
 use Rattle.names.specs.Number.{number_of}
-use Rattle.ast.proofs.Bools.{true-is}
 use Rattle.scopes.proofs.Namings.{symbol-below}
 use Rattle.scopes.proofs.Calls.{Went, went}
 use Rattle.scopes.proofs.Resolving.{walked-ended, table-accepted}
@@ -44,7 +43,7 @@ module _ (img tab : List ℕ) where
   unfolding test_rows
   rows-low rows = first-low _ _ table-low (need-low 14 _ (omega arith))
 
-  sound-low : Low (test_sound img tab)
+  pub sound-low : Low (test_sound img tab)
   unfolding test_sound parent_below row_sound
   sound-low =
       first-low _ _ (sixteen _) (first-low _ _ (sixteen _) (first-low _ _ (sixteen _) (first-low _ _ (sixteen _) (first-low _ _ (sixteen _)
@@ -53,7 +52,7 @@ module _ (img tab : List ℕ) where
       sixteen : (b : Bool) → Low (need 16 b)
       sixteen b = need-low 16 b (omega arith)
 
-  lookup-low : (s : ℕ) → Low (test_lookup img tab s)
+  pub lookup-low : (s : ℕ) → Low (test_lookup img tab s)
   unfolding test_lookup
   lookup-low s = first-low _ _ table-low (first-low _ _ sound-low (need-low 17 _ (omega arith)))
 
@@ -105,15 +104,12 @@ module _ (img tab : List ℕ) (s : ℕ) (passes : test_lookup img tab s ≡ 0) w
   Low_symbol f = (f.node < nodes img) × (f.scope < nodes img)
 
   rows_low : (j : ℕ) → j < symbols_in img tab → Low_symbol (symbol_at img tab j)
-  unfolding test_lookup test_sound row_sound
+  unfolding test_lookup
   rows_low j h =
-      let sound = (both _ _ (both _ _ passes).1).0 in
-      let few = both _ _ (both _ _ (both _ _ sound).1).1 in
-      let rows = (both _ _ (both _ _ (both _ _ few.1).1).1).1 in
-      let each = both _ _ (subst (λ (i : ℕ). row_sound img tab i ≡ 0) (zero-add j) (ran (row_sound img tab) (symbols_in img tab) 0 rows j h)) in
-      let within = leb→le (scopes_in img tab) (nodes img) (needed 15 _ few.0) in
-      let inside = ltb→lt (scope_of (nodes img) tab j) (scopes_in img tab) (needed 15 _ each.0) in
-      (symbol-below img (node_at (nodes img) tab j) (true-is _ (needed 15 _ each.1)), omega arith)
+      let d = sound-is img tab (both _ _ (both _ _ passes).1).0 in
+      let few = d.few_scopes in
+      let u = d.under j h in
+      (symbol-below img (node_at (nodes img) tab j) (d.symbol j h), omega arith)
 
   accepted-by : verdict img ≡ 0
   unfolding test_lookup

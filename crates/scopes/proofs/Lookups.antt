@@ -7,7 +7,6 @@ use mathlib.Core.Option.{Option, none, some}
 use Prim.Native.Nat.{ℕ, zero, suc, ◌<◌, ◌≤◌}
 use native.Mathlib.Omega.{arith}
 use lib.Dec.{T, leb, ltb, eqb, ltb→lt}
-use native.Mathlib.Nat.{zero-add}
 use lib.ListN.{length}
 use borrow.Author.Tests.{lt-ltb, le-ltb, le-leb, lt-leb}
 use Rattle.std.specs.Prelude.{Option as Given, Result, Ok, Err, IsErrAnd}
@@ -15,7 +14,7 @@ use Rattle.ast.specs.Image.{nodes, kind_at}
 use Rattle.ast.specs.Kinds.{Kind, kinds, kind_of}
 use Rattle.ast.specs.Tests.{verdict}
 use Rattle.ast.specs.Answer.{refused, located, other}
-use Rattle.ast.proofs.Accepted.{both, needed, ran, skip}
+use Rattle.ast.proofs.Accepted.{both, skip}
 use Rattle.ast.proofs.Bools.{true-is}
 use Rattle.ast.proofs.ByKind.{low-kind}
 use Rattle.ast.proofs.Scans.{need-in, need-out}
@@ -23,11 +22,10 @@ use Rattle.ast.proofs.Vars.{every-kind}
 use Rattle.error.specs.Refusals.{refusal_number}
 use Rattle.error.specs.declared.Refusal.{Refusal}
 use Rattle.table.specs.Layout.{table_length}
-use Rattle.table.specs.Rising.{node_at}
 use Rattle.table.specs.Table.{Found, found, climb, symbol_of, declares}
 use Rattle.table.proofs.Below.{climb-row}
-use Rattle.sound.specs.Sound.{has_name, is_symbol, scopes_in, symbols_in, row_sound, test_sound}
-use Rattle.sound.proofs.Sounds.{halt}
+use Rattle.sound.specs.Sound.{has_name, is_symbol, scopes_in, symbols_in, table_in, test_sound}
+use Rattle.sound.proofs.Sounds.{halt, sound-is}
 use Rattle.scopes.specs.Resolve.{test_table}
 use Rattle.names.specs.Number.{number_of}
 use Rattle.scopes.specs.Answers.{looked_answer}
@@ -70,11 +68,11 @@ module _ (img tab : List ℕ) (s : ℕ) where
       lookup_beyond h = sym (skip _ _ (sym passed) ∙ skip _ _ (sym sound) ∙ need-out 17 _ (le-ltb _ _ h))
 
 -- where these tests pass, the image is accepted and the table sound
-lookup-accepted : (img tab : List ℕ) (s : ℕ) → 0 ≡ test_lookup img tab s → verdict img ≡ 0
+pub lookup-accepted : (img tab : List ℕ) (s : ℕ) → 0 ≡ test_lookup img tab s → verdict img ≡ 0
 unfolding test_lookup test_table
 lookup-accepted img tab s e = (both _ _ (both _ _ (sym e)).0).0
 
-lookup-sound : (img tab : List ℕ) (s : ℕ) → 0 ≡ test_lookup img tab s → test_sound img tab ≡ 0
+pub lookup-sound : (img tab : List ℕ) (s : ℕ) → 0 ≡ test_lookup img tab s → test_sound img tab ≡ 0
 unfolding test_lookup
 lookup-sound img tab s e = (both _ _ (both _ _ (sym e)).1).0
 
@@ -99,34 +97,40 @@ unfolding naming implies
 named-declares b k l h = true-is _ (subst (λ (c : Bool). T (implies c (declares k))) h (every-naming b k l))
 
 module _ (img tab : List ℕ) (s : ℕ) (passed : 0 ≡ test_lookup img tab s) where
-  row-symbol : (j : ℕ) → j < symbols_in img tab → is_symbol img (node_at (nodes img) tab j) ≡ true
-  unfolding test_sound row_sound
-  row-symbol j l =
-      let a = (both _ _ (lookup-sound img tab s passed)).1 in
-      let b = (both _ _ (both _ _ (both _ _ (both _ _ (both _ _ a).1).1).1).1).1 in
-      true-is _ (needed 15 _ (both _ _ (subst (λ (i : ℕ). row_sound img tab i ≡ 0) (zero-add j) (ran (row_sound img tab) (symbols_in img tab) 0 b j l))).1)
-
   symbol-declares : (n : ℕ) → is_symbol img n ≡ true → declares (kind_at img n) ≡ true
   unfolding is_symbol named
   symbol-declares n h =
       let c = and_parts (ltb n (nodes img)) (named (has_name img n) (kind_at img n)) h in
       named-declares (has_name img n) (kind_at img n) (low-kind img (lookup-accepted img tab s passed) n (ltb→lt n (nodes img) (subst T (sym c.0) tt))) c.1
 
-  pub looked-declares : {y k : ℕ} (f : Found) (x : ℕ) → y ≡ symbols_in img tab → some f ≡ climb img (suc s) tab y s x → k ≡ kind_at img f.node → declares k ≡ true
-  looked-declares {y} f x q h e =
+  -- so is what is found in it
+  pub climbed-declares : {y : ℕ} (f : Found) (x : ℕ) → y ≡ symbols_in img tab → some f ≡ climb img (suc s) tab y s x → declares (kind_at img f.node) ≡ true
+  climbed-declares {y} f x q h =
       let r = climb-row img tab (suc s) y s x f (sym h) in
-      ap declares e ∙ symbol-declares f.node (subst (λ (g : Found). is_symbol img g.node ≡ true) r.is (row-symbol r.row (let z = r.within in omega arith)))
+      symbol-declares f.node (subst (λ (g : Found). is_symbol img g.node ≡ true) r.is ((sound-is img tab (lookup-sound img tab s passed)).symbol r.row (let z = r.within in omega arith)))
+
+  pub found-declares : (f : Found) (x : ℕ) → some f ≡ found img (table_in img tab) s x → declares (kind_at img f.node) ≡ true
+  unfolding found
+  found-declares f x h = climbed-declares f x refl h
 
 -- the answer ----------------------------------------------------------------------------------------------------------
-module _ (img tab : List ℕ) (s : ℕ) where
-  pub found_at : (x y k t : ℕ) (l : Found) → y ≡ symbols_in img tab → some l ≡ climb img (suc s) tab y s x → k ≡ kind_at img l.node → t ≡ symbol_of k
-      → located l.scope t l.node ≡ symbol_answer img (found_by img tab s (some x))
-  unfolding symbol_answer found_by found
-  found_at x y k t l e f g h = rw (h, g) (ap (symbol_answer img) (f ∙ ap (λ c. climb img (suc s) tab c s x) e))
+module _ (img : List ℕ) where
+  pub answer_none : other 0 0 ≡ symbol_answer img none
+  unfolding symbol_answer
+  answer_none = refl
 
-  pub found_none : (x y : ℕ) → y ≡ symbols_in img tab → none ≡ climb img (suc s) tab y s x → other 0 0 ≡ symbol_answer img (found_by img tab s (some x))
-  unfolding symbol_answer found_by found
-  found_none x y e f = ap (symbol_answer img) (f ∙ ap (λ c. climb img (suc s) tab c s x) e)
+  pub answer-some : (l : Found) (k t : ℕ) → k ≡ kind_at img l.node → t ≡ symbol_of k → located l.scope t l.node ≡ symbol_answer img (some l)
+  unfolding symbol_answer
+  answer-some l k t e f = ap (λ (n : ℕ). located l.scope n l.node) (f ∙ ap symbol_of e)
+
+module _ (img tab : List ℕ) (s : ℕ) where
+  pub climbed-by : (x y : ℕ) (o : Option Found) → y ≡ symbols_in img tab → o ≡ climb img (suc s) tab y s x → symbol_answer img o ≡ symbol_answer img (found_by img tab s (some x))
+  unfolding found_by found
+  climbed-by x y o e f = ap (symbol_answer img) (f ∙ ap (λ c. climb img (suc s) tab c s x) e)
+
+  pub found-by : (x : ℕ) (o : Option Found) → o ≡ found img (table_in img tab) s x → symbol_answer img o ≡ symbol_answer img (found_by img tab s (some x))
+  unfolding found_by
+  found-by x o f = ap (symbol_answer img) f
 
   module _ (bs : List ℕ) (k : ℕ) (tests-are : k ≡ test_lookup img tab s) where
     pub call-refused : (k ≡ 0 → ⊥) → refused k ≡ lookup_call img tab s bs

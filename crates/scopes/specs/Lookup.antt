@@ -7,7 +7,7 @@ use Rattle.ast.specs.Tests.{◌▸◌, need}
 use Rattle.names.specs.Number.{number_of}
 use Rattle.ast.specs.Answer.{Answer, refused, located, other}
 use Rattle.table.specs.Table.{Found, found, symbol_of}
-use Rattle.sound.specs.Sound.{scopes_in, symbols_in, test_sound}
+use Rattle.sound.specs.Sound.{scopes_in, table_in, test_sound}
 use Rattle.scopes.specs.Resolve.{test_table}
 
 module _ (img : List ℕ) where
@@ -24,7 +24,7 @@ module _ (img : List ℕ) where
   -- a name that the image does not have is nowhere declared
   unfoldable pub found_by : List ℕ → ℕ → Option ℕ → Option Found
   found_by tab s none = none
-  found_by tab s (some x) = found img (record { words = tab; scopes = scopes_in img tab; symbols = symbols_in img tab }) s x
+  found_by tab s (some x) = found img (table_in img tab) s x
 
   -- Lookup
   unfoldable pub lookup_call : List ℕ → ℕ → List ℕ → Answer

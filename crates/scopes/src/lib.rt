@@ -1,13 +1,15 @@
 // The unordered part of scopes.rs: Lookup, Resolve and the declaration lists.
 #![tactic(auto)]
 
-ghost use Rattle.std.specs.Prelude.{◌≡◌, ◌+◌, ◌<◌, ◌^◌, [], ◌∷◌, replicate, IfOk};
+ghost use Rattle.std.specs.Prelude.{◌≡◌, true, ◌+◌, ◌<◌, ◌^◌, [], ◌∷◌, replicate, IfOk};
 ghost use Rattle.std.proofs.Math.Option.{some};
 ghost use Rattle.ast.specs.Image as ImageSpec;
 ghost use Rattle.ast.specs.Kinds.{kind_of};
 ghost use Rattle.ast.specs.Named.{decl_kind, enum_decl_kind, model_decl_kind, rule_decl_kind};
 ghost use Rattle.ast.specs.Tree.{tree_at};
 ghost use Rattle.error.specs.Refusals.{refusal_of};
+ghost use Rattle.table.specs.Table.{declares};
+ghost use Rattle.table.specs.Values.{found_at};
 ghost use Rattle.environment.specs.Builder.{Keeps, table_of, walked_of};
 ghost use Rattle.environment.specs.Layout.{environment_length, names_most};
 ghost use Rattle.environment.specs.Stands.{Stands};
@@ -23,7 +25,7 @@ use environment::{Environment, ScopeBuilder};
 use error::{Refusal, SymbolDeclaredTwice, Unresolved};
 use names::AcceptedImage;
 use std::marker::Model;
-use table::{NO_SCOPE, ScopeId, Symbol};
+use table::{Found, NO_SCOPE, ScopeId, Symbol};
 use typed::nodes::*;
 
 // What Lookup finds: the symbol of a name, its node, and the scope that holds it. C is handed number and node: ten cases with ids
@@ -52,7 +54,7 @@ pub fn lookup(
 }
 
 // The refusals of Lookup: 1 to 13, 16, 17.
-fn test_lookup<'a>(
+pub fn test_lookup<'a>(
     image: &'a [u8],
     table: &[u32],
     scope: ScopeId,
@@ -75,6 +77,14 @@ fn lookup_number(image: &[u8], table: &[u32], scope: ScopeId, name: u32) -> Opti
 {
     let symbols = table::get(table, table::SYMBOLS_PLACE);
     let found = table::lookup(image, table, symbols, scope, name)?;
+    looked_up(image, found)
+}
+
+// What is found, as Lookup hands it back.
+pub fn looked_up(image: &[u8], found: Found) -> Option<Looked>
+    requires { declares (ImageSpec.kind_at image.now found.node.0) ≡ true }
+    ensures { looked_answer (Ok result) ≡ LookupSpec.symbol_answer image.now (some (found_at found)) }
+{
     let symbol = table::symbol_of(ast::kind_at(image, found.node))?;
     Some(Looked {
         symbol,

@@ -28,7 +28,8 @@ use Rattle.occurrences.specs.Occurrences.{occurrences}
 use Rattle.sight.specs.Sight.{Place, In, outer_const, Same}
 use Rattle.ast.specs.Rules.{Rule, module_rules}
 use Rattle.sight.proofs.Leaving.{answered, list-few, lists-all, lists-once, row_of, row-kinds, same-bindings}
-use Rattle.sight.specs.Listing.{places_of, Occurs, AllRows, Distinct, table_in, Unrefused}
+use Rattle.sight.specs.Listing.{places_of, Occurs, AllRows, Distinct, Unrefused}
+use Rattle.sound.specs.Sound.{table_in}
 use Rattle.sight.proofs.Answering.{passes}
 
 module _ (img tab rows : List ℕ) where

@@ -21,7 +21,8 @@ use Rattle.occurrences.specs.Occurrences.{occurrence_rows, occurrences}
 use Rattle.occurrences.proofs.Few.{rows_few}
 use Rattle.sight.specs.Sight.{Sort, ordinary, declared, applied, defined, Place, In, outer_const, Same}
 use Rattle.ast.specs.Rules.{Rule, module_rules}
-use Rattle.sight.specs.Listing.{places_of, Occurs, AllRows, Distinct, table_in}
+use Rattle.sight.specs.Listing.{places_of, Occurs, AllRows, Distinct}
+use Rattle.sound.specs.Sound.{table_in}
 use Rattle.sight.proofs.Resolving.{resolved, left-lookup}
 use Rattle.sight.proofs.RowLaws.{binding_of, RowAt, all-only, all-all, one-row, rows-list, rows-distinct}
 use Rattle.sight.proofs.Spots.{owner_kind, ordered}

@@ -25,7 +25,8 @@ use Rattle.table.specs.State.{Walked}
 use Rattle.table.specs.Table.{Table, lookup, exit_at}
 use Rattle.occurrences.specs.Occurrences.{rule_rows, all_rows, occurrence_rows, occurrences, times_bound, lone_in, lone, rows_by_rule, lone_answer, once}
 use Rattle.sight.specs.Sight.{Place, In}
-use Rattle.sight.specs.Listing.{RuleRows, Shared, NoLone, FirstLone, table_in, Unrefused}
+use Rattle.sight.specs.Listing.{RuleRows, Shared, NoLone, FirstLone, Unrefused}
+use Rattle.sound.specs.Sound.{table_in}
 use Rattle.sight.proofs.Answering.{passes}
 use Rattle.sight.proofs.Demand.{list}
 use Rattle.sight.proofs.Leaving.{list-is}

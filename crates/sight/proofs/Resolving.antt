@@ -5,6 +5,7 @@ use mathlib.Core.List.{List}
 use Prim.Native.Nat.{ℕ, suc, ◌≤◌}
 use native.Mathlib.Omega.{arith}
 use lib.ListN.{length}
+use Rattle.sound.specs.Sound.{table_in}
 use Rattle.ast.specs.Image.{nodes, last}
 use Rattle.ast.specs.Tests.{verdict}
 use Rattle.ast.specs.Tree.{Tree}
@@ -15,7 +16,6 @@ use Rattle.scopes.specs.Resolve.{test_table, zeroed, walked, headed, counted}
 use Rattle.scopes.specs.Walk.{done, resolve_tree}
 use Rattle.scopes.proofs.Resolving.{Ended, walk-ended, walked-ended, zeroed-long, headed-scopes, headed-symbols}
 use Rattle.ast.specs.Rules.{Rule, module_rules}
-use Rattle.sight.specs.Listing.{table_in}
 use Rattle.sight.proofs.Verdict.{root-of}
 use Rattle.sight.proofs.WholeModule.{Resolved, resolves}
 use Rattle.sight.proofs.Counting.{module-small, module-distinct, rules-are}

@@ -1,5 +1,5 @@
--- The words of the third demand's theorems: the list's order, which rows list the variable occurrences of a rule and of all rules, which
--- row is the first lone one, and the table in which a binding is looked up.
+-- The words of the third demand's theorems: the list's order, which rows list the variable occurrences of a rule and of all rules, and
+-- which row is the first lone one.
 use Rattle.std.specs.Prelude.{◌≡◌, ◌⊎◌, List, [], ◌∷◌, ◌++◌, ℕ, ◌≤◌, ◌<◌}
 use Rattle.std.proofs.Math.Option.{Option, some}
 use Rattle.ast.specs.Answer.{Answer, refused, twice, result, located, other}
@@ -7,8 +7,6 @@ use Rattle.ast.specs.Named.{term_kind}
 use Rattle.ast.specs.Image.{kind_at, name_of}
 use Rattle.rows.specs.Rows.{Row, row}
 use Rattle.occurrences.specs.Occurrences.{times_bound}
-use Rattle.sound.specs.Sound.{scopes_in, symbols_in}
-use Rattle.table.specs.Table.{Table}
 use Rattle.sight.specs.Sight.{Sort, ordinary, declared, applied, defined, Place, In, rule_places, outer_const, Occurrence}
 use Rattle.ast.specs.Rules.{Rule}
 
@@ -99,10 +97,6 @@ module _ (img : List ℕ) (rows : Rule → List Row) where
 abbrev pub Distinct : List ℕ → Type 0
 Distinct [] = Unit {0}
 Distinct (n ∷ ns) = (In n ns → ⊥) × Distinct ns
-
--- the words that a call leaves, as Lookup reads them
-abbrev pub table_in : List ℕ → List ℕ → Table
-table_in img ws = record { words = ws; scopes = scopes_in img ws; symbols = symbols_in img ws }
 
 -- the call's answer is no refusal
 abbrev pub Unrefused : Answer → Type 0

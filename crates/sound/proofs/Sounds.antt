@@ -1,18 +1,21 @@
 -- Laws of the test whether a table is sound, as code goes through it.
-use mathlib.Core.Path.{◌≡◌, refl, sym, ap, ap₂, ◌∙◌}
+use mathlib.Core.Path.{◌≡◌, refl, sym, ap, ap₂, subst, ◌∙◌}
 use mathlib.Core.Bool.{Bool, true, false, ◌&&◌, ◌||◌}
 use mathlib.Core.Logic.{◌⊎◌, inl, inr}
 use mathlib.Core.List.{List}
 use Prim.Native.Nat.{ℕ, zero, suc, ◌+◌, ◌-◌, ◌<◌, ◌≤◌}
+use native.Mathlib.Nat.{zero-add}
 use native.Mathlib.Omega.{arith}
 use native.Mathlib.Decide.{dec_lt}
-use lib.Dec.{leb, eqb}
+use lib.Dec.{leb, eqb, eqb→eq, leb→le, ltb→lt}
 use lib.ListN.{get_or}
 use borrow.Author.Tests.{lt-ltb, le-ltb, le-leb, lt-leb, eq-eqb, ne_eqb}
 use Rattle.std.specs.List.{list_all, range_with_len}
 use Rattle.ast.specs.Image.{nodes, kind_at, field}
 use Rattle.ast.specs.Tests.{◌▸◌, need, run}
-use Rattle.ast.proofs.Accepted.{skip, stop}
+use Rattle.ast.proofs.Accepted.{skip, stop, both, ran}
+use Rattle.ast.proofs.Accepted.{needed as tested}
+use Rattle.ast.proofs.Bools.{true-is}
 use Rattle.ast.proofs.Scans.{need-in, need-out}
 use Rattle.table.specs.Layout.{all_ones, nodes_place, parent_place, scope_place, node_place}
 use Rattle.table.specs.Table.{symbol_of, declares}
@@ -242,3 +245,33 @@ pub halt : (a b : ℕ) → (a ≡ 0 → ⊥) → a ▸ b ≡ a
 unfolding ◌▸◌
 halt zero b h = absurd (h refl)
 halt (suc a) b h = refl
+
+-- what a sound table is
+pub record IsSound (img ws : List ℕ) : Type 0 where
+  pub counted : get_or ws nodes_place 0 ≡ nodes img
+  pub some : 1 ≤ scopes_in img ws
+  pub few_scopes : scopes_in img ws ≤ nodes img
+  pub few_symbols : symbols_in img ws ≤ nodes img
+  pub root : get_or ws (parent_place (nodes img) 0) 0 ≡ all_ones
+  pub under : (j : ℕ) → j < symbols_in img ws → get_or ws (scope_place (nodes img) j) 0 < scopes_in img ws
+  pub symbol : (j : ℕ) → j < symbols_in img ws → is_symbol img (get_or ws (node_place (nodes img) j) 0) ≡ true
+
+pub sound-is : (img ws : List ℕ) → test_sound img ws ≡ 0 → IsSound img ws
+unfolding test_sound row_sound
+sound-is img ws e =
+    let a = both _ _ e in
+    let b = both _ _ a.1 in
+    let c = both _ _ b.1 in
+    let d = both _ _ c.1 in
+    let f = both _ _ d.1 in
+    let rows = (both _ _ f.1).1 in
+    let row = λ (j : ℕ) (l : j < symbols_in img ws). both _ _ (subst (λ (i : ℕ). row_sound img ws i ≡ 0) (zero-add j) (ran (row_sound img ws) (symbols_in img ws) 0 rows j l)) in
+    record {
+      counted = eqb→eq _ _ (tested 15 _ a.0);
+      some = leb→le _ _ (tested 15 _ b.0);
+      few_scopes = leb→le _ _ (tested 15 _ c.0);
+      few_symbols = leb→le _ _ (tested 15 _ d.0);
+      root = eqb→eq _ _ (tested 15 _ f.0);
+      under = λ j l. ltb→lt _ _ (tested 15 _ (row j l).0);
+      symbol = λ j l. true-is _ (tested 15 _ (row j l).1);
+    }

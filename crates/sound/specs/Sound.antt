@@ -5,6 +5,7 @@ use Rattle.std.proofs.Math.Dec.{leb, ltb, eqb}
 use Rattle.ast.specs.Image.{nodes, kind_at, field}
 use Rattle.ast.specs.Tests.{◌▸◌, need, run}
 use Rattle.table.specs.Layout.{all_ones, nodes_place, scopes_place, symbols_place, parent_place, scope_place, node_place}
+use Rattle.table.specs.Table.{Table}
 
 module _ (img : List ℕ) where
   -- an optional name that is present, for a rule or an argument
@@ -31,6 +32,10 @@ module _ (img ws : List ℕ) where
 
   abbrev pub symbols_in : ℕ
   symbols_in = get_or ws symbols_place 0
+
+  -- the table that the words hold, as Lookup reads them
+  abbrev pub table_in : Table
+  table_in = record { words = ws; scopes = scopes_in; symbols = symbols_in }
 
   -- each scope but the first has a parent below it
   unfoldable pub parent_below : ℕ → ℕ

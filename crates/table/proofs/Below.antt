@@ -1,10 +1,11 @@
--- What is found: the symbol of a row, with the name that was looked for; its node is below N, where every symbol's is.
+-- What is found: the symbol of a row, with the name that was looked for, and no earlier row is one of that name in its scope; its node
+-- is below N, where every symbol's is.
 use mathlib.Core.Path.{◌≡◌, refl, sym, ap, subst, ◌∙◌}
-use mathlib.Core.Bool.{Bool, true, false}
+use mathlib.Core.Bool.{Bool, true, false, false≢true}
 use mathlib.Core.List.{List}
 use mathlib.Core.Option.{Option, none as nothing, some}
 use Prim.Native.Nat.{ℕ, zero, suc, ◌+◌, ◌<◌, ◌≤◌}
-use native.Mathlib.Nat.{zero-add}
+use native.Mathlib.Decide.{ℕ_discrete}
 use native.Mathlib.Omega.{arith}
 use lib.Dec.{eqb, ltb}
 use lib.ListN.{get_or}
@@ -16,6 +17,53 @@ use Rattle.table.specs.Table.{Table, Found, symbol_at, row_is, find_from, climb,
 use Rattle.table.proofs.Finds.{node-some}
 
 module _ (img ws : List ℕ) where
+  -- the first of the c rows from j on that is of the scope s and has the name x: f is its symbol
+  pub record Hit (c j s x : ℕ) (f : Found) : Type 0 where
+    pub row : ℕ
+    pub from : j ≤ row
+    pub within : row < j + c
+    pub hits : row_is img ws row s x ≡ true
+    pub symbol : symbol_at img ws row ≡ f
+    pub earlier : (i : ℕ) → j ≤ i → i < row → row_is img ws i s x ≡ true → ⊥
+
+  hit-by : (c j s x : ℕ) (f : Found) (b : Bool) → row_is img ws j s x ≡ b
+      → ◌≡◌ {A = Option Found} (elim b [ true ↦ some (symbol_at img ws j) | false ↦ find_from img c ws (j + 1) s x ]) (some f)
+      → (find_from img c ws (j + 1) s x ≡ some f → Hit c (j + 1) s x f) → Hit (suc c) j s x f
+  hit-by c j s x f true q e h =
+      let z : symbol_at img ws j ≡ f = cc in
+      record { row = j; from = omega arith; within = omega arith; hits = q; symbol = z; earlier = λ i a b r. absurd (omega arith) }
+  hit-by c j s x f false q e h =
+      let g = h e in
+      record {
+        row = g.row;
+        from = (let z = g.from in omega arith);
+        within = (let z = g.within in omega arith);
+        hits = g.hits;
+        symbol = g.symbol;
+        earlier = λ i a b r. rest g i a b r (ℕ_discrete i j);
+      }
+    where
+      rest : (g : Hit c (j + 1) s x f) → (i : ℕ) → j ≤ i → i < g.row → row_is img ws i s x ≡ true → Dec (i ≡ j) → ⊥
+      rest g i a b r (yes p) = false≢true (sym q ∙ ap (λ (k : ℕ). row_is img ws k s x) (sym p) ∙ r)
+      rest g i a b r (no p) = g.earlier i (omega arith) b r
+
+  pub hit-of : (c j s x : ℕ) (f : Found) → find_from img c ws j s x ≡ some f → Hit c j s x f
+  unfolding find_from
+  hit-of zero j s x f e = absurd (let z : ◌≡◌ {A = ℕ} 0 1 = cc in omega arith)
+  hit-of (suc c) j s x f e = hit-by c j s x f (row_is img ws j s x) refl e (hit-of c (j + 1) s x f)
+
+  -- nothing is found: none of them is so
+  pub miss-of : (c j s x : ℕ) → find_from img c ws j s x ≡ nothing → (i : ℕ) → j ≤ i → i < j + c → row_is img ws i s x ≡ true → ⊥
+  unfolding find_from
+  miss-of zero j s x e i a b r = omega arith
+  miss-of (suc c) j s x e i a b r = go (row_is img ws j s x) refl e (miss-of c (j + 1) s x) (ℕ_discrete i j)
+    where
+      go : (b : Bool) → row_is img ws j s x ≡ b → ◌≡◌ {A = Option Found} (elim b [ true ↦ some (symbol_at img ws j) | false ↦ find_from img c ws (j + 1) s x ]) nothing
+          → (find_from img c ws (j + 1) s x ≡ nothing → (k : ℕ) → j + 1 ≤ k → k < j + 1 + c → row_is img ws k s x ≡ true → ⊥) → Dec (i ≡ j) → ⊥
+      go true q n h d = absurd (let z : ◌≡◌ {A = ℕ} 0 1 = cc in omega arith)
+      go false q n h (yes p) = false≢true (sym q ∙ ap (λ (k : ℕ). row_is img ws k s x) (sym p) ∙ r)
+      go false q n h (no p) = h n i (omega arith) (omega arith) r
+
   -- the row of what was found: m is its symbol, and has the name x
   pub record FoundRow (y x : ℕ) (m : Found) : Type 0 where
     pub row : ℕ
@@ -29,19 +77,12 @@ module _ (img ws : List ℕ) where
     where
       go : (b : Bool) → elim b [ true ↦ eqb (name_of img (get_or ws (node_place (nodes img) j) 0)) x | false ↦ false ] ≡ true → name_of img (node_at (nodes img) ws j) ≡ x
       go true q = eqb-true _ _ q
-      go false q = absurd (let w : ◌≡◌ {A = ℕ} 0 1 = cc in omega arith)
+      go false q = absurd (false≢true q)
 
-  find-row : (y c j s x : ℕ) (m : Found) → j + c ≤ y → find_from img c ws j s x ≡ some m → FoundRow y x m
-  unfolding find_from
-  find-row y zero j s x m h e = absurd (let z : ◌≡◌ {A = ℕ} 0 1 = cc in omega arith)
-  find-row y (suc c) j s x m h e = go (row_is img ws j s x) refl e (find-row y c (j + 1) s x m (omega arith))
-    where
-      go : (b : Bool) → row_is img ws j s x ≡ b → ◌≡◌ {A = Option Found} (elim b [ true ↦ some (symbol_at img ws j) | false ↦ find_from img c ws (j + 1) s x ]) (some m)
-          → (find_from img c ws (j + 1) s x ≡ some m → FoundRow y x m) → FoundRow y x m
-      go true p q f =
-          let z : symbol_at img ws j ≡ m = cc in
-          record { row = j; within = omega arith; is = z; named = ap (λ (f : Found). name_of img f.node) (sym z) ∙ row_named j s x p }
-      go false p q f = f q
+  find-row : (y s x : ℕ) (m : Found) → find_from img y ws 0 s x ≡ some m → FoundRow y x m
+  find-row y s x m e =
+      let h = hit-of y 0 s x m e in
+      record { row = h.row; within = (let z = h.within in omega arith); is = h.symbol; named = ap (λ (f : Found). name_of img f.node) (sym h.symbol) ∙ row_named h.row s x h.hits }
 
   pub climb-row : (f y s x : ℕ) (m : Found) → climb img f ws y s x ≡ some m → FoundRow y x m
   unfolding climb
@@ -58,7 +99,7 @@ module _ (img ws : List ℕ) where
       go : (o : Option Found) → find_from img y ws 0 s x ≡ o
           → ◌≡◌ {A = Option Found} (elim o [ some n ↦ some n | nothing ↦ elim (ltb p s) [ true ↦ climb img f ws y p x | false ↦ nothing ] ]) (some m)
           → (climb img f ws y p x ≡ some m → FoundRow y x m) → FoundRow y x m
-      go (some n) q r h = find-row y y 0 s x m (let z = zero-add y in omega arith) (q ∙ r)
+      go (some n) q r h = find-row y s x m (q ∙ r)
       go nothing q r h = up (ltb p s) r h
 
 module _ (img : List ℕ) (t : Table) where

@@ -6,3 +6,4 @@ pub mod Agreed
 pub mod Below
 pub mod Kept
 pub mod Frame
+pub mod WhereFound

@@ -4,3 +4,4 @@ pub mod State
 pub mod Rising
 pub mod Values
 pub mod Kept
+pub mod Where

@@ -1,4 +1,4 @@
-//! The table: N, K, Y, then arrays of N words each. Rows: a count, then two arrays.
+//! The table: N, K, Y, then arrays of N words each. Rows: a count, then two arrays. The index: an array of S words and one of N.
 
 pub const COUNTS: usize = 3;
 
@@ -27,4 +27,9 @@ pub fn table_words(n: usize) -> usize {
 /// The words of rows.
 pub fn rows_words(n: usize) -> usize {
     1 + 2 * n
+}
+
+/// The words of an index for an image of n nodes and s names.
+pub fn index_words(n: usize, s: usize) -> usize {
+    s + n
 }

@@ -3,6 +3,7 @@
 //! all.
 
 pub mod checks;
+pub mod index;
 pub mod layout;
 pub mod sight;
 pub mod tests;
@@ -83,6 +84,20 @@ impl Calls for Reading {
             return Answer::Refused(r);
         }
         walk::lookup_call(image, table, scope, name)
+    }
+
+    fn index(&self, image: &[u8], table: &[u32], index: &mut [u32]) -> Answer {
+        if let Some(r) = table_refusal(image, table.len()) {
+            return Answer::Refused(r);
+        }
+        index::index_call(image, table, index)
+    }
+
+    fn lookup_indexed(&self, image: &[u8], table: &[u32], index: &[u32], scope: u32, name: &[u8]) -> Answer {
+        if let Some(r) = table_refusal(image, table.len()) {
+            return Answer::Refused(r);
+        }
+        index::lookup_call(image, table, index, scope, name)
     }
 
     fn errors(&self, image: &[u8], table: &mut [u32], rows: &mut [u32], mode: u32) -> Answer {

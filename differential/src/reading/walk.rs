@@ -412,17 +412,17 @@ pub fn symbol_number(kind: u32) -> u32 {
 }
 
 /// Refusal 16's table, as plain numbers.
-struct Lent<'a> {
-    rows: &'a Rows,
-    words: &'a [u32],
+pub(super) struct Lent<'a> {
+    pub(super) rows: &'a Rows,
+    pub(super) words: &'a [u32],
 }
 
 impl Lent<'_> {
-    fn scopes(&self) -> u32 {
+    pub(super) fn scopes(&self) -> u32 {
         self.words[1]
     }
 
-    fn symbols(&self) -> u32 {
+    pub(super) fn symbols(&self) -> u32 {
         self.words[2]
     }
 
@@ -430,15 +430,15 @@ impl Lent<'_> {
         self.words[place(array, self.rows.n, i as usize)]
     }
 
-    fn parent(&self, scope: u32) -> u32 {
+    pub(super) fn parent(&self, scope: u32) -> u32 {
         self.at(Array::Parent, scope)
     }
 
-    fn symbol(&self, j: u32) -> (u32, u32) {
+    pub(super) fn symbol(&self, j: u32) -> (u32, u32) {
         (self.at(Array::SymbolScope, j), self.at(Array::SymbolNode, j))
     }
 
-    fn sound(&self) -> bool {
+    pub(super) fn sound(&self) -> bool {
         let n = self.rows.n as u32;
         self.words[0] == n
             && (1..=n).contains(&self.scopes())
@@ -472,6 +472,22 @@ impl Lent<'_> {
     }
 }
 
+/// The number of the name with these bytes.
+pub(super) fn name_number(image: &[u8], names: usize, name: &[u8]) -> Option<u32> {
+    (0..names).find(|&i| {
+        let (from, to) = name_span(image, i);
+        &image[from..to] == name
+    }).map(|i| i as u32)
+}
+
+/// A lookup's answer, by the scope and the node that it finds.
+pub(super) fn looked(rows: &Rows, found: Option<(u32, u32)>) -> Answer {
+    match found {
+        Some((scope, node)) => Answer::Located(scope, symbol_number(rows.kind(node)), node),
+        None => Answer::Other(0, 0),
+    }
+}
+
 /// Lookup, for an image and a table that 1 to 13 do not refuse.
 pub fn lookup_call(image: &[u8], table: &[u32], scope: u32, name: &[u8]) -> Answer {
     let rows = Rows::new(image);
@@ -482,12 +498,5 @@ pub fn lookup_call(image: &[u8], table: &[u32], scope: u32, name: &[u8]) -> Answ
     if scope >= lent.scopes() {
         return Answer::Refused(17);
     }
-    let number = (0..rows.names).find(|&i| {
-        let (from, to) = name_span(image, i);
-        &image[from..to] == name
-    });
-    match number.and_then(|x| lent.lookup(scope, x as u32)) {
-        Some((scope, node)) => Answer::Located(scope, symbol_number(rows.kind(node)), node),
-        None => Answer::Other(0, 0),
-    }
+    looked(&rows, name_number(image, rows.names, name).and_then(|x| lent.lookup(scope, x)))
 }

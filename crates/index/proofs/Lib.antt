@@ -1,0 +1,6 @@
+pub mod Symbols
+pub mod Rows
+pub mod Filling
+pub mod Chained
+pub mod Tests
+pub mod Fitting
