@@ -2,7 +2,7 @@
 -- insertion; what the call that makes it leaves; and lookup through it is Lookup.
 use mathlib.Core.Path.{◌≡◌, refl, sym, ap, ap₂, subst, ◌∙◌}
 use mathlib.Core.Logic.{◌≢◌, ◌⊎◌, inl, inr}
-use mathlib.Core.Bool.{Bool, true, false}
+use mathlib.Core.Bool.{Bool, true, false, false≢true}
 use mathlib.Core.List.{List, [], ◌∷◌, ◌++◌}
 use Prim.Native.Nat.{ℕ, zero, suc, ◌+◌, ◌-◌, ◌<◌, ◌≤◌}
 use native.Mathlib.Decide.{dec_lt, ℕ_discrete}
@@ -13,9 +13,9 @@ use lib.ListN.{length, get_or, take, drop, length-append, length-drop}
 use borrow.Author.Tests.{eqb-true, eq-eqb, ne_eqb, lt-ltb, le-leb, lt-leb}
 use Rattle.std.specs.List.{range_with_len}
 use Rattle.std.proofs.lemmas.List.{take_at, drop_at}
-use Rattle.ast.specs.Answer.{Answer, refused, result}
+use Rattle.ast.specs.Answer.{refused, result}
 use Rattle.ast.specs.Image.{nodes, names}
-use Rattle.ast.specs.Tests.{is, need, same, times, verdict}
+use Rattle.ast.specs.Tests.{is, same, times, verdict}
 use Rattle.ast.proofs.Accepted.{both, needed, skip, stop, sized}
 use Rattle.ast.proofs.Scans.{need-in, need-out}
 use Rattle.names.proofs.Names.{same_true}
@@ -23,13 +23,12 @@ use Rattle.table.specs.Layout.{all_ones}
 use Rattle.sound.specs.Sound.{symbols_in, test_sound}
 use Rattle.sound.proofs.Sounds.{sound-is}
 use Rattle.scopes.specs.Lookup.{test_lookup, lookup_call}
-use Rattle.scopes.proofs.Resolving.{table-accepted}
 use Rattle.sight.specs.Sight.{In}
 use Rattle.index.specs.Index.{index_length, row_name, first_from, index_words, Outcome, test_index, index_call, test_indexed, indexed_call}
 use Rattle.index.proofs.Rows.{index-long, begin-first, begin-next}
 use Rattle.index.proofs.Symbols.{row-name}
 use Rattle.calls.specs.Chains.{follow, chain, rows_named}
-use Rattle.calls.specs.Left.{Refuses, Fills, IndexLeft}
+use Rattle.calls.specs.Left.{IndexLeft}
 use Rattle.calls.specs.Order.{Rises, passing}
 use Rattle.calls.proofs.ByBytes.{same_self}
 
@@ -65,28 +64,24 @@ module _ (p : ℕ → Bool) where
   off y (suc c) j h = go (p j) refl (off y c (j + 1) h)
     where
       go : (b : Bool) → p j ≡ b → times y (some_of (j + 1) c) ≡ 0 → times y (elim b as (λ _. List ℕ) [ true ↦ j ∷ some_of (j + 1) c | false ↦ some_of (j + 1) c ]) ≡ 0
-      go true q e = ap₂ (λ (a b : ℕ). a + b) (other-is y j (λ f. false-true (sym h ∙ ap p f ∙ q))) e
-        where
-          false-true : false ≡ true → ⊥
-          false-true f = absurd (let z : ◌≡◌ {A = ℕ} 0 1 = cc in omega arith)
+      go true q e = ap₂ (λ (a b : ℕ). a + b) (other-is y j (λ f. false≢true (sym h ∙ ap p f ∙ q))) e
       go false q e = e
+
+  own-is : (y j : ℕ) → y ≡ j → is y j ≡ 1
+  unfolding is
+  own-is y j e = rw (eq-eqb y j e, is)
 
   once-in : (y c j : ℕ) → j ≤ y → y < j + c → p y ≡ true → times y (some_of j c) ≡ 1
   unfolding passing times
   once-in y zero j a b h = absurd (omega arith)
-  once-in y (suc c) j a b h = go (ℕ_discrete y j) (p j) refl
+  once-in y (suc c) j a b h = go (ℕ_discrete y j) (p j) refl (λ m n. once-in y c (j + 1) m n h)
     where
-      first : times y (j ∷ some_of (j + 1) c) ≡ is y j + times y (some_of (j + 1) c)
-      first = refl
-
-      go : Dec (y ≡ j) → (b : Bool) → p j ≡ b → times y (elim b as (λ _. List ℕ) [ true ↦ j ∷ some_of (j + 1) c | false ↦ some_of (j + 1) c ]) ≡ 1
-      go (yes e) true q = ap₂ (λ (m n : ℕ). m + n) (own e) (out-of y c (j + 1) (inl (omega arith)))
-        where
-          own : y ≡ j → is y j ≡ 1
-          own f = unfold is in rw (eq-eqb y j f, is)
-      go (yes e) false q = absurd (let z : false ≡ true = sym q ∙ ap p (sym e) ∙ h in let w : ◌≡◌ {A = ℕ} 0 1 = cc in omega arith)
-      go (no n) true q = ap₂ (λ (m n : ℕ). m + n) (other-is y j n) (once-in y c (j + 1) (omega arith) (omega arith) h)
-      go (no n) false q = once-in y c (j + 1) (omega arith) (omega arith) h
+      go : Dec (y ≡ j) → (b : Bool) → p j ≡ b → (j + 1 ≤ y → y < j + 1 + c → times y (some_of (j + 1) c) ≡ 1)
+          → times y (elim b as (λ _. List ℕ) [ true ↦ j ∷ some_of (j + 1) c | false ↦ some_of (j + 1) c ]) ≡ 1
+      go (yes e) true q f = ap₂ (λ (m n : ℕ). m + n) (own-is y j e) (out-of y c (j + 1) (inl (omega arith)))
+      go (yes e) false q f = absurd (false≢true (sym q ∙ ap p (sym e) ∙ h))
+      go (no n) true q f = ap₂ (λ (k l : ℕ). k + l) (other-is y j n) (f (omega arith) (omega arith))
+      go (no n) false q f = f (omega arith) (omega arith)
 
   from-on : (c j z : ℕ) → In z (some_of j c) → j ≤ z
   unfolding passing

@@ -134,13 +134,7 @@ pub fn eqlog_lookup_indexed(
 ) -> u64
     ensures { Packs result (indexed_call image.now table.now index.now scope name.now) }
 {
-    pack_looked(index::lookup_indexed(
-        image,
-        table,
-        index,
-        ScopeId(scope),
-        name,
-    ))
+    pack_looked(index::lookup_indexed(image, table, index, ScopeId(scope), name))
 }
 
 // Errors: resolves, then writes the error rows.
