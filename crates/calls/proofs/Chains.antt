@@ -10,7 +10,7 @@ use native.Mathlib.Nat.{zero-add}
 use native.Mathlib.Omega.{arith}
 use lib.Dec.{eqb, ltb, leb→le}
 use lib.ListN.{length, get_or, take, drop, length-append, length-drop}
-use borrow.Author.Tests.{eqb-true, eq-eqb, ne_eqb, lt-ltb, le-leb, lt-leb}
+use borrow.Author.Tests.{eqb-true, eq-eqb, ne_eqb, le-leb, lt-leb}
 use Rattle.std.specs.List.{range_with_len}
 use Rattle.std.proofs.lemmas.List.{take_at, drop_at}
 use Rattle.ast.specs.Answer.{refused, result}
@@ -27,9 +27,9 @@ use Rattle.sight.specs.Sight.{In}
 use Rattle.index.specs.Index.{index_length, row_name, first_from, index_words, Outcome, test_index, index_call, test_indexed, indexed_call}
 use Rattle.index.proofs.Rows.{index-long, begin-first, begin-next}
 use Rattle.index.proofs.Symbols.{row-name}
-use Rattle.calls.specs.Chains.{follow, chain, rows_named}
+use Rattle.calls.specs.Chains.{follow, chain, rows_named, Rising}
 use Rattle.calls.specs.Left.{IndexLeft}
-use Rattle.calls.specs.Order.{Rises, passing}
+use Rattle.calls.specs.Order.{passing}
 use Rattle.calls.proofs.ByBytes.{same_self}
 
 -- numbers in a row, of which some pass -----------------------------------------------------------------------------------
@@ -93,13 +93,13 @@ module _ (p : ℕ → Bool) where
       go true (inr k) f = let a = f k in omega arith
       go false k f = let a = f k in omega arith
 
-  rising : (c j : ℕ) → Rises (λ a b. ltb a b) (some_of j c)
+  rising : (c j : ℕ) → Rising (some_of j c)
   unfolding passing
   rising zero j = tt
   rising (suc c) j = go (p j) (rising c (j + 1))
     where
-      go : (b : Bool) → Rises (λ a b. ltb a b) (some_of (j + 1) c) → Rises (λ a b. ltb a b) (elim b as (λ _. List ℕ) [ true ↦ j ∷ some_of (j + 1) c | false ↦ some_of (j + 1) c ])
-      go true r = ((λ z i. lt-ltb j z (let a = from-on c (j + 1) z i in omega arith)), r)
+      go : (b : Bool) → Rising (some_of (j + 1) c) → Rising (elim b as (λ _. List ℕ) [ true ↦ j ∷ some_of (j + 1) c | false ↦ some_of (j + 1) c ])
+      go true r = ((λ z i. let a = from-on c (j + 1) z i in omega arith), r)
       go false r = r
 
 -- of every accepted image, every sound table, and all words that begin with its index --------------------------------------
@@ -163,8 +163,8 @@ module _ (img tab index : List ℕ) (accepted : verdict img ≡ 0) (sound : test
   only-rows x y l h = ap (times y) (chain-is x l) ∙ out-of _ y Y 0 (inr (omega arith))
 
   -- earlier rows stand before later ones
-  pub chain-rises : (x : ℕ) → x < names img → Rises (λ a b. ltb a b) (chain img index x)
-  chain-rises x l = subst (Rises (λ a b. ltb a b)) (sym (chain-is x l)) (rising _ Y 0)
+  pub chain-rises : (x : ℕ) → x < names img → Rising (chain img index x)
+  chain-rises x l = subst Rising (sym (chain-is x l)) (rising _ Y 0)
 
 -- what the call that makes the index leaves --------------------------------------------------------------------------------
 module _ (img tab lent : List ℕ) where

@@ -75,7 +75,7 @@ fn pack_indexed(answer: Result<u32, Refusal>) -> u64
     ensures { result ≡ packed (index_answer answer) }
 {
     match answer {
-        Ok(count) => pack(2, 0, 0, count),
+        Ok(rows) => pack(2, 0, 0, rows),
         Err(refusal) => pack_refused(refusal),
     }
 }
