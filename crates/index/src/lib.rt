@@ -1,7 +1,7 @@
 // The name index of a table: the symbols of each name, and lookup through them (document 02, S-3).
 #![tactic(auto)]
 
-ghost use Rattle.std.specs.Prelude.{◌≡◌, Bool, false, ◌+◌, ◌<◌, ◌↔◌, true, IfOk, get_or, length, replicate, take};
+ghost use Rattle.std.specs.Prelude.{◌≡◌, false, ◌+◌, ◌<◌, IfOk, get_or, length, replicate};
 ghost use Rattle.std.proofs.Math.Option.{some};
 ghost use Rattle.ast.specs.Image as ImageSpec;
 ghost use Rattle.ast.specs.Tests.{same};
@@ -16,7 +16,6 @@ ghost use Rattle.index.specs.Index.{index_length, index_words, index_answer};
 ghost use Rattle.index.specs.Promises as PromisesSpec;
 ghost use Rattle.index.specs.Promises.{Room, Indexed, Flagged};
 
-use ast::NodeId;
 use error::Refusal;
 use names::AcceptedImage;
 use scopes::Looked;
