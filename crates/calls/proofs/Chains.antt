@@ -25,8 +25,7 @@ use Rattle.sound.proofs.Sounds.{sound-is}
 use Rattle.scopes.specs.Lookup.{test_lookup, lookup_call}
 use Rattle.sight.specs.Sight.{In}
 use Rattle.index.specs.Index.{index_length, row_name, first_from, index_words, Outcome, test_index, index_call, test_indexed, indexed_call}
-use Rattle.index.proofs.Rows.{index-long, begin-first, begin-next}
-use Rattle.index.proofs.Symbols.{row-name}
+use Rattle.index.proofs.Rows.{row-name, index-long, begin-first, begin-next}
 use Rattle.calls.specs.Chains.{follow, chain, rows_named, Rising}
 use Rattle.calls.specs.Left.{IndexLeft}
 use Rattle.calls.specs.Order.{passing}
@@ -152,7 +151,7 @@ module _ (img tab index : List ℕ) (accepted : verdict img ≡ 0) (sound : test
   -- each row stands once in the chain of its name, and in no other
   pub own-chain : (y : ℕ) → y < Y → (row_name img tab y < names img) × (times y (chain img index (row_name img tab y)) ≡ 1)
   own-chain y l =
-      let b = row-name img accepted tab sound y l in
+      let b = row-name img tab accepted sound y l in
       (b, ap (times y) (chain-is (row_name img tab y) b) ∙ once-in _ y Y 0 (omega arith) (omega arith) (eq-eqb _ _ refl))
 
   pub other-chain : (x y : ℕ) → x < names img → row_name img tab y ≢ x → times y (chain img index x) ≡ 0

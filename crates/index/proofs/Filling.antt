@@ -13,8 +13,7 @@ use Rattle.sound.specs.Sound.{symbols_in}
 use Rattle.sound.proofs.Sounds.{sound-is}
 use Rattle.index.specs.Index.{index_length, row_name, first_from, next_of, index_words}
 use Rattle.index.specs.Promises.{Room, in_front}
-use Rattle.index.proofs.Rows.{first-here, first-later, first_none, index-long, word-first, word-next}
-use Rattle.index.proofs.Symbols.{row-name}
+use Rattle.index.proofs.Rows.{row-name, first-here, first-later, first_none, index-long, word-first, word-next}
 
 module _ (img tab : List ℕ) where
   abbrev Y : ℕ
@@ -42,7 +41,7 @@ module _ (img tab : List ℕ) where
     x₀ = row_name img tab y
 
     named : x₀ < names img
-    named = row-name img room.accepted tab room.sound y low
+    named = row-name img tab room.accepted room.sound y low
 
     within : Y ≤ nodes img
     within = (sound-is img tab room.sound).few_symbols

@@ -1,4 +1,3 @@
-pub mod Symbols
 pub mod Rows
 pub mod Filling
 pub mod Chained

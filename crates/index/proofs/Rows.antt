@@ -1,4 +1,4 @@
--- What the words of the index say: the first of some rows with a name, and the words read one by one.
+-- What the words of the index say: the first of some rows with a name, and the words read one by one. The name of a row is below S.
 use mathlib.Core.Path.{◌≡◌, refl, sym, ap, ◌∙◌}
 use mathlib.Core.Logic.{◌≢◌, ◌⊎◌, inl, inr}
 use mathlib.Core.Bool.{Bool, true, false}
@@ -14,10 +14,17 @@ use Rattle.std.specs.List.{range_with_len}
 use Rattle.std.proofs.lemmas.List.{get_or_append_left, get_or-append-add, get_or-take}
 use Rattle.std.proofs.lemmas.List.FromFn.{length-map-range_with_len, get_or-map-range_with_len}
 use Rattle.ast.specs.Image.{nodes, names}
+use Rattle.ast.specs.Tests.{verdict}
 use Rattle.table.specs.Layout.{all_ones}
+use Rattle.sound.specs.Sound.{symbols_in, test_sound}
+use Rattle.sound.proofs.Sounds.{sound-is}
+use Rattle.scopes.proofs.Clashing.{symbol-name}
 use Rattle.index.specs.Index.{index_length, row_name, first_from, first_of, next_of, index_words}
 
 module _ (img tab : List ℕ) where
+  pub row-name : verdict img ≡ 0 → test_sound img tab ≡ 0 → (y : ℕ) → y < symbols_in img tab → row_name img tab y < names img
+  row-name accepted sound y l = symbol-name img accepted _ ((sound-is img tab sound).symbol y l)
+
   -- r is the first of the c rows from j on that has the name x, or no row where none has it
   pub record First (c j x r : ℕ) : Type 0 where
     pub at : (r ≡ all_ones) ⊎ ((j ≤ r) × (r < j + c) × (row_name img tab r ≡ x))

@@ -66,7 +66,7 @@ first-name k kd h m p t = first-is kd.fields (rw (le-leb 2 k h, le-leb k 9 m, ne
 
 module _ (img : List ℕ) where
   -- its name is below S
-  symbol-name : verdict img ≡ 0 → (n : ℕ) → is_symbol img n ≡ true → name_of img n < names img
+  pub symbol-name : verdict img ≡ 0 → (n : ℕ) → is_symbol img n ≡ true → name_of img n < names img
   unfolding fields_at kind_of kinds
   symbol-name accepted n s = go (ℕ_discrete k 6) (ℕ_discrete k 10) (ℕ_discrete k 13) (dec_lt k 2)
     where

@@ -1,6 +1,6 @@
 //! Document 02's S-3 read from its text: the index of a table, and lookup along a chain of it.
 
-use super::walk::{looked, name_number, Lent, Rows};
+use super::walk::{looked, name_number, refusal, Lent, Rows};
 use crate::calls::Answer;
 
 const NONE: u32 = u32::MAX;
@@ -63,11 +63,8 @@ fn along(lent: &Lent, index: &[u32], scope: u32, name: u32) -> Option<(u32, u32)
 pub fn lookup_call(image: &[u8], table: &[u32], index: &[u32], scope: u32, name: &[u8]) -> Answer {
     let rows = Rows::new(image);
     let lent = Lent { rows: &rows, words: table };
-    if !lent.sound() {
-        return Answer::Refused(16);
-    }
-    if scope >= lent.scopes() {
-        return Answer::Refused(17);
+    if let Some(number) = refusal(&lent, scope) {
+        return Answer::Refused(number);
     }
     let words = words(&lent);
     if index.len() < words.len() || index[..words.len()] != words {

@@ -418,7 +418,7 @@ pub(super) struct Lent<'a> {
 }
 
 impl Lent<'_> {
-    pub(super) fn scopes(&self) -> u32 {
+    fn scopes(&self) -> u32 {
         self.words[1]
     }
 
@@ -488,15 +488,20 @@ pub(super) fn looked(rows: &Rows, found: Option<(u32, u32)>) -> Answer {
     }
 }
 
+/// 16 and 17, of a lookup from the scope.
+pub(super) fn refusal(lent: &Lent, scope: u32) -> Option<u32> {
+    if !lent.sound() {
+        return Some(16);
+    }
+    (scope >= lent.scopes()).then_some(17)
+}
+
 /// Lookup, for an image and a table that 1 to 13 do not refuse.
 pub fn lookup_call(image: &[u8], table: &[u32], scope: u32, name: &[u8]) -> Answer {
     let rows = Rows::new(image);
     let lent = Lent { rows: &rows, words: table };
-    if !lent.sound() {
-        return Answer::Refused(16);
-    }
-    if scope >= lent.scopes() {
-        return Answer::Refused(17);
+    if let Some(number) = refusal(&lent, scope) {
+        return Answer::Refused(number);
     }
     looked(&rows, name_number(image, rows.names, name).and_then(|x| lent.lookup(scope, x)))
 }
