@@ -8,24 +8,27 @@ use Prim.Native.Nat.{ℕ, zero, suc, ◌+◌, ◌-◌, ◌<◌, ◌≤◌}
 use native.Mathlib.Decide.{dec_lt, ℕ_discrete}
 use native.Mathlib.Nat.{zero-add}
 use native.Mathlib.Omega.{arith}
-use lib.Dec.{eqb, ltb, leb→le}
+use lib.Dec.{eqb}
 use lib.ListN.{length, get_or, take, drop, length-append, length-drop}
-use borrow.Author.Tests.{eqb-true, eq-eqb, ne_eqb, le-leb, lt-leb}
+use borrow.Author.Tests.{eqb-true, eq-eqb, ne_eqb}
 use Rattle.std.specs.List.{range_with_len}
 use Rattle.std.proofs.lemmas.List.{take_at, drop_at}
-use Rattle.ast.specs.Answer.{refused, result}
+use Rattle.ast.specs.Answer.{refused}
 use Rattle.ast.specs.Image.{nodes, names}
 use Rattle.ast.specs.Tests.{is, same, times, verdict}
-use Rattle.ast.proofs.Accepted.{both, needed, skip, stop, sized}
-use Rattle.ast.proofs.Scans.{need-in, need-out}
+use Rattle.ast.proofs.Accepted.{sized}
+use Rattle.ast.proofs.Count.{is_same, is-other}
 use Rattle.names.proofs.Names.{same_true}
 use Rattle.table.specs.Layout.{all_ones}
 use Rattle.sound.specs.Sound.{symbols_in, test_sound}
 use Rattle.sound.proofs.Sounds.{sound-is}
 use Rattle.scopes.specs.Lookup.{test_lookup, lookup_call}
+use Rattle.scopes.proofs.Lookups.{call-refused}
 use Rattle.sight.specs.Sight.{In}
 use Rattle.index.specs.Index.{index_length, row_name, first_from, index_words, Outcome, test_index, index_call, test_indexed, indexed_call}
-use Rattle.index.proofs.Rows.{row-name, index-long, begin-first, begin-next}
+use Rattle.index.proofs.Rows.{row-name, first_none, index-long, begin-first, begin-next}
+use Rattle.index.proofs.Tests.{indexed-refused, indexed-short, indexed-own, index-passed, Makes, fills, keeps, makes, indexed-call-refused, indexed-call-looked}
+use Rattle.index.proofs.Tests.{indexed-other as other-words}
 use Rattle.calls.specs.Chains.{follow, chain, rows_named, Rising}
 use Rattle.calls.specs.Left.{IndexLeft}
 use Rattle.calls.specs.Order.{passing}
@@ -35,10 +38,6 @@ use Rattle.calls.proofs.ByBytes.{same_self}
 module _ (p : ℕ → Bool) where
   abbrev some_of : ℕ → ℕ → List ℕ
   some_of j c = passing p (range_with_len j c)
-
-  other-is : (y j : ℕ) → y ≢ j → is y j ≡ 0
-  unfolding is
-  other-is y j n = rw (ne_eqb y j n, is)
 
   out-of : (y c j : ℕ) → (y < j) ⊎ (j + c ≤ y) → times y (some_of j c) ≡ 0
   unfolding passing times
@@ -54,7 +53,7 @@ module _ (p : ℕ → Bool) where
       differ (inr l) e = omega arith
 
       go : (b : Bool) → times y (some_of (j + 1) c) ≡ 0 → times y (elim b as (λ _. List ℕ) [ true ↦ j ∷ some_of (j + 1) c | false ↦ some_of (j + 1) c ]) ≡ 0
-      go true e = ap₂ (λ (a b : ℕ). a + b) (other-is y j (differ h)) e
+      go true e = ap₂ (λ (a b : ℕ). a + b) (is-other y j (differ h)) e
       go false e = e
 
   off : (y c j : ℕ) → p y ≡ false → times y (some_of j c) ≡ 0
@@ -63,12 +62,8 @@ module _ (p : ℕ → Bool) where
   off y (suc c) j h = go (p j) refl (off y c (j + 1) h)
     where
       go : (b : Bool) → p j ≡ b → times y (some_of (j + 1) c) ≡ 0 → times y (elim b as (λ _. List ℕ) [ true ↦ j ∷ some_of (j + 1) c | false ↦ some_of (j + 1) c ]) ≡ 0
-      go true q e = ap₂ (λ (a b : ℕ). a + b) (other-is y j (λ f. false≢true (sym h ∙ ap p f ∙ q))) e
+      go true q e = ap₂ (λ (a b : ℕ). a + b) (is-other y j (λ f. false≢true (sym h ∙ ap p f ∙ q))) e
       go false q e = e
-
-  own-is : (y j : ℕ) → y ≡ j → is y j ≡ 1
-  unfolding is
-  own-is y j e = rw (eq-eqb y j e, is)
 
   once-in : (y c j : ℕ) → j ≤ y → y < j + c → p y ≡ true → times y (some_of j c) ≡ 1
   unfolding passing times
@@ -77,9 +72,9 @@ module _ (p : ℕ → Bool) where
     where
       go : Dec (y ≡ j) → (b : Bool) → p j ≡ b → (j + 1 ≤ y → y < j + 1 + c → times y (some_of (j + 1) c) ≡ 1)
           → times y (elim b as (λ _. List ℕ) [ true ↦ j ∷ some_of (j + 1) c | false ↦ some_of (j + 1) c ]) ≡ 1
-      go (yes e) true q f = ap₂ (λ (m n : ℕ). m + n) (own-is y j e) (out-of y c (j + 1) (inl (omega arith)))
+      go (yes e) true q f = ap₂ (λ (m n : ℕ). m + n) (ap (λ (k : ℕ). is k j) e ∙ is_same j) (out-of y c (j + 1) (inl (omega arith)))
       go (yes e) false q f = absurd (false≢true (sym q ∙ ap p (sym e) ∙ h))
-      go (no n) true q f = ap₂ (λ (k l : ℕ). k + l) (other-is y j n) (f (omega arith) (omega arith))
+      go (no n) true q f = ap₂ (λ (k l : ℕ). k + l) (is-other y j n) (f (omega arith) (omega arith))
       go (no n) false q f = f (omega arith) (omega arith)
 
   from-on : (c j z : ℕ) → In z (some_of j c) → j ≤ z
@@ -170,15 +165,8 @@ module _ (img tab lent : List ℕ) where
   abbrev made : List ℕ
   made = index_words img tab ++ drop (index_length img) lent
 
-  abbrev left : ℕ → Outcome
-  left r = elim r [ zero ↦ record { answer = result 0 (symbols_in img tab); index = made } | suc i ↦ record { answer = refused (suc i); index = lent } ]
-
   made-begins : take (index_length img) made ≡ index_words img tab
   made-begins = take_at (index_words img tab) (drop (index_length img) lent) (index_length img) (index-long img tab)
-
-  room : test_index img tab lent ≡ 0 → index_length img ≤ length lent
-  unfolding test_index
-  room e = leb→le _ _ (needed 17 _ (both _ _ (both _ _ e).1).1)
 
   made-long : index_length img ≤ length lent → length made ≡ length lent
   made-long h =
@@ -188,63 +176,57 @@ module _ (img tab lent : List ℕ) where
       omega arith
 
   pub index-left : IndexLeft img tab lent (index_call img tab lent).answer (index_call img tab lent).index
-  unfolding index_call
-  index-left = go (test_index img tab lent) refl
+  index-left = go (makes img tab lent)
     where
-      go : (r : ℕ) → test_index img tab lent ≡ r → IndexLeft img tab lent (left r).answer (left r).index
-      go zero e =
+      go : {o : Outcome} → Makes img tab lent o → IndexLeft img tab lent o.answer o.index
+      go (fills e) =
           record {
             untouched = λ h. absurd h;
-            long = made-long (room e);
+            long = made-long (index-passed img tab lent (sym e)).2;
             past = drop_at (index_words img tab) (drop (index_length img) lent) (index_length img) (index-long img tab);
-            unused = λ h y l m. begin-next img tab made made-begins y m ∙ none (symbols_in img tab - (y + 1)) (y + 1) (row_name img tab y) (omega arith);
+            unused = λ h y l m. begin-next img tab made made-begins y m ∙ first_none img tab (symbols_in img tab - (y + 1)) (y + 1) (row_name img tab y) (omega arith);
           }
-        where
-          none : (c j x : ℕ) → c ≡ 0 → first_from img tab c j x ≡ all_ones
-          none c j x q = unfold first_from in ap (λ (k : ℕ). first_from img tab k j x) q
-      go (suc r) e = record { untouched = λ h. refl; long = refl; past = refl; unused = λ h. absurd h }
+      go (keeps r e) = record { untouched = λ h. refl; long = refl; past = refl; unused = λ h. absurd h }
 
   -- it begins with the index
   pub made-index : test_index img tab lent ≡ 0 → take (index_length img) (index_call img tab lent).index ≡ index_words img tab
-  unfolding index_call
-  made-index e = ap (λ (r : ℕ). take (index_length img) (left r).index) e ∙ made-begins
+  made-index e = go (makes img tab lent)
+    where
+      go : {o : Outcome} → Makes img tab lent o → take (index_length img) o.index ≡ index_words img tab
+      go (fills q) = made-begins
+      go (keeps r q) = absurd (let z = sym e ∙ q in omega arith)
 
 -- lookup through words is Lookup, or 18 ------------------------------------------------------------------------------------
 module _ (img tab index : List ℕ) (s : ℕ) (bs : List ℕ) where
-  looked-refused : (r : ℕ) → test_lookup img tab s ≡ suc r → lookup_call img tab s bs ≡ refused (suc r)
-  unfolding lookup_call
-  looked-refused r q = rw (q, lookup_call)
-
   -- what Lookup refuses it refuses, whatever the words are
   pub refused-alike : (r : ℕ) → test_lookup img tab s ≡ suc r → indexed_call img tab index s bs ≡ lookup_call img tab s bs
-  unfolding indexed_call test_indexed
-  refused-alike r q = let t : test_indexed img tab index s ≡ suc r = stop _ _ r q in rw (t, indexed_call) (sym (looked-refused r q))
+  refused-alike r q =
+      let some : suc r ≡ 0 → ⊥ = λ z. omega arith in
+      sym (indexed-call-refused img tab index s bs (suc r) (indexed-refused img tab index s (suc r) (sym q) some) some) ∙ call-refused img tab s bs (suc r) (sym q) some
 
   -- through words that begin with the index it is Lookup, of every sound table
   pub indexed-looked : index_length img ≤ length index → take (index_length img) index ≡ index_words img tab → indexed_call img tab index s bs ≡ lookup_call img tab s bs
-  unfolding indexed_call test_indexed
   indexed-looked long e = go (test_lookup img tab s) refl
     where
-      passes : test_lookup img tab s ≡ 0 → test_indexed img tab index s ≡ 0
-      passes q =
-          skip _ _ q ∙ skip _ _ (need-in 18 _ (le-leb _ _ long))
-          ∙ need-in 18 _ (ap (λ (ws : List ℕ). same ws (index_words img tab)) e ∙ same_self (index_words img tab))
+      same-words : true ≡ same (take (index_length img) index) (index_words img tab)
+      same-words = sym (ap (λ (ws : List ℕ). same ws (index_words img tab)) e ∙ same_self (index_words img tab))
 
       go : (r : ℕ) → test_lookup img tab s ≡ r → indexed_call img tab index s bs ≡ lookup_call img tab s bs
-      go zero q = rw (passes q, indexed_call)
+      go zero q = sym (indexed-call-looked img tab index s bs (indexed-own img tab index s (sym q) long true same-words refl))
       go (suc r) q = refused-alike r q
 
   -- through others it is 18
   pub indexed-other : test_lookup img tab s ≡ 0 → take (index_length img) index ≢ index_words img tab → indexed_call img tab index s bs ≡ refused 18
-  unfolding indexed_call test_indexed
-  indexed-other q n = rw (eighteen (dec_lt (length index) (index_length img)) (same (take (index_length img) index) (index_words img tab)) refl, indexed_call)
+  indexed-other q n = sym (indexed-call-refused img tab index s bs 18 (eighteen (dec_lt (length index) (index_length img)) (same (take (index_length img) index) (index_words img tab)) refl) (λ z. omega arith))
     where
-      eighteen : Dec (length index < index_length img) → (b : Bool) → same (take (index_length img) index) (index_words img tab) ≡ b → test_indexed img tab index s ≡ 18
-      eighteen (yes l) b e = skip _ _ q ∙ stop _ _ 17 (need-out 18 _ (lt-leb _ _ l))
+      eighteen : Dec (length index < index_length img) → (b : Bool) → same (take (index_length img) index) (index_words img tab) ≡ b → 18 ≡ test_indexed img tab index s
+      eighteen (yes l) b e = indexed-short img tab index s (sym q) l
       eighteen (no l) true e = absurd (n (same_true _ _ e))
-      eighteen (no l) false e = skip _ _ q ∙ skip _ _ (need-in 18 _ (le-leb _ _ (omega arith))) ∙ need-out 18 _ e
+      eighteen (no l) false e = other-words img tab index s (sym q) (omega arith) false (sym e) refl
 
 -- so through what the call leaves that makes the index, whatever words it was lent, every lookup is Lookup
 pub index-agrees : (img tab lent : List ℕ) → test_index img tab lent ≡ 0 → (s : ℕ) (bs : List ℕ) → indexed_call img tab (index_call img tab lent).index s bs ≡ lookup_call img tab s bs
 index-agrees img tab lent e s bs =
-    indexed-looked img tab (index_call img tab lent).index s bs (let a = (index-left img tab lent).long in let b = room img tab lent e in omega arith) (made-index img tab lent e)
+    let long = (index-left img tab lent).long in
+    let room = (index-passed img tab lent (sym e)).2 in
+    indexed-looked img tab (index_call img tab lent).index s bs (omega arith) (made-index img tab lent e)

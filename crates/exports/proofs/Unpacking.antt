@@ -1,8 +1,8 @@
 -- A packed number stands for one answer only, of those that one call gives: the tag and the three fields give the answer back.
 use mathlib.Core.Path.{◌≡◌, sym, ap, ap₂, ◌∙◌}
-use mathlib.Core.List.{List, ◌++◌}
+use mathlib.Core.List.{List}
 use mathlib.Core.Option.{Option, none, some}
-use lib.ListN.{length, drop}
+use lib.ListN.{length}
 use Prim.Native.Nat.{ℕ, zero, suc}
 use native.Mathlib.Omega.{arith}
 use Rattle.ast.specs.Answer.{Answer, refused, twice, result, located, other, Fits}
@@ -16,8 +16,9 @@ use Rattle.scopes.specs.Calls.{test_rows, rows_call}
 use Rattle.scopes.specs.Lookup.{test_lookup, symbol_answer, found_by, lookup_call}
 use Rattle.bindings.specs.Errors.{error_rows, test_errors, errors}
 use Rattle.sorted.specs.Sorted.{placed, sorted}
-use Rattle.index.specs.Index.{Outcome, index_length, index_words, test_index, index_call, test_indexed, indexed_call}
-use Rattle.sound.specs.Sound.{symbols_in}
+use Rattle.index.specs.Index.{Outcome, index_call, indexed_call}
+use Rattle.index.proofs.Tests.{Makes, keeps, makes, Looks, looks, indexed-looks}
+use Rattle.index.proofs.Tests.{fills as filled, stops as stopped}
 use Rattle.occurrences.specs.Occurrences.{occurrence_rows, lone, rows_by_rule, lone_answer, occurrences, once}
 use Rattle.exports.specs.Alike.{Counts, Locates, Alike, Looking, climbing, chaining, Filling, resolving, checking, sorting, counting, listing, indexing}
 use Rattle.exports.specs.Packed.{packed, Places}
@@ -73,12 +74,11 @@ lookup-none img tab s bs = go (test_lookup img tab s)
     go (suc i) h = h
 
 indexed-none : (img tab index : List ℕ) (s : ℕ) (bs : List ℕ) → Counts (indexed_call img tab index s bs) → ⊥
-unfolding indexed_call
-indexed-none img tab index s bs = go (test_indexed img tab index s)
+indexed-none img tab index s bs = go (indexed-looks img tab index s bs)
   where
-    go : (r : ℕ) → Counts (elim r as (λ _. Answer) [ zero ↦ lookup_call img tab s bs | suc i ↦ refused (suc i) ]) → ⊥
-    go zero h = lookup-none img tab s bs h
-    go (suc i) h = h
+    go : {a : Answer} → Looks img tab index s bs a → Counts a → ⊥
+    go (looks e) h = lookup-none img tab s bs h
+    go (stopped r e) h = h
 
 looking-none : {a : Answer} → Looking a → Counts a → ⊥
 looking-none (climbing img tab s bs) h = lookup-none img tab s bs h
@@ -107,15 +107,11 @@ lone-none none h = h
 lone-none (some w) h = h
 
 index-none : (img tab index : List ℕ) → Locates (index_call img tab index).answer → ⊥
-unfolding index_call
-index-none img tab index = go (test_index img tab index)
+index-none img tab index = go (makes img tab index)
   where
-    go : (r : ℕ) → Locates (elim r as (λ _. Outcome) [
-      | zero ↦ record { answer = result 0 (symbols_in img tab); index = index_words img tab ++ drop (index_length img) index }
-      | suc i ↦ record { answer = refused (suc i); index = index }
-    ]).answer → ⊥
-    go zero h = h
-    go (suc i) h = h
+    go : {o : Outcome} → Makes img tab index o → Locates o.answer → ⊥
+    go (filled e) h = h
+    go (keeps r e) h = h
 
 filling-none : {a : Answer} → Filling a → Locates a → ⊥
 unfolding resolve errors sorted once occurrences

@@ -1,18 +1,16 @@
 -- Every number of an answer fits 16 bits, for both calls.
-use mathlib.Core.Path.{◌≡◌, refl, subst}
-use mathlib.Core.List.{List, ◌++◌}
-use Prim.Native.Nat.{ℕ, zero, suc}
+use mathlib.Core.Path.{◌≡◌, sym, subst}
+use mathlib.Core.List.{List}
+use Prim.Native.Nat.{ℕ, suc}
 use native.Mathlib.Omega.{arith}
-use lib.ListN.{drop}
-use Rattle.ast.specs.Answer.{Answer, refused, result, Fits}
-use Rattle.ast.proofs.Accepted.{both, sized}
+use Rattle.ast.specs.Answer.{Answer, result, Fits}
+use Rattle.ast.proofs.Accepted.{sized}
 use Rattle.ast.proofs.Refusals.{Low, first-low, need-low}
 use Rattle.sound.specs.Sound.{symbols_in}
 use Rattle.sound.proofs.Sounds.{sound-is}
-use Rattle.scopes.specs.Lookup.{lookup_call}
 use Rattle.scopes.proofs.Fitting.{refused-fits, table-low, sound-low, lookup-low, lookup-fits}
-use Rattle.scopes.proofs.Resolving.{table-accepted}
-use Rattle.index.specs.Index.{index_length, index_words, Outcome, test_index, index_call, test_indexed, indexed_call}
+use Rattle.index.specs.Index.{Outcome, test_index, index_call, test_indexed, indexed_call}
+use Rattle.index.proofs.Tests.{index-passed, Makes, fills, keeps, makes, Looks, looks, stops, indexed-looks}
 
 module _ (img tab index : List ℕ) where
   index-low : Low (test_index img tab index)
@@ -24,27 +22,23 @@ module _ (img tab index : List ℕ) where
   indexed-low s = first-low _ _ (lookup-low img tab s) (first-low _ _ (need-low 18 _ (omega arith)) (need-low 18 _ (omega arith)))
 
   count-fits : test_index img tab index ≡ 0 → Fits (result 0 (symbols_in img tab))
-  unfolding test_index Fits
+  unfolding Fits
   count-fits e =
-      let few = (sound-is img tab (both _ _ (both _ _ e).1).0).few_symbols in
-      let small = (sized img (table-accepted img tab (both _ _ e).0)).few_nodes in
+      let p = index-passed img tab index (sym e) in
+      let few = (sound-is img tab p.1).few_symbols in
+      let small = (sized img p.0).few_nodes in
       (omega arith, omega arith)
 
   pub index-fits : Fits (index_call img tab index).answer
-  unfolding index_call
-  index-fits = go (test_index img tab index) refl
+  index-fits = go (makes img tab index)
     where
-      go : (r : ℕ) → test_index img tab index ≡ r → Fits (elim r as (λ _. Outcome) [
-        | zero ↦ record { answer = result 0 (symbols_in img tab); index = index_words img tab ++ drop (index_length img) index }
-        | suc i ↦ record { answer = refused (suc i); index = index }
-      ]).answer
-      go zero e = count-fits e
-      go (suc r) e = refused-fits (suc r) (subst Low e index-low)
+      go : {o : Outcome} → Makes img tab index o → Fits o.answer
+      go (fills e) = count-fits e
+      go (keeps r e) = refused-fits (suc r) (subst Low e index-low)
 
   pub indexed-fits : (s : ℕ) (bs : List ℕ) → Fits (indexed_call img tab index s bs)
-  unfolding indexed_call
-  indexed-fits s bs = go (test_indexed img tab index s) refl
+  indexed-fits s bs = go (indexed-looks img tab index s bs)
     where
-      go : (r : ℕ) → test_indexed img tab index s ≡ r → Fits (elim r as (λ _. Answer) [ zero ↦ lookup_call img tab s bs | suc i ↦ refused (suc i) ])
-      go zero e = lookup-fits img tab s bs
-      go (suc r) e = refused-fits (suc r) (subst Low e (indexed-low s))
+      go : {a : Answer} → Looks img tab index s bs a → Fits a
+      go (looks e) = lookup-fits img tab s bs
+      go (stops r e) = refused-fits (suc r) (subst Low e (indexed-low s))

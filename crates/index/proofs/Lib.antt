@@ -1,5 +1,5 @@
 pub mod Rows
 pub mod Filling
-pub mod Chained
+pub mod Along
 pub mod Tests
 pub mod Fitting

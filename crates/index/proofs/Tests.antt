@@ -12,7 +12,7 @@ use Rattle.std.specs.Prelude.{Result, Ok, Err, IsErrAnd}
 use Rattle.std.proofs.lemmas.List.{length-take-le}
 use Rattle.ast.specs.Answer.{Answer, refused, result}
 use Rattle.ast.specs.Tests.{same, verdict}
-use Rattle.ast.proofs.Accepted.{both, needed, skip, stop, sized}
+use Rattle.ast.proofs.Accepted.{both, needed, skip, stop, stop-at, sized}
 use Rattle.ast.proofs.Bools.{true-is}
 use Rattle.ast.proofs.Scans.{need-in, need-out}
 use Rattle.names.specs.Number.{number_of}
@@ -21,7 +21,6 @@ use Rattle.names.proofs.Numbers.{number-below}
 use Rattle.error.specs.Refusals.{refusal_number}
 use Rattle.error.specs.declared.Refusal.{Refusal}
 use Rattle.sound.specs.Sound.{symbols_in, test_sound}
-use Rattle.sound.proofs.Sounds.{halt}
 use Rattle.scopes.specs.Resolve.{test_table}
 use Rattle.scopes.specs.Lookup.{test_lookup, lookup_call}
 use Rattle.scopes.proofs.Lookups.{lookup-accepted, lookup-sound}
@@ -33,12 +32,12 @@ use Rattle.index.specs.Index.{index_length, index_words, Outcome, test_index, in
 module _ (img tab index : List ℕ) where
   pub index-refused : (k : ℕ) → k ≡ test_table img tab → (k ≡ 0 → ⊥) → k ≡ test_index img tab index
   unfolding test_index
-  index-refused k q h = q ∙ sym (halt _ _ (λ e. h (q ∙ e)))
+  index-refused k q h = sym (stop-at _ _ k (sym q) h)
 
   module _ (passed : 0 ≡ test_table img tab) where
     pub index-unsound : (k : ℕ) → k ≡ test_sound img tab → (k ≡ 0 → ⊥) → k ≡ test_index img tab index
     unfolding test_index
-    index-unsound k q h = q ∙ sym (skip _ _ (sym passed) ∙ halt _ _ (λ e. h (q ∙ e)))
+    index-unsound k q h = sym (skip _ _ (sym passed) ∙ stop-at _ _ k (sym q) h)
 
     module _ (sound : 0 ≡ test_sound img tab) where
       pub index-short : length index < index_length img → 18 ≡ test_index img tab index
@@ -53,7 +52,7 @@ module _ (img tab index : List ℕ) where
 module _ (img tab index : List ℕ) (s : ℕ) where
   pub indexed-refused : (k : ℕ) → k ≡ test_lookup img tab s → (k ≡ 0 → ⊥) → k ≡ test_indexed img tab index s
   unfolding test_indexed
-  indexed-refused k q h = q ∙ sym (halt _ _ (λ e. h (q ∙ e)))
+  indexed-refused k q h = sym (stop-at _ _ k (sym q) h)
 
   module _ (passed : 0 ≡ test_lookup img tab s) where
     pub indexed-short : length index < index_length img → 18 ≡ test_indexed img tab index s
@@ -71,9 +70,9 @@ module _ (img tab index : List ℕ) (s : ℕ) where
 
 -- what the code may do where nothing is refused ------------------------------------------------------------------------
 module _ (img tab index : List ℕ) where
-  pub index-fits : 0 ≡ test_index img tab index → (verdict img ≡ 0) × (test_sound img tab ≡ 0) × (index_length img ≤ length index)
+  pub index-passed : 0 ≡ test_index img tab index → (verdict img ≡ 0) × (test_sound img tab ≡ 0) × (index_length img ≤ length index)
   unfolding test_index
-  index-fits e =
+  index-passed e =
       let a = both _ _ (sym e) in
       let b = both _ _ a.1 in
       (table-accepted img tab a.0, b.0, leb→le _ _ (needed 17 _ b.1))
@@ -115,37 +114,61 @@ answered (Ok n) e h = absurd h
 answered (Err y) e h = ap (λ (k : Refusal). refused (refusal_number k)) h
 
 module _ (img tab index : List ℕ) where
-  by_refusal : ℕ → Outcome
-  by_refusal r = elim r [
-    | zero ↦ record { answer = result 0 (symbols_in img tab); index = index_words img tab ++ drop (index_length img) index }
-    | suc i ↦ record { answer = refused (suc i); index = index }
-  ]
+  -- the call that makes the index fills the words, or it refuses and keeps them
+  pub data Makes : Outcome → Type 0 where
+    fills : test_index img tab index ≡ 0 → Makes (record { answer = result 0 (symbols_in img tab); index = index_words img tab ++ drop (index_length img) index })
+    keeps : (r : ℕ) → test_index img tab index ≡ suc r → Makes (record { answer = refused (suc r); index = index })
+
+  pub makes : Makes (index_call img tab index)
+  unfolding index_call
+  makes = go (test_index img tab index) refl
+    where
+      go : (r : ℕ) → test_index img tab index ≡ r → Makes (elim r as (λ _. Outcome) [
+        | zero ↦ record { answer = result 0 (symbols_in img tab); index = index_words img tab ++ drop (index_length img) index }
+        | suc i ↦ record { answer = refused (suc i); index = index }
+      ])
+      go zero e = fills e
+      go (suc r) e = keeps r e
 
   pub call-refused : (k : ℕ) → k ≡ test_index img tab index → (k ≡ 0 → ⊥) → index_call img tab index ≡ record { answer = refused k; index = index }
-  unfolding index_call by_refusal
-  call-refused k e h = ap by_refusal (sym e) ∙ go k h
+  call-refused k e h = go makes
     where
-      go : (m : ℕ) → (m ≡ 0 → ⊥) → by_refusal m ≡ record { answer = refused m; index = index }
-      go zero q = absurd (q refl)
-      go (suc m) q = refl
+      go : {o : Outcome} → Makes o → o ≡ record { answer = refused k; index = index }
+      go (fills q) = absurd (h (e ∙ q))
+      go (keeps r q) = ap (λ (n : ℕ). record { answer = refused n; index = index }) (sym (e ∙ q))
 
   pub call-made : 0 ≡ test_index img tab index → (y : ℕ) → y ≡ symbols_in img tab → (new : List ℕ) → new ≡ index_words img tab ++ drop (index_length img) index
       → index_call img tab index ≡ record { answer = result 0 y; index = new }
-  unfolding index_call by_refusal
-  call-made e y q new f = ap by_refusal (sym e) ∙ ap₂ (λ (n : ℕ) (ws : List ℕ). record { answer = result 0 n; index = ws }) (sym q) (sym f)
+  call-made e y q new f = go makes
+    where
+      go : {o : Outcome} → Makes o → o ≡ record { answer = result 0 y; index = new }
+      go (fills h) = ap₂ (λ (n : ℕ) (ws : List ℕ). record { answer = result 0 n; index = ws }) (sym q) (sym f)
+      go (keeps r h) = absurd (let z = e ∙ h in omega arith)
 
   module _ (s : ℕ) (bs : List ℕ) where
-    pub indexed-call-refused : (k : ℕ) → k ≡ test_indexed img tab index s → (k ≡ 0 → ⊥) → refused k ≡ indexed_call img tab index s bs
-    unfolding indexed_call
-    indexed-call-refused k e h = go k h ∙ ap call e
-      where
-        call : ℕ → Answer
-        call m = elim m [ zero ↦ lookup_call img tab s bs | suc r ↦ refused (suc r) ]
+    -- lookup through the index is Lookup, or it refuses
+    pub data Looks : Answer → Type 0 where
+      looks : test_indexed img tab index s ≡ 0 → Looks (lookup_call img tab s bs)
+      stops : (r : ℕ) → test_indexed img tab index s ≡ suc r → Looks (refused (suc r))
 
-        go : (m : ℕ) → (m ≡ 0 → ⊥) → refused m ≡ call m
-        go zero q = absurd (q refl)
-        go (suc m) q = refl
+    pub indexed-looks : Looks (indexed_call img tab index s bs)
+    unfolding indexed_call
+    indexed-looks = go (test_indexed img tab index s) refl
+      where
+        go : (r : ℕ) → test_indexed img tab index s ≡ r → Looks (elim r as (λ _. Answer) [ zero ↦ lookup_call img tab s bs | suc i ↦ refused (suc i) ])
+        go zero e = looks e
+        go (suc r) e = stops r e
+
+    pub indexed-call-refused : (k : ℕ) → k ≡ test_indexed img tab index s → (k ≡ 0 → ⊥) → refused k ≡ indexed_call img tab index s bs
+    indexed-call-refused k e h = go indexed-looks
+      where
+        go : {a : Answer} → Looks a → refused k ≡ a
+        go (looks q) = absurd (h (e ∙ q))
+        go (stops r q) = ap refused (e ∙ q)
 
     pub indexed-call-looked : 0 ≡ test_indexed img tab index s → lookup_call img tab s bs ≡ indexed_call img tab index s bs
-    unfolding indexed_call
-    indexed-call-looked e = ap (λ (m : ℕ). elim m as (λ _. Answer) [ zero ↦ lookup_call img tab s bs | suc r ↦ refused (suc r) ]) e
+    indexed-call-looked e = go indexed-looks
+      where
+        go : {a : Answer} → Looks a → lookup_call img tab s bs ≡ a
+        go (looks q) = refl
+        go (stops r q) = absurd (let z = e ∙ q in omega arith)

@@ -1,7 +1,7 @@
 use mathlib.Core.Path.{sym, subst}
 use mathlib.Core.Bool.{Bool}
 use mathlib.Core.List.{List}
-use Rattle.index.proofs.Chained.{Climbing, climb-begin, climb-up, climb-end}
+use Rattle.index.proofs.Along.{Climbing, climb-begin, climb-up, climb-end}
 use Rattle.index.proofs.flag.Goals as goal
 
 pub loop-at-init : goal.loop-at-init

@@ -1,5 +1,5 @@
 -- From the scope asked the climb has come to a scope: those between are flagged.
-use Rattle.index.proofs.Chained.{Climbing}
+use Rattle.index.proofs.Along.{Climbing}
 use Rattle.index.proofs.flag.Given as goal
 
 abbrev pub invariant-loop-at : goal.invariant-loop-at

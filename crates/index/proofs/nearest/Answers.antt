@@ -6,7 +6,7 @@ use lib.ListN.{get_or, length-replicate}
 use Rattle.table.specs.Table.{Found}
 use Rattle.table.specs.Values.{found_at, found_of}
 use Rattle.sound.specs.Sound.{symbols_in}
-use Rattle.index.proofs.Chained.{At, Best, nearest-begin, nearest-step, nearest-end, asked-low, scope-low}
+use Rattle.index.proofs.Along.{At, Best, nearest-begin, nearest-step, nearest-end, asked-low, scope-low}
 use Rattle.index.proofs.nearest.Goals as goal
 use Rattle.index.proofs.nearest.Goals.{After-get-row-in-loop-row}
 

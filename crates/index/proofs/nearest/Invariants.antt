@@ -2,7 +2,7 @@
 use Rattle.std.proofs.Common.{◌-◌}
 use Rattle.table.specs.Values.{found_of}
 use Rattle.sound.specs.Sound.{symbols_in}
-use Rattle.index.proofs.Chained.{At, Best}
+use Rattle.index.proofs.Along.{At, Best}
 use Rattle.index.proofs.nearest.Given as goal
 
 abbrev pub invariant-loop-row : goal.invariant-loop-row
