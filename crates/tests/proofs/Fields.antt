@@ -9,9 +9,9 @@ use native.Mathlib.Omega.{arith}
 use lib.Dec.{leb, ltb, leb-suc-suc}
 use lib.ListN.{length, get_or, set, drop}
 use borrow.Author.Tests.{lt-ltb, le-ltb, eq-eqb, ne_eqb}
-use Rattle.std.proofs.lemmas.List.{length-map, map-set}
+use Rattle.std.proofs.lemmas.List.{map-set}
 use Rattle.std.proofs.Math.ListN.{get_or-map}
-use Rattle.std.specs.Prelude.{Result, Ok, Err, Option, None}
+use Rattle.std.specs.Prelude.{Result, Ok, Err}
 use Rattle.ast.specs.Image.{kind_at, op_at, operands, names}
 use Rattle.ast.specs.KindNumbers.{kind_number}
 use Rattle.ast.specs.Kinds.{Field, name, opt_name, child, opt_child, list, lists, cases, no_child}
@@ -27,7 +27,7 @@ use Rattle.error.specs.Refusals.{refusal_number}
 use Rattle.error.specs.declared.Refusal.{Refusal}
 use Rattle.ast.specs.Times.{times_number, counts}
 use Rattle.tests.specs.Claims.{Counted}
-use Rattle.tests.specs.Rows.{case_number, case_kinds, Went, FieldStep, FieldsStep}
+use Rattle.tests.specs.Rows.{Went, FieldStep, FieldsStep}
 use Rattle.tests.specs.Steps.{Answered}
 use Rattle.ast.specs.declared.times.Times.{Times}
 use Rattle.ast.specs.declared.times.Times.TheVariants as times
@@ -77,13 +77,6 @@ kind-low kind.IfStmt = omega arith
 kind-low kind.ThenStmt = omega arith
 kind-low kind.BranchStmt = omega arith
 kind-low kind.MatchStmt = omega arith
-
--- the kinds of an enum's cases, as numbers
-pub case_count : (ks : List (Option Kind)) → length ks ≡ length (case_kinds ks)
-case_count ks = sym (length-map ks case_number)
-
-pub case_at : (ks : List (Option Kind)) (w v : ℕ) (k : Option Kind) → w ≡ v → w < length ks → get_or ks w None ≡ k → get_or (case_kinds ks) v no_child ≡ case_number k
-case_at ks w v k e h q = rw (← e) (get_or-map case_number ks w None ∙ ap case_number q)
 
 module _ (img : List ℕ) where
   pub in-row : (p : ℕ) → p < operands img → in_row img p ≡ 0
@@ -140,7 +133,7 @@ module _ (img : List ℕ) where
       unfolding test_field
       cases-out ks c = retests _ _ (▸-assoc _ _ _) (stops e _ _ (sym (rw c at h)))
 
-    module _ (p count : ℕ) (b : Row) {us : List ℕ} (h : 0 ≡ in_row img p ▸ need 8 (ltb (op_at img p) count)) (i : b.image.now.image.now ≡ img) (m : b.node.0 ≡ n) (q : b.place ≡ p + 1) where
+    module _ (p count : ℕ) (b : Row) {us : List ℕ} (h : 0 ≡ in_row img p ▸ need 8 (ltb (op_at img p) count)) (i : b.image.now.image.now ≡ img) (m : b.node.0 ≡ n) (q : b.at ≡ p + 1) where
       pub name_in : count ≡ names img → FieldStep img n name p us us (Ok b)
       unfolding test_field after field_kids numbers claim_all
       name_in c = passes b _ (sym (rw c at h)) (record { image = i; node = m; place = q; claimed = refl })
@@ -154,7 +147,7 @@ module _ (img : List ℕ) where
       case-none ks c f = rw (f, test_field, after, field_kids) (retests _ _ (▸-assoc _ _ _) (skips _ _ (sym (rw c at h)) (passes b _ refl (record { image = i; node = m; place = q; claimed = refl }))))
 
       pub case-in : (ks : List ℕ) (k : ℕ) {vs : List ℕ} (r : Result Row Refusal) → count ≡ length ks → get_or ks (op_at img p) no_child ≡ k → (k ≡ no_child → ⊥)
-          → FieldStep (b.image.now.image.now) b.node.0 (child k) b.place us vs r → FieldStep img n (cases ks) p us vs r
+          → FieldStep (b.image.now.image.now) b.node.0 (child k) b.at us vs r → FieldStep img n (cases ks) p us vs r
       unfolding test_field after field_kids numbers
       case-in ks k r c f z t =
           rw (f, ne_eqb _ _ z, test_field, after, field_kids)
@@ -170,7 +163,7 @@ module _ (img : List ℕ) where
       unfolding test_field
       opt_child-out k f c q t = let g : op_at img p ≡ suc c = sym e ∙ q in rw (g, test_field) (skips _ _ (sym h) (refuses f _ (sym t)))
 
-      module _ (b : Row) (i : b.image.now.image.now ≡ img) (m : b.node.0 ≡ n) (q : b.place ≡ p + 1) where
+      module _ (b : Row) (i : b.image.now.image.now ≡ img) (m : b.node.0 ≡ n) (q : b.at ≡ p + 1) where
         pub child-read : (k : ℕ) (us vs : List Times) → 0 ≡ is_child img n k w → Counted w us vs → FieldStep img n (child k) p (counts us) (counts vs) (Ok b)
         unfolding test_field child_word after field_kids numbers claim_all
         child-read k us vs t d = skips _ _ (sym h) (passes b _ (sym (rw e at t)) (record { image = i; node = m; place = q; claimed = rw e at d }))
@@ -204,20 +197,20 @@ module _ (img : List ℕ) where
       pub record ItemsLeft (left : ℕ) (row : Row) (vs : List ℕ) : Type 0 where
         pub image : row.image.now.image.now ≡ img
         pub node : row.node.0 ≡ n
-        pub whole : {ws : List ℕ} {r : Result Row Refusal} → ItemsStep k left row.place vs ws r → ItemsStep k count p us ws r
+        pub whole : {ws : List ℕ} {r : Result Row Refusal} → ItemsStep k left row.at vs ws r → ItemsStep k count p us ws r
 
       pub record BlocksLeft (left : ℕ) (row : Row) (vs : List ℕ) : Type 0 where
         pub image : row.image.now.image.now ≡ img
         pub node : row.node.0 ≡ n
-        pub whole : {ws : List ℕ} {r : Result Row Refusal} → BlocksStep k left row.place vs ws r → BlocksStep k count p us ws r
+        pub whole : {ws : List ℕ} {r : Result Row Refusal} → BlocksStep k left row.at vs ws r → BlocksStep k count p us ws r
 
       module _ (row : Row) where
         module _ (i : ℕ) (h : i < count) {vs ws : List ℕ} where
-          pub items-stop : (e : Refusal) → ItemsLeft (count - i) row vs → FieldStep (row.image.now.image.now) row.node.0 (child k) row.place vs ws (Err e) → ItemsStep k count p us ws (Err e)
+          pub items-stop : (e : Refusal) → ItemsLeft (count - i) row vs → FieldStep (row.image.now.image.now) row.node.0 (child k) row.at vs ws (Err e) → ItemsStep k count p us ws (Err e)
           unfolding run test_field
           items-stop e l t = l.whole (rw (one_more h, run) (stops e _ _ (sym (rw (l.image, l.node) at t).refusal)))
 
-          pub items-next : (b : Row) → ItemsLeft (count - i) row vs → FieldStep (row.image.now.image.now) row.node.0 (child k) row.place vs ws (Ok b) → ItemsLeft (count - (i + 1)) b ws
+          pub items-next : (b : Row) → ItemsLeft (count - i) row vs → FieldStep (row.image.now.image.now) row.node.0 (child k) row.at vs ws (Ok b) → ItemsLeft (count - (i + 1)) b ws
           unfolding run ops_from test_field after field_kids numbers claim_all
           items-next b l t =
               let u = rw (l.image, l.node) at t in
@@ -228,15 +221,15 @@ module _ (img : List ℕ) where
                   image = w.image;
                   node = w.node;
                   place = w.place ∙ omega arith;
-                  claimed = w.claimed ∙ ap (claim_all (ops_from img (count - (i + 1)) (row.place + 1))) u.went.claimed;
+                  claimed = w.claimed ∙ ap (claim_all (ops_from img (count - (i + 1)) (row.at + 1))) u.went.claimed;
                 }) (rw u.went.place at s))));
               }
 
-          pub blocks-stop : (e : Refusal) → BlocksLeft (count - i) row vs → FieldStep (row.image.now.image.now) row.node.0 (list k) row.place vs ws (Err e) → BlocksStep k count p us ws (Err e)
+          pub blocks-stop : (e : Refusal) → BlocksLeft (count - i) row vs → FieldStep (row.image.now.image.now) row.node.0 (list k) row.at vs ws (Err e) → BlocksStep k count p us ws (Err e)
           unfolding test_blocks test_field
           blocks-stop e l t = l.whole (rw (one_more h, test_blocks) (retests _ _ (▸-assoc _ _ _) (stops e _ _ (sym (rw (l.image, l.node) at t).refusal))))
 
-          pub blocks-next : (b : Row) → BlocksLeft (count - i) row vs → FieldStep (row.image.now.image.now) row.node.0 (list k) row.place vs ws (Ok b) → BlocksLeft (count - (i + 1)) b ws
+          pub blocks-next : (b : Row) → BlocksLeft (count - i) row vs → FieldStep (row.image.now.image.now) row.node.0 (list k) row.at vs ws (Ok b) → BlocksLeft (count - (i + 1)) b ws
           unfolding test_blocks after_blocks block_kids test_field after field_kids numbers
           blocks-next b l t =
               let u = rw (l.image, l.node) at t in
@@ -247,8 +240,8 @@ module _ (img : List ℕ) where
                   image = w.image;
                   node = w.node;
                   place = w.place;
-                  claimed = w.claimed ∙ ap (claim_all (numbers (block_kids img (count - (i + 1)) (row.place + 1 + op_at img row.place)))) (rw numbers-ones at u.went.claimed)
-                      ∙ sym (claim-append (ops_from img (op_at img row.place) (row.place + 1)) _ vs);
+                  claimed = w.claimed ∙ ap (claim_all (numbers (block_kids img (count - (i + 1)) (row.at + 1 + op_at img row.at)))) (rw numbers-ones at u.went.claimed)
+                      ∙ sym (claim-append (ops_from img (op_at img row.at) (row.at + 1)) _ vs);
                 }) (rw u.went.place at s)))));
               }
 
@@ -271,7 +264,7 @@ module _ (img : List ℕ) where
           go fs gs q = rw (q, test_fields) (stops e _ _ (sym t.refusal))
 
       pub fields-in : (gs : List Field) → fs ≡ g ∷ gs → (b : Row) {ws : List ℕ} (r : Result Row Refusal) → FieldStep img n g p us vs (Ok b)
-          → FieldsStep (b.image.now.image.now) b.node.0 gs b.place vs ws r → FieldsStep img n fs p us ws r
+          → FieldsStep (b.image.now.image.now) b.node.0 gs b.at vs ws r → FieldsStep img n fs p us ws r
       unfolding test_fields after_fields fields_kids
       fields-in gs q b r t s =
           rw (q, test_fields, after_fields, fields_kids)

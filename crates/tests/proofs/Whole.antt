@@ -6,7 +6,7 @@ use mathlib.Core.List.{List}
 use Prim.Native.Nat.{ℕ, zero, suc, ◌+◌, ◌-◌, ◌*◌, ◌<◌, ◌≤◌}
 use native.Mathlib.Omega.{arith}
 use native.Mathlib.Numerals.{add-one}
-use lib.Dec.{eqb, leb, ltb}
+use lib.Dec.{eqb, leb, ltb, leb→le}
 use native.Mathlib.Decide.{dec_lt}
 use lib.ListN.{length}
 use borrow.Author.Tests.{lt-ltb, le-ltb, le-leb, lt-leb, eq-eqb, ne_eqb}
@@ -14,11 +14,11 @@ use Rattle.ast.specs.Image.{nodes, kind_at, start_at, op_at, field, operands, na
 use Rattle.ast.specs.Rows.{numbers, kids, kids_to, fields_at, row_end}
 use Rattle.ast.specs.Promises.{Head, Within, claim_all}
 use Rattle.ast.specs.Tests.{◌▸◌, need, run, in_row, test_fields, times, first, is_var, test_var, test_sizes, test_node, test_parents, test_tree, end_before}
-use Rattle.ast.proofs.Accepted.{skip, stop, stop-at, sizes-ok}
+use Rattle.ast.proofs.Accepted.{both, needed, skip, stop, stop-at, sizes-ok}
 use Rattle.error.specs.declared.Refusal.{Refusal}
 use Rattle.error.specs.declared.Refusal.TheVariants as refusal
 use Rattle.tests.specs.Rows.{FieldsStep}
-use Rattle.tests.specs.Steps.{Answered, Ended, NodeTested, NodesTested}
+use Rattle.tests.specs.Steps.{Answered, Ended, KnownBelow, NodeTested, NodesTested}
 use Rattle.tests.specs.declared.Row.{Row}
 use Rattle.tests.proofs.Steps.{passes, refuses, skips, stops}
 use Rattle.error.proofs.Refused.{refusal-some}
@@ -64,20 +64,33 @@ module _ (img : List ℕ) where
           pub node-bad : (e : Refusal) → FieldsStep img n (fields_at img n) (start_at img n + 2) us vs (Err e) → NodeTested img n us vs (Err e)
           node-bad e t = placed (refuses e _ (sym t.refusal))
 
-          pub node_in : (row : Row) → FieldsStep img n (fields_at img n) (start_at img n + 2) us vs (Ok row) → NodeTested img n us vs (Ok row.place)
+          pub node_in : (row : Row) → FieldsStep img n (fields_at img n) (start_at img n + 2) us vs (Ok row) → NodeTested img n us vs (Ok row.at)
           unfolding row_end kids
           node_in row t = let low = row.low in placed (passes _ _ (sym t.refusal) (record { place = t.went.place; claimed = t.went.claimed; low = low }))
+
+  -- a node that passes has a kind that there is
+  kind-known : (n : ℕ) → test_node img n ≡ 0 → kind_at img n ≤ 40
+  unfolding test_node
+  kind-known n e = leb→le _ _ (needed 5 _ (both _ _ e).0)
+
+  known-next : (n : ℕ) → KnownBelow img n → kind_at img n ≤ 40 → KnownBelow img (n + 1)
+  known-next n below k i h = go (dec_lt i n)
+    where
+      go : Dec (i < n) → kind_at img i ≤ 40
+      go (yes l) = below i l
+      go (no l) = let e : i ≡ n = omega arith in rw e k
 
   -- the nodes before n have passed
   pub record NodesLeft (us : List ℕ) (n end : ℕ) (vs : List ℕ) : Type 0 where
     pub left : RunLeft (test_node img) (nodes img) n
+    pub known : KnownBelow img n
     pub ended : end ≡ end_before img n
     pub claimed : vs ≡ claim_all (kids_to img n) us
     pub low : end ≤ 8192
 
   pub nodes-begin : (us : List ℕ) → NodesLeft us 0 0 us
   unfolding end_before kids_to claim_all
-  nodes-begin us = record { left = run-begin _ _; ended = refl; claimed = refl; low = omega arith }
+  nodes-begin us = record { left = run-begin _ _; known = λ i h. absurd (omega arith); ended = refl; claimed = refl; low = omega arith }
 
   module _ (us : List ℕ) (n end : ℕ) {vs ws : List ℕ} (i : NodesLeft us n end vs) (h : n < nodes img) where
     pub nodes-next : (after : ℕ) → NodeTested img n vs ws (Ok after) → NodesLeft us (n + 1) after ws
@@ -86,6 +99,7 @@ module _ (img : List ℕ) where
         let g = t.went in
         record {
           left = run-next _ _ n i.left h (sym t.refusal);
+          known = known-next n i.known (kind-known n (sym t.refusal));
           ended = rw add-one g.place;
           claimed = rw add-one (g.claimed ∙ ap (claim_all (numbers (kids img n))) i.claimed ∙ sym (claim-append (kids_to img n) _ us));
           low = g.low;

@@ -1,6 +1,6 @@
 -- What the tests of rows hand back as the code goes through them: vocabulary of its contracts.
-use Rattle.std.specs.Prelude.{◌≡◌, List, ℕ, ◌≤◌, Result, IfOk}
-use Rattle.ast.specs.Image.{nodes}
+use Rattle.std.specs.Prelude.{◌≡◌, List, ℕ, ◌<◌, ◌≤◌, Result, IfOk}
+use Rattle.ast.specs.Image.{nodes, kind_at}
 use Rattle.ast.specs.Promises.{claim_all}
 use Rattle.ast.specs.Rows.{numbers, row_end, kids, kids_to}
 use Rattle.ast.specs.Tests.{run, test_node, end_before}
@@ -19,6 +19,10 @@ pub record Ended (next : ℕ) (cs us vs : List ℕ) (end : ℕ) : Type 0 where
   pub low : end ≤ 8192
 
 module _ (img : List ℕ) where
+  -- the nodes below n have kinds that there are
+  abbrev pub KnownBelow : ℕ → Type 0
+  KnownBelow n = (i : ℕ) → i < n → kind_at img i ≤ 40
+
   -- the answer to the tests of a node, and of each node
   abbrev pub NodeTested : ℕ → List ℕ → List ℕ → Result ℕ Refusal → Type 0
   NodeTested n us vs r = Answered (test_node img n) (Ended (row_end img n) (numbers (kids img n)) us vs) r

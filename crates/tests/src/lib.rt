@@ -8,13 +8,15 @@ ghost use Rattle.ast.specs.Tests as TestsSpec;
 ghost use Rattle.ast.specs.Promises.{claim_all};
 ghost use Rattle.error.specs.Refusals.{refusal_of};
 ghost use Rattle.ast.specs.Times.{counts};
-ghost use Rattle.tests.specs.Steps.{NodeTested, NodesTested};
+ghost use Rattle.tests.specs.Steps.{KnownBelow, NodeTested, NodesTested};
 
 use ast::kind::Kind;
 use ast::times::Times;
 use ast::{NODES, NodeId, SizedImage};
 use error::Refusal;
 use typed::nodes::{DefinedThenAtom, DefinedThenAtomId, Term, TermId, VarIfAtom, VarIfAtomId};
+
+pub mod grid;
 
 // Refusals 1, 2, 3.
 pub fn test_sizes(image: &[u8]) -> Result<SizedImage<'_>, Refusal>
@@ -45,93 +47,35 @@ pub fn test_sizes(image: &[u8]) -> Result<SizedImage<'_>, Refusal>
     Ok(SizedImage { image, sizes })
 }
 
-// The kinds of the children of Decl's cases.
-const DECL: &[Option<Kind>] = &[
-    Some(Kind::TypeDecl),
-    Some(Kind::PredDecl),
-    Some(Kind::FuncDecl),
-    Some(Kind::ConstDecl),
-    Some(Kind::RuleDecl),
-    Some(Kind::EnumDecl),
-    Some(Kind::ModelDecl),
-];
+// The case of Term that has no child.
+const WILDCARD: u32 = 1;
 
-// The same of Term; Wildcard has no child.
-const TERM: &[Option<Kind>] = &[
-    Some(Kind::IdentTerm),
-    None,
-    Some(Kind::AppTerm),
-    Some(Kind::TermMember),
-    Some(Kind::DomTerm),
-    Some(Kind::CodTerm),
-    Some(Kind::IdTerm),
-    Some(Kind::CompTerm),
-];
-
-// The same of AppHead.
-const APP_HEAD: &[Option<Kind>] = &[
-    Some(Kind::IdentTerm),
-    Some(Kind::AppHeadMember),
-    Some(Kind::Term),
-];
-
-// The same of TypeExpr.
-const TYPE_EXPR: &[Option<Kind>] = &[
-    Some(Kind::AmbientTypeExpr),
-    Some(Kind::TermMember),
-    Some(Kind::MorTypeExpr),
-];
-
-// The same of PredExpr.
-const PRED_EXPR: &[Option<Kind>] = &[Some(Kind::AmbientPredExpr), Some(Kind::TermMember)];
-
-// The same of IfAtom.
-const IF_ATOM: &[Option<Kind>] = &[
-    Some(Kind::EqualAtom),
-    Some(Kind::DefinedIfAtom),
-    Some(Kind::PredAtom),
-    Some(Kind::VarIfAtom),
-];
-
-// The same of ThenAtom.
-const THEN_ATOM: &[Option<Kind>] = &[
-    Some(Kind::EqualAtom),
-    Some(Kind::DefinedThenAtom),
-    Some(Kind::PredAtom),
-];
-
-// The same of Stmt.
-const STMT: &[Option<Kind>] = &[
-    Some(Kind::IfStmt),
-    Some(Kind::ThenStmt),
-    Some(Kind::BranchStmt),
-    Some(Kind::MatchStmt),
-];
-
-// A place in the row of a node. The test of a field gives the place after it. The claims go beside it: with a `&mut` in here each
-// method would owe that the same claims stay lent.
+// Where a node's row goes on: `at` is the place of its next word. The test of a field gives the row after it. The places of children
+// are the grid's. The claims go beside it: with a `&mut` in here each method would owe that the same claims stay lent.
 #[derive(Clone, Copy)]
 struct Row<'a> {
     image: &'a SizedImage<'a>,
     node: NodeId,
-    place: u32,
+    at: u32,
     ghost there: { node.0 < image.now.sizes.nodes },
-    ghost low: { place ≤ 8192 },
+    ghost low: { at ≤ 8192 },
+    ghost known: { KnownBelow image.now.image.now node.0 },
 }
 
 impl Row<'_> {
     ghost use Rattle.ast.specs.Kinds.{name, opt_name, child, opt_child, list, lists, cases};
     ghost use Rattle.ast.specs.KindNumbers.{kind_number};
-    ghost use Rattle.tests.specs.Rows.{WordRead, NumberRead, ChildTested, case_kinds, FieldTested, NameTested, FieldsTested, After};
+    ghost use Rattle.tests.specs.Grid.{places_of, admitted, Wraps};
+    ghost use Rattle.tests.specs.Rows.{WordRead, NumberRead, ChildTested, FieldTested, NameTested, FieldsTested, After};
 
-    // The word at the place.
+    // The next word.
     fn word(self) -> Result<u32, Refusal>
         ensures { WordRead self.entry result }
     {
-        if self.image.sizes.operands <= self.place {
+        if self.image.sizes.operands <= self.at {
             return Err(Refusal::RowOutside);
         }
-        Ok(self.image.op_at(self.place))
+        Ok(self.image.op_at(self.at))
     }
 
     // The same as a number, of which there are `count`.
@@ -147,13 +91,13 @@ impl Row<'_> {
 
     // After a word that is there.
     fn next(self) -> Self
-        requires { self.place < self.image.now.sizes.operands }
+        requires { self.at < self.image.now.sizes.operands }
         ensures { After self.entry result }
     {
         Row {
             image: self.image,
             node: self.node,
-            place: self.place + 1,
+            at: self.at + 1,
         }
     }
 
@@ -173,11 +117,18 @@ impl Row<'_> {
         Ok(self.next())
     }
 
-    // A node as a child of the kind.
-    fn check(self, kind: Kind, node: NodeId, claims: &mut [Times; NODES]) -> Result<(), Refusal>
-        ensures { ChildTested self.entry kind node.0 claims.old result claims.new }
+    // A node as a child at a place of the parent's kind.
+    fn check(
+        self,
+        parent: Kind,
+        place: u32,
+        node: NodeId,
+        claims: &mut [Times; NODES],
+    ) -> Result<(), Refusal>
+        requires { place < 8 }
+        ensures { ChildTested self.entry (admitted (kind_number parent) place) node.0 claims.old result claims.new }
     {
-        if self.node.0 <= node.0 || !self.image.is_kind(node, kind) {
+        if self.node.0 <= node.0 || !grid::admits(parent, place, self.image.kind_at(node)) {
             return Err(Refusal::WrongChild);
         }
         let i = node.0 as usize;
@@ -185,58 +136,74 @@ impl Row<'_> {
         Ok(())
     }
 
-    // A child of the kind.
-    fn child(self, kind: Kind, claims: &mut [Times; NODES]) -> Result<Self, Refusal>
-        ensures { FieldTested (child (kind_number kind)) self.entry claims.old result claims.new }
+    // A child.
+    fn child(self, parent: Kind, place: u32, claims: &mut [Times; NODES]) -> Result<Self, Refusal>
+        requires { place < 8 }
+        ensures { FieldTested (child (admitted (kind_number parent) place)) self.entry claims.old result claims.new }
     {
         let word = self.word()?;
-        self.check(kind, NodeId(word), claims)?;
+        self.check(parent, place, NodeId(word), claims)?;
         Ok(self.next())
     }
 
-    // 0 for none, or the number of a child of the kind plus 1.
-    fn opt_child(self, kind: Kind, claims: &mut [Times; NODES]) -> Result<Self, Refusal>
-        ensures { FieldTested (opt_child (kind_number kind)) self.entry claims.old result claims.new }
+    // 0 for none, or the number of a child plus 1.
+    fn opt_child(
+        self,
+        parent: Kind,
+        place: u32,
+        claims: &mut [Times; NODES],
+    ) -> Result<Self, Refusal>
+        requires { place < 8 }
+        ensures { FieldTested (opt_child (admitted (kind_number parent) place)) self.entry claims.old result claims.new }
     {
         if let Some(child) = self.word()?.checked_sub(1) {
-            self.check(kind, NodeId(child), claims)?;
+            self.check(parent, place, NodeId(child), claims)?;
         }
         Ok(self.next())
     }
 
     // A count and its items.
-    fn list(self, kind: Kind, claims: &mut [Times; NODES]) -> Result<Self, Refusal>
-        ensures { FieldTested (list (kind_number kind)) self.entry claims.old result claims.new }
+    fn list(self, parent: Kind, place: u32, claims: &mut [Times; NODES]) -> Result<Self, Refusal>
+        requires { place < 8 }
+        ensures { FieldTested (list (admitted (kind_number parent) place)) self.entry claims.old result claims.new }
     {
         let count = self.word()?;
         let mut row = self.next();
         for i in 0..count {
-            row = row.child(kind, claims)?;
+            row = row.child(parent, place, claims)?;
         }
         Ok(row)
     }
 
     // A count and its lists. The loop of `list` with another step: a closure for the step would be no shorter.
-    fn lists(self, kind: Kind, claims: &mut [Times; NODES]) -> Result<Self, Refusal>
-        ensures { FieldTested (lists (kind_number kind)) self.entry claims.old result claims.new }
+    fn lists(self, parent: Kind, place: u32, claims: &mut [Times; NODES]) -> Result<Self, Refusal>
+        requires { place < 8 }
+        ensures { FieldTested (lists (admitted (kind_number parent) place)) self.entry claims.old result claims.new }
     {
         let count = self.word()?;
         let mut row = self.next();
         for i in 0..count {
-            row = row.list(kind, claims)?;
+            row = row.list(parent, place, claims)?;
         }
         Ok(row)
     }
 
-    // The case number of an enum, and the child.
-    fn cases(self, kinds: &[Option<Kind>], claims: &mut [Times; NODES]) -> Result<Self, Refusal>
-        ensures { FieldTested (cases (case_kinds kinds.now)) self.entry claims.old result claims.new }
+    // The case number of an enum of `count` cases, and the child, which the case `bare` has not.
+    fn cases(
+        self,
+        parent: Kind,
+        count: u32,
+        bare: Option<u32>,
+        claims: &mut [Times; NODES],
+    ) -> Result<Self, Refusal>
+        requires { Wraps (kind_number parent) count bare }
+        ensures { FieldTested (cases (places_of (kind_number parent))) self.entry claims.old result claims.new }
     {
-        let case = self.number(kinds.len())?;
-        match kinds[case as usize] {
-            Some(kind) => self.next().child(kind, claims),
-            None => Ok(self.next()),
+        let case = self.number(count as usize)?;
+        if bare == Some(case) {
+            return Ok(self.next());
         }
+        self.next().child(parent, case, claims)
     }
 
     // The fields that the kind says.
@@ -246,41 +213,29 @@ impl Row<'_> {
         use Kind::*;
 
         match kind {
-            Module => self.list(Decl, claims),
-            Decl => self.cases(DECL, claims),
             TypeDecl | IdentTerm | AmbientTypeExpr | MorTypeExpr | AmbientPredExpr => self.name(),
-            PredDecl | CtorDecl => self.name()?.child(ArgDeclList, claims),
-            FuncDecl => self
-                .name()?
-                .child(ArgDeclList, claims)?
-                .child(TypeExpr, claims),
-            ConstDecl => self.name()?.child(TypeExpr, claims),
-            RuleDecl => self.opt_name()?.list(Stmt, claims),
-            EnumDecl => self.name()?.list(CtorDecl, claims),
-            ModelDecl => self.name()?.list(Decl, claims),
-            ArgDecl => self.opt_name()?.child(TypeExpr, claims),
-            ArgDeclList => self.list(ArgDecl, claims),
-            Term => self.cases(TERM, claims),
-            AppTerm => self.child(AppHead, claims)?.child(TermList, claims),
-            AppHead => self.cases(APP_HEAD, claims),
-            AppHeadMember => self.child(Term, claims)?.list(IdentTerm, claims),
-            TermMember => self.child(Term, claims)?.child(IdentTerm, claims),
-            DomTerm | CodTerm | IdTerm | DefinedIfAtom => self.child(Term, claims),
-            CompTerm | EqualAtom => self.child(Term, claims)?.child(Term, claims),
-            TermList => self.list(Term, claims),
-            TypeExpr => self.cases(TYPE_EXPR, claims),
-            PredExpr => self.cases(PRED_EXPR, claims),
-            IfAtom => self.cases(IF_ATOM, claims),
-            ThenAtom => self.cases(THEN_ATOM, claims),
-            PredAtom => self.child(PredExpr, claims)?.child(TermList, claims),
-            VarIfAtom => self.child(Term, claims)?.child(TypeExpr, claims),
-            DefinedThenAtom => self.opt_child(Term, claims)?.child(Term, claims),
-            MatchCase => self.child(Term, claims)?.list(Stmt, claims),
-            Stmt => self.cases(STMT, claims),
-            IfStmt => self.child(IfAtom, claims),
-            ThenStmt => self.child(ThenAtom, claims),
-            BranchStmt => self.lists(Stmt, claims),
-            MatchStmt => self.child(Term, claims)?.list(MatchCase, claims),
+            PredDecl | ConstDecl | CtorDecl => self.name()?.child(kind, 0, claims),
+            FuncDecl => self.name()?.child(kind, 0, claims)?.child(kind, 1, claims),
+            EnumDecl | ModelDecl => self.name()?.list(kind, 0, claims),
+            RuleDecl => self.opt_name()?.list(kind, 0, claims),
+            ArgDecl => self.opt_name()?.child(kind, 0, claims),
+            Module | ArgDeclList | TermList => self.list(kind, 0, claims),
+            Decl => self.cases(kind, 7, None, claims),
+            Term => self.cases(kind, 8, Some(WILDCARD), claims),
+            AppHead | TypeExpr | ThenAtom => self.cases(kind, 3, None, claims),
+            PredExpr => self.cases(kind, 2, None, claims),
+            IfAtom | Stmt => self.cases(kind, 4, None, claims),
+            DomTerm | CodTerm | IdTerm | DefinedIfAtom | IfStmt | ThenStmt => {
+                self.child(kind, 0, claims)
+            }
+            AppTerm | TermMember | CompTerm | EqualAtom | PredAtom | VarIfAtom => {
+                self.child(kind, 0, claims)?.child(kind, 1, claims)
+            }
+            DefinedThenAtom => self.opt_child(kind, 0, claims)?.child(kind, 1, claims),
+            AppHeadMember | MatchCase | MatchStmt => {
+                self.child(kind, 0, claims)?.list(kind, 1, claims)
+            }
+            BranchStmt => self.lists(kind, 0, claims),
         }
     }
 }
@@ -292,7 +247,7 @@ fn check_node(
     end: u32,
     claims: &mut [Times; NODES],
 ) -> Result<u32, Refusal>
-    requires { node.0 < image.now.sizes.nodes × (end ≤ 8192) × (end ≡ TestsSpec.end_before image.now.image.now node.0) }
+    requires { node.0 < image.now.sizes.nodes × KnownBelow image.now.image.now node.0 × (end ≤ 8192) × (end ≡ TestsSpec.end_before image.now.image.now node.0) }
     ensures { NodeTested image.now.image.now node.0 (counts claims.old) (counts claims.new) result }
 {
     let Ok(kind) = Kind::try_from(image.kind_at(node)) else {
@@ -304,9 +259,9 @@ fn check_node(
     let row = Row {
         image: &*image,
         node,
-        place: end + 2,
+        at: end + 2,
     };
-    Ok(row.fields(kind, claims)?.place)
+    Ok(row.fields(kind, claims)?.at)
 }
 
 // Refusals 6 to 9. Gives the end of the last row.

@@ -18,17 +18,17 @@ returns-then-start_at-end c =
     let o = c.args.image.now.within.head.operands_are in
     let t = c.start_at.ensures in
     elim c.then-start_at-end.branch [
-      | then-start_at-end-via-then-start_at-end w ↦ node-start _ _ (omega arith) (λ q. w.if-start_at-end.true (t ∙ q ∙ sym c.requires.2))
+      | then-start_at-end-via-then-start_at-end w ↦ node-start _ _ (omega arith) (λ q. w.if-start_at-end.true (t ∙ q ∙ sym c.requires.3))
       | then-start_at-end-via-else-start_at-end+then-image-end w ↦
           let i = w.if-start_at-end.false in
           let l = w.if-image-end.true in
-          node-out _ _ (omega arith) (sym t ∙ i ∙ c.requires.2) (omega arith)
+          node-out _ _ (omega arith) (sym t ∙ i ∙ c.requires.3) (omega arith)
     ]
 
 pub returns-in_err-fields : goal.returns-in_err-fields
 unfolding fields_at
-returns-in_err-fields c = let k = kind-low c.in-Ok.kind in let e = c.in-Ok.ensures in let s = c.kind_at.ensures in let o = c.args.image.now.within.head.operands_are in handed _ _ _ c.from_residual.ensures.1 (node-bad _ _ (omega arith) (sym c.start_at.ensures ∙ c.if-start_at-end.false ∙ c.requires.2) (let t = c.start_at.ensures in let i = c.if-start_at-end.false in omega arith) _ (rw (sym c.if-start_at-end.false ∙ c.start_at.ensures, c.in-Ok.ensures ∙ c.kind_at.ensures) at c.in_err-fields.ensures))
+returns-in_err-fields c = let k = kind-low c.in-Ok.kind in let e = c.in-Ok.ensures in let s = c.kind_at.ensures in let o = c.args.image.now.within.head.operands_are in handed _ _ _ c.from_residual.ensures.1 (node-bad _ _ (omega arith) (sym c.start_at.ensures ∙ c.if-start_at-end.false ∙ c.requires.3) (let t = c.start_at.ensures in let i = c.if-start_at-end.false in omega arith) _ (rw (sym c.if-start_at-end.false ∙ c.start_at.ensures, c.in-Ok.ensures ∙ c.kind_at.ensures) at c.in_err-fields.ensures))
 
 pub returns : goal.returns
 unfolding fields_at
-returns c = let k = kind-low c.in-Ok.kind in let e = c.in-Ok.ensures in let s = c.kind_at.ensures in let o = c.args.image.now.within.head.operands_are in node_in _ _ (omega arith) (sym c.start_at.ensures ∙ c.if-start_at-end.false ∙ c.requires.2) (let t = c.start_at.ensures in let i = c.if-start_at-end.false in omega arith) c.in_ok-fields.field-0 (rw (sym c.if-start_at-end.false ∙ c.start_at.ensures, c.in-Ok.ensures ∙ c.kind_at.ensures) at c.in_ok-fields.ensures)
+returns c = let k = kind-low c.in-Ok.kind in let e = c.in-Ok.ensures in let s = c.kind_at.ensures in let o = c.args.image.now.within.head.operands_are in node_in _ _ (omega arith) (sym c.start_at.ensures ∙ c.if-start_at-end.false ∙ c.requires.3) (let t = c.start_at.ensures in let i = c.if-start_at-end.false in omega arith) c.in_ok-fields.field-0 (rw (sym c.if-start_at-end.false ∙ c.start_at.ensures, c.in-Ok.ensures ∙ c.kind_at.ensures) at c.in_ok-fields.ensures)

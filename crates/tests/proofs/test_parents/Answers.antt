@@ -7,7 +7,7 @@ use Rattle.ast.specs.Times.{times_number}
 use Rattle.ast.specs.declared.times.Times.TheVariants as times
 use Rattle.tests.proofs.Fields.{is-once, not_once}
 use Rattle.ast.specs.Image as images
-use Rattle.ast.proofs.Runs.{seen-begin, seen_next, seen_first, seen_end, once, not-once}
+use Rattle.ast.proofs.Runs.{seen_next, seen_first, seen_end, once, not-once}
 use Rattle.tests.proofs.Whole.{parents-are}
 use Rattle.tests.proofs.test_parents.Goals as goal
 use Rattle.tests.proofs.test_parents.Goals.{then-ne, else-ne}
