@@ -107,13 +107,13 @@ impl SizedImage<'_> {
         )
     }
 
-    pub fn op_at(&self, place: u32) -> u32
+    pub fn op_at(&self, place: usize) -> u32
         requires { place < self.now.sizes.operands }
         ensures { result ≡ ImageSpec.op_at self.now.image.now place }
     {
         word_in(
             self.image,
-            16 + 8 * self.sizes.nodes as usize + 4 * place as usize,
+            16 + 8 * self.sizes.nodes as usize + 4 * place,
         )
     }
 

@@ -2,7 +2,7 @@
 use mathlib.Core.Path.{◌≡◌, refl, sym, ap, ◌∙◌}
 use mathlib.Core.Bool.{true, false}
 use mathlib.Core.Logic.{◌⊎◌, inl, inr}
-use mathlib.Core.List.{List}
+use mathlib.Core.List.{List, [], ◌∷◌}
 use Prim.Native.Nat.{ℕ, zero, suc, ◌+◌, ◌-◌, ◌*◌, ◌<◌, ◌≤◌}
 use native.Mathlib.Omega.{arith}
 use native.Mathlib.Numerals.{add-one}
@@ -11,27 +11,56 @@ use native.Mathlib.Decide.{dec_lt}
 use lib.ListN.{length}
 use borrow.Author.Tests.{lt-ltb, le-ltb, le-leb, lt-leb, eq-eqb, ne_eqb}
 use Rattle.ast.specs.Image.{nodes, kind_at, start_at, op_at, field, operands, names, bytes, last}
-use Rattle.ast.specs.Rows.{numbers, kids, kids_to, fields_at, row_end}
+use Rattle.ast.specs.Kinds.{Field, name, opt_name, child, opt_child, list, lists, cases, kind_of}
+use Rattle.ast.specs.Rows.{numbers, kids, kids_to, fields_at, row_end, after}
 use Rattle.ast.specs.Promises.{Head, Within, claim_all}
-use Rattle.ast.specs.Tests.{◌▸◌, need, run, in_row, test_fields, times, first, is_var, test_var, test_sizes, test_node, test_parents, test_tree, end_before}
+use Rattle.ast.specs.Tests.{◌▸◌, need, run, in_row, child_word, test_field, test_fields, times, first, is_var, test_var, test_sizes, test_node, test_parents, test_tree, end_before}
 use Rattle.ast.proofs.Accepted.{both, needed, skip, stop, stop-at, sizes-ok}
 use Rattle.error.specs.declared.Refusal.{Refusal}
 use Rattle.error.specs.declared.Refusal.TheVariants as refusal
 use Rattle.tests.specs.Rows.{FieldsStep}
 use Rattle.tests.specs.Steps.{Answered, Ended, KnownBelow, NodeTested, NodesTested}
 use Rattle.tests.specs.declared.Row.{Row}
-use Rattle.tests.proofs.Steps.{passes, refuses, skips, stops}
+use Rattle.tests.proofs.Steps.{passes, refuses, skips, stops, retests}
 use Rattle.error.proofs.Refused.{refusal-some}
 use Rattle.tests.proofs.Fields.{in-row, out-row}
 use Rattle.std.specs.Prelude.{Result, Ok, Err}
 use Rattle.ast.proofs.Runs.{RunLeft, run-begin, run-next, run-stop, run_end}
-use Rattle.ast.proofs.Scans.{need-in, need-out, claim-append}
+use Rattle.ast.proofs.Scans.{need-in, need-out, claim-append, ▸-assoc}
+use Rattle.tests.proofs.Entries.{some-field}
 use Rattle.ast.specs.declared.Sizes.{Sizes}
 use Rattle.ast.specs.declared.NodeId.{NodeId}
 use Rattle.typed.specs.Nodes.{term_of, term_at}
 use Rattle.typed.specs.declared.nodes.IdentTermId.{IdentTermId}
 use Rattle.typed.specs.declared.nodes.Term.{Term}
 use Rattle.typed.specs.declared.nodes.Term.TheVariants as term
+
+-- the first word of a node's first field is tested first, and where it lies in the rows, so do the words before it
+module _ (img : List ℕ) (n : ℕ) where
+  first-field : (g : Field) (p : ℕ) → (rest : ℕ) × (test_field img n g p ≡ in_row img p ▸ rest)
+  unfolding test_field child_word
+  first-field name p = (_, refl)
+  first-field opt_name p = (_, refl)
+  first-field (child k) p = (_, refl)
+  first-field (opt_child k) p = (_, refl)
+  first-field (list k) p = (_, refl)
+  first-field (lists k) p = (_, refl)
+  first-field (cases ks) p = (_, refl)
+
+  first-word : (gs : List Field) (p : ℕ) → (length gs ≡ 0 → ⊥) → (rest : ℕ) × (test_fields img n gs p ≡ in_row img p ▸ rest)
+  unfolding test_fields
+  first-word [] p some = absurd (some refl)
+  first-word (g ∷ gs) p some = let f = first-field g p in (_, ap (λ x. x ▸ test_fields img n gs (after img g p)) f.1 ∙ ▸-assoc (in_row img p) f.0 _)
+
+  located : kind_at img n ≤ 40 → (p : ℕ) → in_row img p ▸ in_row img (p + 1) ▸ test_fields img n (fields_at img n) (p + 2) ≡ test_fields img n (fields_at img n) (p + 2)
+  unfolding fields_at
+  located h p = go (first-word (kind_of (kind_at img n)).fields (p + 2) (some-field (kind_at img n) h)) (dec_lt p (operands img)) (dec_lt (p + 1) (operands img))
+    where
+      go : (rest : ℕ) × (test_fields img n (kind_of (kind_at img n)).fields (p + 2) ≡ in_row img (p + 2) ▸ rest) → Dec (p < operands img) → Dec (p + 1 < operands img)
+          → in_row img p ▸ in_row img (p + 1) ▸ test_fields img n (kind_of (kind_at img n)).fields (p + 2) ≡ test_fields img n (kind_of (kind_at img n)).fields (p + 2)
+      go w (yes l) (yes m) = skip _ _ (in-row img _ l) ∙ skip _ _ (in-row img _ m)
+      go w (yes l) (no m) = skip _ _ (in-row img _ l) ∙ stop _ _ 6 (out-row img _ (omega arith)) ∙ sym (w.1 ∙ stop _ _ 6 (out-row img _ (omega arith)))
+      go w (no l) m = stop _ _ 6 (out-row img _ (omega arith)) ∙ sym (w.1 ∙ stop _ _ 6 (out-row img _ (omega arith)))
 
 module _ (img : List ℕ) where
   module _ (n : ℕ) {us vs : List ℕ} where
@@ -50,23 +79,15 @@ module _ (img : List ℕ) where
       node-start q = kinded (stops _ _ _ (need-out 7 _ (ne_eqb _ _ q)))
 
       module _ (q : start_at img n ≡ end_before img n) where
-        pub node-out : operands img ≤ start_at img n + 1 → NodeTested img n us vs (Err refusal.RowOutside)
-        node-out l = kinded (skips _ _ (need-in 7 _ (eq-eqb _ _ q)) (go (dec_lt (start_at img n) (operands img))))
-          where
-            go : Dec (start_at img n < operands img) → Answered (in_row img (start_at img n) ▸ in_row img (start_at img n + 1) ▸ test_fields img n (fields_at img n) (start_at img n + 2)) (Ended (row_end img n) (numbers (kids img n)) us vs) (Err refusal.RowOutside)
-            go (yes j) = skips _ _ (in-row img _ j) (stops _ _ _ (out-row img _ l))
-            go (no j) = stops _ _ _ (out-row img _ (omega arith))
+        placed : {r : Result ℕ Refusal} → Answered (test_fields img n (fields_at img n) (start_at img n + 2)) (Ended (row_end img n) (numbers (kids img n)) us vs) r → NodeTested img n us vs r
+        placed t = kinded (skips _ _ (need-in 7 _ (eq-eqb _ _ q)) (retests _ _ (sym (located img n h (start_at img n))) t))
 
-        module _ (l : start_at img n + 1 < operands img) where
-          placed : {r : Result ℕ Refusal} → Answered (test_fields img n (fields_at img n) (start_at img n + 2)) (Ended (row_end img n) (numbers (kids img n)) us vs) r → NodeTested img n us vs r
-          placed t = kinded (skips _ _ (need-in 7 _ (eq-eqb _ _ q)) (skips _ _ (in-row img _ (omega arith)) (skips _ _ (in-row img _ l) t)))
+        pub node-bad : (e : Refusal) → FieldsStep img n (fields_at img n) (start_at img n + 2) us vs (Err e) → NodeTested img n us vs (Err e)
+        node-bad e t = placed (refuses e _ (sym t.refusal))
 
-          pub node-bad : (e : Refusal) → FieldsStep img n (fields_at img n) (start_at img n + 2) us vs (Err e) → NodeTested img n us vs (Err e)
-          node-bad e t = placed (refuses e _ (sym t.refusal))
-
-          pub node_in : (row : Row) → FieldsStep img n (fields_at img n) (start_at img n + 2) us vs (Ok row) → NodeTested img n us vs (Ok row.at)
-          unfolding row_end kids
-          node_in row t = let low = row.low in placed (passes _ _ (sym t.refusal) (record { place = t.went.place; claimed = t.went.claimed; low = low }))
+        pub node_in : (row : Row) → FieldsStep img n (fields_at img n) (start_at img n + 2) us vs (Ok row) → NodeTested img n us vs (Ok row.at)
+        unfolding row_end kids
+        node_in row t = placed (passes _ _ (sym t.refusal) (record { place = t.went.place; claimed = t.went.claimed }))
 
   -- a node that passes has a kind that there is
   kind-known : (n : ℕ) → test_node img n ≡ 0 → kind_at img n ≤ 40
@@ -86,11 +107,10 @@ module _ (img : List ℕ) where
     pub known : KnownBelow img n
     pub ended : end ≡ end_before img n
     pub claimed : vs ≡ claim_all (kids_to img n) us
-    pub low : end ≤ 8192
 
   pub nodes-begin : (us : List ℕ) → NodesLeft us 0 0 us
   unfolding end_before kids_to claim_all
-  nodes-begin us = record { left = run-begin _ _; known = λ i h. absurd (omega arith); ended = refl; claimed = refl; low = omega arith }
+  nodes-begin us = record { left = run-begin _ _; known = λ i h. absurd (omega arith); ended = refl; claimed = refl }
 
   module _ (us : List ℕ) (n end : ℕ) {vs ws : List ℕ} (i : NodesLeft us n end vs) (h : n < nodes img) where
     pub nodes-next : (after : ℕ) → NodeTested img n vs ws (Ok after) → NodesLeft us (n + 1) after ws
@@ -102,14 +122,13 @@ module _ (img : List ℕ) where
           known = known-next n i.known (kind-known n (sym t.refusal));
           ended = rw add-one g.place;
           claimed = rw add-one (g.claimed ∙ ap (claim_all (numbers (kids img n))) i.claimed ∙ sym (claim-append (kids_to img n) _ us));
-          low = g.low;
         }
 
     pub nodes-stop : (e : Refusal) → NodeTested img n vs ws (Err e) → NodesTested img us ws (Err e)
     nodes-stop e t = refuses e _ (run-stop _ _ n _ i.left h (sym t.refusal) (refusal-some e))
 
   pub nodes-end : (us : List ℕ) (end : ℕ) {vs : List ℕ} → NodesLeft us (nodes img) end vs → NodesTested img us vs (Ok end)
-  nodes-end us end i = passes end _ (run_end _ _ _ i.left (omega arith)) (record { place = i.ended; claimed = i.claimed; low = i.low })
+  nodes-end us end i = passes end _ (run_end _ _ _ i.left (omega arith)) (record { place = i.ended; claimed = i.claimed })
 
   -- 11
   abbrev pub parent : ℕ → ℕ

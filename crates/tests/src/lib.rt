@@ -56,9 +56,8 @@ const WILDCARD: u32 = 1;
 struct Row<'a> {
     image: &'a SizedImage<'a>,
     node: NodeId,
-    at: u32,
+    at: usize,
     ghost there: { node.0 < image.now.sizes.nodes },
-    ghost low: { at ≤ 8192 },
     ghost known: { KnownBelow image.now.image.now node.0 },
 }
 
@@ -72,7 +71,7 @@ impl Row<'_> {
     fn word(self) -> Result<u32, Refusal>
         ensures { WordRead self.entry result }
     {
-        if self.image.sizes.operands <= self.at {
+        if self.image.sizes.operands as usize <= self.at {
             return Err(Refusal::RowOutside);
         }
         Ok(self.image.op_at(self.at))
@@ -240,20 +239,21 @@ impl Row<'_> {
     }
 }
 
-// Refusals 6 to 9 of a node; `end` is where the row before ends. Gives the end of its row.
+// Refusals 6 to 9 of a node; `end` is where the row before ends. Gives the end of its row. That the two words of the location lie in
+// the rows shows at the next word, which each kind has.
 fn check_node(
     image: &SizedImage,
     node: NodeId,
-    end: u32,
+    end: usize,
     claims: &mut [Times; NODES],
-) -> Result<u32, Refusal>
-    requires { node.0 < image.now.sizes.nodes × KnownBelow image.now.image.now node.0 × (end ≤ 8192) × (end ≡ TestsSpec.end_before image.now.image.now node.0) }
+) -> Result<usize, Refusal>
+    requires { node.0 < image.now.sizes.nodes × KnownBelow image.now.image.now node.0 × (end ≡ TestsSpec.end_before image.now.image.now node.0) }
     ensures { NodeTested image.now.image.now node.0 (counts claims.old) (counts claims.new) result }
 {
     let Ok(kind) = Kind::try_from(image.kind_at(node)) else {
         return Err(Refusal::UnknownKind);
     };
-    if image.start_at(node) != end || image.sizes.operands <= end + 1 {
+    if image.start_at(node) as usize != end {
         return Err(Refusal::RowOutside);
     }
     let row = Row {
@@ -265,10 +265,10 @@ fn check_node(
 }
 
 // Refusals 6 to 9. Gives the end of the last row.
-fn check_nodes(image: &SizedImage, claims: &mut [Times; NODES]) -> Result<u32, Refusal>
+fn check_nodes(image: &SizedImage, claims: &mut [Times; NODES]) -> Result<usize, Refusal>
     ensures { NodesTested image.now.image.now (counts claims.old) (counts claims.new) result }
 {
-    let mut end = 0u32;
+    let mut end = 0;
     for n in 0..image.sizes.nodes {
         end = check_node(image, NodeId(n), end, claims)?;
     }
@@ -330,13 +330,13 @@ fn test_vars(image: &SizedImage) -> Result<(), Refusal>
 }
 
 // Refusals 10, 11 and 12; `end` is where the last row ends.
-fn test_tree(image: &SizedImage, end: u32, claims: &[Times; NODES]) -> Result<(), Refusal>
+fn test_tree(image: &SizedImage, end: usize, claims: &[Times; NODES]) -> Result<(), Refusal>
     requires end { end ≡ TestsSpec.end_before image.now.image.now (ImageSpec.nodes image.now.image.now) }
     requires claims { counts claims.now ≡ claim_all (kids_to image.now.image.now (ImageSpec.nodes image.now.image.now)) (replicate 2048 0) }
     ensures { refusal_of result ≡ TestsSpec.test_tree image.now.image.now }
 {
     let last = NodeId(image.sizes.nodes - 1);
-    if end != image.sizes.operands || !image.is_kind(last, Kind::Module) {
+    if end != image.sizes.operands as usize || !image.is_kind(last, Kind::Module) {
         return Err(Refusal::LastRow);
     }
     test_parents(image, claims)?;

@@ -3,9 +3,8 @@ use native.Mathlib.Omega.{arith}
 use Rattle.ast.specs.Rows.{fields_at}
 use Rattle.tests.proofs.Steps.{handed}
 use Rattle.tests.proofs.Fields.{kind-low}
-use Rattle.tests.proofs.Whole.{node-kind, node-start, node-out, node-bad, node_in}
+use Rattle.tests.proofs.Whole.{node-kind, node-start, node-bad, node_in}
 use Rattle.tests.proofs.check_node.Goals as goal
-use Rattle.tests.proofs.check_node.Goals.{then-start_at-end-via-then-start_at-end, then-start_at-end-via-else-start_at-end+then-image-end}
 
 pub returns-in_default : goal.returns-in_default
 returns-in_default c = let e = c.in_default.ensures in node-kind _ _ (omega arith)
@@ -15,20 +14,21 @@ returns-then-start_at-end c =
     let k = kind-low c.in-Ok.kind in
     let e = c.in-Ok.ensures in
     let s = c.kind_at.ensures in
-    let o = c.args.image.now.within.head.operands_are in
-    let t = c.start_at.ensures in
-    elim c.then-start_at-end.branch [
-      | then-start_at-end-via-then-start_at-end w ↦ node-start _ _ (omega arith) (λ q. w.if-start_at-end.true (t ∙ q ∙ sym c.requires.3))
-      | then-start_at-end-via-else-start_at-end+then-image-end w ↦
-          let i = w.if-start_at-end.false in
-          let l = w.if-image-end.true in
-          node-out _ _ (omega arith) (sym t ∙ i ∙ c.requires.3) (omega arith)
-    ]
+    node-start _ _ (omega arith) (λ q. c.if-start_at-end.true (c.start_at.ensures ∙ q ∙ sym c.requires.2))
 
 pub returns-in_err-fields : goal.returns-in_err-fields
 unfolding fields_at
-returns-in_err-fields c = let k = kind-low c.in-Ok.kind in let e = c.in-Ok.ensures in let s = c.kind_at.ensures in let o = c.args.image.now.within.head.operands_are in handed _ _ _ c.from_residual.ensures.1 (node-bad _ _ (omega arith) (sym c.start_at.ensures ∙ c.if-start_at-end.false ∙ c.requires.3) (let t = c.start_at.ensures in let i = c.if-start_at-end.false in omega arith) _ (rw (sym c.if-start_at-end.false ∙ c.start_at.ensures, c.in-Ok.ensures ∙ c.kind_at.ensures) at c.in_err-fields.ensures))
+returns-in_err-fields c =
+    let k = kind-low c.in-Ok.kind in
+    let e = c.in-Ok.ensures in
+    let s = c.kind_at.ensures in
+    handed _ _ _ c.from_residual.ensures.1
+    (node-bad _ _ (omega arith) (sym c.start_at.ensures ∙ c.if-start_at-end.false ∙ c.requires.2) _ (rw (sym c.if-start_at-end.false ∙ c.start_at.ensures, c.in-Ok.ensures ∙ c.kind_at.ensures) at c.in_err-fields.ensures))
 
 pub returns : goal.returns
 unfolding fields_at
-returns c = let k = kind-low c.in-Ok.kind in let e = c.in-Ok.ensures in let s = c.kind_at.ensures in let o = c.args.image.now.within.head.operands_are in node_in _ _ (omega arith) (sym c.start_at.ensures ∙ c.if-start_at-end.false ∙ c.requires.3) (let t = c.start_at.ensures in let i = c.if-start_at-end.false in omega arith) c.in_ok-fields.field-0 (rw (sym c.if-start_at-end.false ∙ c.start_at.ensures, c.in-Ok.ensures ∙ c.kind_at.ensures) at c.in_ok-fields.ensures)
+returns c =
+    let k = kind-low c.in-Ok.kind in
+    let e = c.in-Ok.ensures in
+    let s = c.kind_at.ensures in
+    node_in _ _ (omega arith) (sym c.start_at.ensures ∙ c.if-start_at-end.false ∙ c.requires.2) c.in_ok-fields.field-0 (rw (sym c.if-start_at-end.false ∙ c.start_at.ensures, c.in-Ok.ensures ∙ c.kind_at.ensures) at c.in_ok-fields.ensures)
