@@ -7,7 +7,7 @@ ghost use Rattle.tests.specs.Grid.{admitted};
 use ast::kind::Kind;
 
 // The kinds of node: a row of the grid for each as a parent, and a column for each as a child.
-pub const KINDS: u32 = 41;
+pub const KINDS: usize = 41;
 
 // Bit p of an entry is set exactly where the row's kind admits a child of the column's kind at place p: its case number in a kind that
 // wraps an enum, else its position among the fields that hold children. A reference, since an array would be made anew at each use.
@@ -61,6 +61,6 @@ pub fn admits(parent: Kind, place: u32, child: u32) -> bool
     requires { place < 8 × (child ≤ 40) }
     ensures { result ≡ eqb child (admitted (kind_number parent) place) }
 {
-    let entry = GRID[(KINDS * u32::from(parent) + child) as usize];
+    let entry = GRID[KINDS * u32::from(parent) as usize + child as usize];
     entry >> place & 1 == 1
 }
