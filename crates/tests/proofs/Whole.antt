@@ -1,6 +1,6 @@
 -- The tests of a node, of the nodes, and of the whole tree, as the code goes through them.
 use mathlib.Core.Path.{◌≡◌, refl, sym, ap, ◌∙◌}
-use mathlib.Core.Bool.{true, false}
+use mathlib.Core.Bool.{Bool, true, false, not, ◌||◌, true≢false}
 use mathlib.Core.Logic.{◌⊎◌, inl, inr}
 use mathlib.Core.List.{List, [], ◌∷◌}
 use Prim.Native.Nat.{ℕ, zero, suc, ◌+◌, ◌-◌, ◌*◌, ◌<◌, ◌≤◌}
@@ -9,7 +9,7 @@ use native.Mathlib.Numerals.{add-one}
 use lib.Dec.{eqb, leb, ltb, leb→le}
 use native.Mathlib.Decide.{dec_lt}
 use lib.ListN.{length}
-use borrow.Author.Tests.{lt-ltb, le-ltb, le-leb, lt-leb, eq-eqb, ne_eqb}
+use borrow.Author.Tests.{lt-ltb, le-ltb, le-leb, lt-leb, eq-eqb, ne_eqb, eqb-true, eqb-false, leb-true, leb-false}
 use Rattle.ast.specs.Image.{nodes, kind_at, start_at, op_at, field, operands, names, bytes, last}
 use Rattle.ast.specs.Kinds.{Field, name, opt_name, child, opt_child, list, lists, cases, kind_of}
 use Rattle.ast.specs.Rows.{numbers, kids, kids_to, fields_at, row_end, after}
@@ -62,6 +62,14 @@ module _ (img : List ℕ) (n : ℕ) where
       go w (yes l) (no m) = skip _ _ (in-row img _ l) ∙ stop _ _ 6 (out-row img _ (omega arith)) ∙ sym (w.1 ∙ stop _ _ 6 (out-row img _ (omega arith)))
       go w (no l) m = stop _ _ 6 (out-row img _ (omega arith)) ∙ sym (w.1 ∙ stop _ _ 6 (out-row img _ (omega arith)))
 
+-- the two tests at once, where they pass
+pub both-pass : (start end bound : ℕ) → (not (eqb start end) || leb bound (end + 2)) ≡ false → (start ≡ end) × (end + 2 < bound)
+both-pass start end bound t = go (eqb start end) refl t
+  where
+    go : (b : Bool) → eqb start end ≡ b → (not b || leb bound (end + 2)) ≡ false → (start ≡ end) × (end + 2 < bound)
+    go true f u = (eqb-true _ _ f, leb-false _ _ u)
+    go false f u = absurd (true≢false u)
+
 module _ (img : List ℕ) where
   module _ (n : ℕ) {us vs : List ℕ} where
     -- the answer to the tests of a node, from those of its row
@@ -82,12 +90,27 @@ module _ (img : List ℕ) where
         placed : {r : Result ℕ Refusal} → Answered (test_fields img n (fields_at img n) (start_at img n + 2)) (Ended (row_end img n) (numbers (kids img n)) us vs) r → NodeTested img n us vs r
         placed t = kinded (skips _ _ (need-in 7 _ (eq-eqb _ _ q)) (retests _ _ (sym (located img n h (start_at img n))) t))
 
+        pub node-out : operands img ≤ start_at img n + 2 → NodeTested img n us vs (Err refusal.RowOutside)
+        unfolding fields_at
+        node-out l = let w = first-word img n (kind_of (kind_at img n)).fields (start_at img n + 2) (some-field _ h) in placed (refuses _ _ (w.1 ∙ stop _ _ 6 (out-row img _ l)))
+
         pub node-bad : (e : Refusal) → FieldsStep img n (fields_at img n) (start_at img n + 2) us vs (Err e) → NodeTested img n us vs (Err e)
         node-bad e t = placed (refuses e _ (sym t.refusal))
 
         pub node_in : (row : Row) → FieldsStep img n (fields_at img n) (start_at img n + 2) us vs (Ok row) → NodeTested img n us vs (Ok row.at)
         unfolding row_end kids
-        node_in row t = placed (passes _ _ (sym t.refusal) (record { place = t.went.place; claimed = t.went.claimed }))
+        node_in row t =
+            let l = row.low in
+            let o = row.image.now.within.short in
+            placed (passes _ _ (sym t.refusal) (record { place = t.went.place; claimed = t.went.claimed; low = omega arith }))
+
+      -- as the code tests the two at once
+      pub node-outside : (end bound : ℕ) → end ≡ end_before img n → bound ≡ operands img → (not (eqb (start_at img n) end) || leb bound (end + 2)) ≡ true → NodeTested img n us vs (Err refusal.RowOutside)
+      node-outside end bound e o t = go (eqb (start_at img n) end) refl t
+        where
+          go : (b : Bool) → eqb (start_at img n) end ≡ b → (not b || leb bound (end + 2)) ≡ true → NodeTested img n us vs (Err refusal.RowOutside)
+          go true f u = let s = eqb-true _ _ f in let l = leb-true _ _ u in node-out (s ∙ e) (omega arith)
+          go false f u = node-start (λ s. eqb-false _ _ f (s ∙ sym e))
 
   -- a node that passes has a kind that there is
   kind-known : (n : ℕ) → test_node img n ≡ 0 → kind_at img n ≤ 40
@@ -107,10 +130,11 @@ module _ (img : List ℕ) where
     pub known : KnownBelow img n
     pub ended : end ≡ end_before img n
     pub claimed : vs ≡ claim_all (kids_to img n) us
+    pub low : end ≤ 8192
 
   pub nodes-begin : (us : List ℕ) → NodesLeft us 0 0 us
   unfolding end_before kids_to claim_all
-  nodes-begin us = record { left = run-begin _ _; known = λ i h. absurd (omega arith); ended = refl; claimed = refl }
+  nodes-begin us = record { left = run-begin _ _; known = λ i h. absurd (omega arith); ended = refl; claimed = refl; low = omega arith }
 
   module _ (us : List ℕ) (n end : ℕ) {vs ws : List ℕ} (i : NodesLeft us n end vs) (h : n < nodes img) where
     pub nodes-next : (after : ℕ) → NodeTested img n vs ws (Ok after) → NodesLeft us (n + 1) after ws
@@ -121,6 +145,7 @@ module _ (img : List ℕ) where
           left = run-next _ _ n i.left h (sym t.refusal);
           known = known-next n i.known (kind-known n (sym t.refusal));
           ended = rw add-one g.place;
+          low = g.low;
           claimed = rw add-one (g.claimed ∙ ap (claim_all (numbers (kids img n))) i.claimed ∙ sym (claim-append (kids_to img n) _ us));
         }
 
@@ -128,7 +153,7 @@ module _ (img : List ℕ) where
     nodes-stop e t = refuses e _ (run-stop _ _ n _ i.left h (sym t.refusal) (refusal-some e))
 
   pub nodes-end : (us : List ℕ) (end : ℕ) {vs : List ℕ} → NodesLeft us (nodes img) end vs → NodesTested img us vs (Ok end)
-  nodes-end us end i = passes end _ (run_end _ _ _ i.left (omega arith)) (record { place = i.ended; claimed = i.claimed })
+  nodes-end us end i = passes end _ (run_end _ _ _ i.left (omega arith)) (record { place = i.ended; claimed = i.claimed; low = i.low })
 
   -- 11
   abbrev pub parent : ℕ → ℕ

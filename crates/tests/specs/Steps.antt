@@ -16,6 +16,7 @@ pub record Answered {A : Type 0} (test : ℕ) (P : A → Type 0) (r : Result A R
 pub record Ended (next : ℕ) (cs us vs : List ℕ) (end : ℕ) : Type 0 where
   pub place : end ≡ next
   pub claimed : vs ≡ claim_all cs us
+  pub low : end ≤ 8192
 
 module _ (img : List ℕ) where
   -- the nodes below n have kinds that there are

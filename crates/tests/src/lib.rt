@@ -58,6 +58,7 @@ struct Row<'a> {
     node: NodeId,
     at: usize,
     ghost there: { node.0 < image.now.sizes.nodes },
+    ghost low: { at ≤ image.now.sizes.operands },
     ghost known: { KnownBelow image.now.image.now node.0 },
 }
 
@@ -239,27 +240,28 @@ impl Row<'_> {
     }
 }
 
-// Refusals 6 to 9 of a node; `end` is where the row before ends. Gives the end of its row. That the two words of the location lie in
-// the rows shows at the next word, which each kind has.
+// Refusals 6 to 9 of a node; `end` is where the row before ends. Gives the end of its row. The words of the location lie in the rows
+// where the word after them does, which each kind has. That is tested together with the start, by an `|`: a branch less for each node.
 fn check_node(
     image: &SizedImage,
     node: NodeId,
     end: usize,
     claims: &mut [Times; NODES],
 ) -> Result<usize, Refusal>
-    requires { node.0 < image.now.sizes.nodes × KnownBelow image.now.image.now node.0 × (end ≡ TestsSpec.end_before image.now.image.now node.0) }
+    requires { node.0 < image.now.sizes.nodes × KnownBelow image.now.image.now node.0 × (end ≤ 8192) × (end ≡ TestsSpec.end_before image.now.image.now node.0) }
     ensures { NodeTested image.now.image.now node.0 (counts claims.old) (counts claims.new) result }
 {
     let Ok(kind) = Kind::try_from(image.kind_at(node)) else {
         return Err(Refusal::UnknownKind);
     };
-    if image.start_at(node) as usize != end {
+    let at = end + 2;
+    if (image.start_at(node) as usize != end) | (image.sizes.operands as usize <= at) {
         return Err(Refusal::RowOutside);
     }
     let row = Row {
         image: &*image,
         node,
-        at: end + 2,
+        at,
     };
     Ok(row.fields(kind, claims)?.at)
 }

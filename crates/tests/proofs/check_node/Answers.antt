@@ -3,7 +3,7 @@ use native.Mathlib.Omega.{arith}
 use Rattle.ast.specs.Rows.{fields_at}
 use Rattle.tests.proofs.Steps.{handed}
 use Rattle.tests.proofs.Fields.{kind-low}
-use Rattle.tests.proofs.Whole.{node-kind, node-start, node-bad, node_in}
+use Rattle.tests.proofs.Whole.{node-kind, node-outside, both-pass, node-bad, node_in}
 use Rattle.tests.proofs.check_node.Goals as goal
 
 pub returns-in_default : goal.returns-in_default
@@ -14,7 +14,7 @@ returns-then-start_at-end c =
     let k = kind-low c.in-Ok.kind in
     let e = c.in-Ok.ensures in
     let s = c.kind_at.ensures in
-    node-start _ _ (omega arith) (λ q. c.if-start_at-end.true (c.start_at.ensures ∙ q ∙ sym c.requires.2))
+    node-outside _ _ (omega arith) _ _ c.requires.3 c.args.image.now.within.head.operands_are (rw c.start_at.ensures at c.if-start_at-end.true)
 
 pub returns-in_err-fields : goal.returns-in_err-fields
 unfolding fields_at
@@ -22,8 +22,9 @@ returns-in_err-fields c =
     let k = kind-low c.in-Ok.kind in
     let e = c.in-Ok.ensures in
     let s = c.kind_at.ensures in
+    let p = both-pass _ _ _ c.if-start_at-end.false in
     handed _ _ _ c.from_residual.ensures.1
-    (node-bad _ _ (omega arith) (sym c.start_at.ensures ∙ c.if-start_at-end.false ∙ c.requires.2) _ (rw (sym c.if-start_at-end.false ∙ c.start_at.ensures, c.in-Ok.ensures ∙ c.kind_at.ensures) at c.in_err-fields.ensures))
+    (node-bad _ _ (omega arith) (sym c.start_at.ensures ∙ p.0 ∙ c.requires.3) _ (rw (sym p.0 ∙ c.start_at.ensures, c.in-Ok.ensures ∙ c.kind_at.ensures) at c.in_err-fields.ensures))
 
 pub returns : goal.returns
 unfolding fields_at
@@ -31,4 +32,5 @@ returns c =
     let k = kind-low c.in-Ok.kind in
     let e = c.in-Ok.ensures in
     let s = c.kind_at.ensures in
-    node_in _ _ (omega arith) (sym c.start_at.ensures ∙ c.if-start_at-end.false ∙ c.requires.2) c.in_ok-fields.field-0 (rw (sym c.if-start_at-end.false ∙ c.start_at.ensures, c.in-Ok.ensures ∙ c.kind_at.ensures) at c.in_ok-fields.ensures)
+    let p = both-pass _ _ _ c.if-start_at-end.false in
+    node_in _ _ (omega arith) (sym c.start_at.ensures ∙ p.0 ∙ c.requires.3) c.in_ok-fields.field-0 (rw (sym p.0 ∙ c.start_at.ensures, c.in-Ok.ensures ∙ c.kind_at.ensures) at c.in_ok-fields.ensures)
