@@ -62,7 +62,15 @@ module _ (img : List ℕ) (n : ℕ) where
       go w (yes l) (no m) = skip _ _ (in-row img _ l) ∙ stop _ _ 6 (out-row img _ (omega arith)) ∙ sym (w.1 ∙ stop _ _ 6 (out-row img _ (omega arith)))
       go w (no l) m = stop _ _ 6 (out-row img _ (omega arith)) ∙ sym (w.1 ∙ stop _ _ 6 (out-row img _ (omega arith)))
 
--- the two tests at once, where they pass
+-- two tests at once
+pub neither : (a b : Bool) → (a || b) ≡ false → (a ≡ false) × (b ≡ false)
+neither true b h = absurd (true≢false h)
+neither false b h = (refl, h)
+
+pub the-other : (a b : Bool) → (a || b) ≡ true → a ≡ false → b ≡ true
+the-other true b h e = absurd (true≢false e)
+the-other false b h e = h
+
 pub both-pass : (start end bound : ℕ) → (not (eqb start end) || leb bound (end + 2)) ≡ false → (start ≡ end) × (end + 2 < bound)
 both-pass start end bound t = go (eqb start end) refl t
   where

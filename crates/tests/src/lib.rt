@@ -303,22 +303,24 @@ fn test_term(image: &[u8], id: TermId) -> Result<(), Refusal>
     }
 }
 
-// Refusal 12 of a node: of an if-var its term, of a defined-then its variable, if it has one.
+// Refusal 12 of a node: of an if-var its term, of a defined-then its variable, if it has one. The two kinds are tested by an `|`: a
+// branch less for each other node.
 fn test_var(image: &SizedImage, node: NodeId) -> Result<(), Refusal>
     requires { node.0 < image.now.sizes.nodes }
     ensures { refusal_of result ≡ TestsSpec.test_var image.now.image.now node.0 }
 {
-    if image.is_kind(node, Kind::VarIfAtom) {
+    let if_var = image.is_kind(node, Kind::VarIfAtom);
+    if !(if_var | image.is_kind(node, Kind::DefinedThenAtom)) {
+        return Ok(());
+    }
+    if if_var {
         let VarIfAtom { term, .. } = typed::var_if_atom(image.image, VarIfAtomId(node));
         return test_term(image.image, term);
     }
-    if image.is_kind(node, Kind::DefinedThenAtom) {
-        let id = DefinedThenAtomId(node);
-        if let Some(var) = typed::defined_then_atom(image.image, id).var {
-            return test_term(image.image, var);
-        }
+    match typed::defined_then_atom(image.image, DefinedThenAtomId(node)).var {
+        Some(var) => test_term(image.image, var),
+        None => Ok(()),
     }
-    Ok(())
 }
 
 // Refusal 12.
