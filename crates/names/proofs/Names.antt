@@ -18,7 +18,7 @@ use Rattle.ast.specs.Image.{names, bytes, bytes_place, name_start, name_end, nam
 use Rattle.ast.specs.Promises.{Within, Rises}
 use Rattle.ast.specs.Tests.{◌▸◌, need, run, same, rising, unequal, test_ends, test_twice, test_names}
 use Rattle.ast.proofs.Accepted.{skip, stop, stop-at, name_in}
-use Rattle.ast.proofs.Runs.{RunLeft, run-begin, run-next, run-stop, run_end}
+use Rattle.ast.proofs.Runs.{RunLeft, run-begin, run-next, run-stop, run_end, RunSeen, seen-begin, seen_next, seen_first, seen_end}
 use Rattle.ast.proofs.Scans.{need-in, need-out}
 use Rattle.ast.specs.declared.Sizes.{Sizes}
 use Rattle.names.specs.Promises.{Met, Reach, hash, here, there}
@@ -45,39 +45,48 @@ run-one b (suc c) i (suc j) h e =
 
 -- 4 -------------------------------------------------------------------------------------------------------------------
 module _ (img : List ℕ) where
-  pub record EndsLeft (i start : ℕ) : Type 0 where
-    pub left : RunLeft (rising img) (names img) i
+  pub record EndsLeft (i start r : ℕ) : Type 0 where
+    pub seen : RunSeen (rising img) (names img) 4 i r
     pub start_is : start ≡ name_start img i
     pub few : i ≤ names img
 
-  pub ends-begin : EndsLeft 0 0
+  pub ends-begin : EndsLeft 0 0 0
   unfolding name_start
-  ends-begin = record { left = run-begin _ _; start_is = refl; few = omega arith }
+  ends-begin = record { seen = seen-begin _ _ _; start_is = refl; few = omega arith }
 
-  module _ (i start end : ℕ) (l : EndsLeft i start) where
-    pub ends_next : i < names img → end ≡ name_end img i → start < end → EndsLeft (i + 1) end
+  module _ (i start end r : ℕ) (l : EndsLeft i start r) (h : i < names img) (e : end ≡ name_end img i) where
+    ends-to : {q : ℕ} → RunSeen (rising img) (names img) 4 (i + 1) q → EndsLeft (i + 1) end q
     unfolding name_start
-    ends_next h e q =
-        let a = l.start_is in
-        record { left = run-next _ _ i l.left h (need-in 4 _ (lt-ltb (name_start img i) (name_end img i) (omega arith))); start_is = rw add-one e; few = omega arith }
+    ends-to s = record { seen = s; start_is = rw add-one e; few = omega arith }
 
-    pub ends-stop : i < names img → end ≡ name_end img i → end ≤ start → test_ends img ≡ 4
-    unfolding test_ends
-    ends-stop h e q =
-        let a = l.start_is in
-        stop _ _ 3 (run-stop _ _ i 4 l.left h (need-out 4 _ (le-ltb (name_start img i) (name_end img i) (omega arith))) (λ z. omega arith))
+    pub ends_next : start < end → EndsLeft (i + 1) end r
+    ends_next q = let a = l.start_is in ends-to (seen_next _ _ _ i r l.seen h (need-in 4 _ (lt-ltb (name_start img i) (name_end img i) (omega arith))))
 
-  module _ (i start : ℕ) (l : EndsLeft i start) (h : names img ≤ i) where
+    pub ends_first : end ≤ start → EndsLeft (i + 1) end 4
+    ends_first q = let a = l.start_is in ends-to (seen_first _ _ _ i r l.seen h (need-out 4 _ (le-ltb (name_start img i) (name_end img i) (omega arith))) (λ z. omega arith))
+
+  module _ (i start r : ℕ) (l : EndsLeft i start r) (h : names img ≤ i) where
     at-end : start ≡ name_start img (names img)
     at-end = let f = l.few in let q : i ≡ names img = omega arith in rw q at l.start_is
 
+    seen : run (rising img) (names img) 0 ≡ r
+    seen = seen_end _ _ _ i r l.seen h
+
     pub ends-bad : (start ≡ bytes img → ⊥) → test_ends img ≡ 4
     unfolding test_ends
-    ends-bad q = skip _ _ (run_end _ _ i l.left h) ∙ need-out 4 _ (ne_eqb _ _ (rw at-end at q))
+    ends-bad q = go r refl
+      where
+        go : (x : ℕ) → r ≡ x → run (rising img) (names img) 0 ▸ need 4 (eqb (name_start img (names img)) (bytes img)) ≡ 4
+        go zero z = skip _ _ (seen ∙ z) ∙ need-out 4 _ (ne_eqb _ _ (rw at-end at q))
+        go (suc x) z = let s = l.seen.some (λ y. omega arith) in stop _ _ 3 s.1
 
-    pub ends-good : start ≡ bytes img → test_ends img ≡ 0
+    pub ends-good : start ≡ bytes img → test_ends img ≡ r
     unfolding test_ends
-    ends-good q = skip _ _ (run_end _ _ i l.left h) ∙ need-in 4 _ (eq-eqb _ _ (rw at-end at q))
+    ends-good q = go r refl
+      where
+        go : (x : ℕ) → r ≡ x → run (rising img) (names img) 0 ▸ need 4 (eqb (name_start img (names img)) (bytes img)) ≡ r
+        go zero z = skip _ _ (seen ∙ z) ∙ need-in 4 _ (eq-eqb _ _ (rw at-end at q)) ∙ sym z
+        go (suc x) z = stop _ _ x (seen ∙ z) ∙ sym z
 
   pub names-split : (k : ℕ) → test_ends img ≡ k → (k ≡ 0 → ⊥) → test_names img ≡ k
   unfolding test_names

@@ -347,7 +347,9 @@ fn test_tree(image: &SizedImage, end: usize, claims: &[Times; NODES]) -> Result<
     test_vars(image)
 }
 
-// Refusals 6 to 12: each node by rising number, then the whole tree.
+// Refusals 6 to 12: each node by rising number, then the whole tree. Not inlined, so that the loops before and after it take no registers
+// from its own.
+#[inline(never)]
 pub fn test_nodes(image: &SizedImage) -> Result<(), Refusal>
     ensures { refusal_of result ≡ TestsSpec.◌▸◌ (TestsSpec.run (TestsSpec.test_node image.now.image.now) (ImageSpec.nodes image.now.image.now) 0) (TestsSpec.test_tree image.now.image.now) }
 {
