@@ -111,10 +111,7 @@ impl SizedImage<'_> {
         requires { place < self.now.sizes.operands }
         ensures { result ≡ ImageSpec.op_at self.now.image.now place }
     {
-        word_in(
-            self.image,
-            16 + 8 * self.sizes.nodes as usize + 4 * place,
-        )
+        word_in(self.image, 16 + 8 * self.sizes.nodes as usize + 4 * place)
     }
 
     // Whether a node that is there is of the kind.

@@ -147,6 +147,8 @@ fn test_twice(names: &NamedImage) -> Result<(), Refusal>
     Ok(())
 }
 
+// Refusals 4 and 5. Not inlined, so that its loops take no registers from that of the nodes.
+#[inline(never)]
 fn test_names(image: &SizedImage) -> Result<(), Refusal>
     ensures { refusal_of result ≡ TestsSpec.test_names image.now.image.now }
 {

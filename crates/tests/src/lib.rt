@@ -333,7 +333,8 @@ fn test_vars(image: &SizedImage) -> Result<(), Refusal>
     Ok(())
 }
 
-// Refusals 10, 11 and 12; `end` is where the last row ends.
+// Refusals 10, 11 and 12; `end` is where the last row ends. Not inlined, so that its loops take no registers from that of the nodes.
+#[inline(never)]
 fn test_tree(image: &SizedImage, end: usize, claims: &[Times; NODES]) -> Result<(), Refusal>
     requires end { end ≡ TestsSpec.end_before image.now.image.now (ImageSpec.nodes image.now.image.now) }
     requires claims { counts claims.now ≡ claim_all (kids_to image.now.image.now (ImageSpec.nodes image.now.image.now)) (replicate 2048 0) }
@@ -347,9 +348,7 @@ fn test_tree(image: &SizedImage, end: usize, claims: &[Times; NODES]) -> Result<
     test_vars(image)
 }
 
-// Refusals 6 to 12: each node by rising number, then the whole tree. Not inlined, so that the loops before and after it take no registers
-// from its own.
-#[inline(never)]
+// Refusals 6 to 12: each node by rising number, then the whole tree.
 pub fn test_nodes(image: &SizedImage) -> Result<(), Refusal>
     ensures { refusal_of result ≡ TestsSpec.◌▸◌ (TestsSpec.run (TestsSpec.test_node image.now.image.now) (ImageSpec.nodes image.now.image.now) 0) (TestsSpec.test_tree image.now.image.now) }
 {
