@@ -4,6 +4,7 @@ pub mod calls;
 pub mod compare;
 pub mod counts;
 pub mod damage;
+pub mod grid;
 pub mod image;
 pub mod inputs;
 pub mod make;

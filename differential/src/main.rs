@@ -114,6 +114,13 @@ fn run() -> bool {
     let mut smallest: Option<(usize, String)> = None;
     let started = Instant::now();
     deepest();
+    match differential::grid::compare(&*subject) {
+        Ok((tried, admitted)) => println!("every kind of child in every field of every kind: {tried} images, {admitted} of them admitted"),
+        Err(why) => {
+            println!("{why}");
+            return false;
+        }
+    }
     println!("seed {seed}, {count} images");
     for i in 0..count {
         let (input, mut r) = input(seed, i, 50, largest);

@@ -1,6 +1,6 @@
 -- The rule of the grid, from one computed check over its entries.
 use mathlib.Core.Path.{◌≡◌, refl, sym, ap, ◌∙◌}
-use mathlib.Core.Bool.{Bool, true, false, not, ◌&&◌, true≢false}
+use mathlib.Core.Bool.{Bool, true, false, not, ◌&&◌}
 use mathlib.Core.List.{List, [], ◌∷◌}
 use Prim.Native.Nat.{ℕ, zero, suc, ◌+◌, ◌*◌, ◌/◌, ◌%◌, ◌^◌, ◌<◌, ◌≤◌}
 use native.Mathlib.Omega.{arith}
@@ -10,10 +10,12 @@ use Rattle.std.specs.Int.{bit_at}
 use Rattle.std.specs.Prelude.{bit_and, nat_eq, Option, Some, None}
 use Rattle.std.specs.Bool.{beq}
 use Rattle.std.specs.Option.{option_eq}
+use Rattle.std.proofs.lemmas.Bool.{and_parts}
 use Rattle.std.proofs.lemmas.Nat.Bits.{bit_at_lowest, bit_at-suc, bit_at-zero, shr_and_one}
 use borrow.Author.Tests.{eq-eqb, eqb-true, eqb-false}
 use Rattle.ast.specs.Kinds.{inner, plain, no_child, Kind, kind_of, kinds}
 use Rattle.ast.specs.Tests.{is}
+use Rattle.ast.proofs.Bools.{is_true, is_false, true-not-false}
 use Rattle.ast.proofs.Count.{is-other}
 use Rattle.tests.specs.Grid.{places, places_of, admitted, Ruled, Wraps}
 use Rattle.tests.specs.declared.grid.TheConstants.{GRID}
@@ -23,16 +25,12 @@ unfoldable pub every : {A : Type 0} → (ℕ → A → Bool) → ℕ → List A 
 every f i [] = true
 every f i (x ∷ xs) = f i x && every f (suc i) xs
 
-both_true : (a b : Bool) → (a && b) ≡ true → (a ≡ true) × (b ≡ true)
-both_true true b h = (refl, h)
-both_true false b h = cc
-
 -- so it passes at the item numbered k
 every-from : {A : Type 0} (f : ℕ → A → Bool) (xs : List A) (i k : ℕ) (d : A) → every f i xs ≡ true → k < length xs → f (i + k) (get_or xs k d) ≡ true
 unfolding every
 every-from f [] i k d t h = absurd (omega arith)
-every-from f (x ∷ xs) i zero d t h = let e : i + 0 ≡ i = omega arith in rw e ((both_true (f i x) _ t).0)
-every-from f (x ∷ xs) i (suc k) d t h = let e : i + suc k ≡ suc i + k = omega arith in rw e (every-from f xs (suc i) k d ((both_true (f i x) _ t).1) (omega arith))
+every-from f (x ∷ xs) i zero d t h = let e : i + 0 ≡ i = omega arith in rw e ((and_parts (f i x) _ t).0)
+every-from f (x ∷ xs) i (suc k) d t h = let e : i + suc k ≡ suc i + k = omega arith in rw e (every-from f xs (suc i) k d ((and_parts (f i x) _ t).1) (omega arith))
 
 pub every-at : {A : Type 0} (f : ℕ → A → Bool) (xs : List A) (k : ℕ) (d : A) → every f 0 xs ≡ true → k < length xs → f k (get_or xs k d) ≡ true
 every-at f xs k d t h = let e : 0 + k ≡ k = omega arith in rw e at (every-from f xs 0 k d t h)
@@ -47,11 +45,7 @@ fields-some = refl
 
 pub some-field : (k : ℕ) → k ≤ 40 → length (kind_of k).fields ≡ 0 → ⊥
 unfolding some_field kind_of kinds
-some-field k h e = not_both _ (every-at some_field kinds k (record { class = inner plain; fields = [] }) fields-some (omega arith)) (eq-eqb _ 0 e)
-  where
-    not_both : (b : Bool) → not b ≡ true → b ≡ true → ⊥
-    not_both true n e = true≢false (sym n)
-    not_both false n e = true≢false (sym e)
+some-field k h e = true-not-false (eq-eqb _ 0 e) (is_false _ (is_true (every-at some_field kinds k (record { class = inner plain; fields = [] }) fields-some (omega arith))))
 
 -- an entry, from the children's kinds by place
 unfoldable pub entry : List ℕ → ℕ → ℕ

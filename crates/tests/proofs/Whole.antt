@@ -63,10 +63,6 @@ module _ (img : List ℕ) (n : ℕ) where
       go w (no l) m = stop _ _ 6 (out-row img _ (omega arith)) ∙ sym (w.1 ∙ stop _ _ 6 (out-row img _ (omega arith)))
 
 -- two tests at once
-pub neither : (a b : Bool) → (a || b) ≡ false → (a ≡ false) × (b ≡ false)
-neither true b h = absurd (true≢false h)
-neither false b h = (refl, h)
-
 pub the-other : (a b : Bool) → (a || b) ≡ true → a ≡ false → b ≡ true
 the-other true b h e = absurd (true≢false e)
 the-other false b h e = h

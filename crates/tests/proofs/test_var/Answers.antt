@@ -1,12 +1,13 @@
 use mathlib.Core.Path.{sym, ap, ◌∙◌}
 use Rattle.ast.specs.Tests.{is_var}
 use Rattle.typed.specs.Nodes.{term_word}
-use Rattle.tests.proofs.Whole.{neither, the-other, var-if, var-other, var-none, var-then}
+use Rattle.std.proofs.lemmas.Bool.{or_parts}
+use Rattle.tests.proofs.Whole.{the-other, var-if, var-other, var-none, var-then}
 use Rattle.tests.proofs.test_var.Goals as goal
 
 pub returns-then-not-if_var-is_kind : goal.returns-then-not-if_var-is_kind
 returns-then-not-if_var-is_kind c =
-    let n = neither _ _ c.if-not-if_var-is_kind.true in
+    let n = or_parts _ _ c.if-not-if_var-is_kind.true in
     sym (var-other _ _ (sym c.is_kind-if_var.ensures ∙ n.0) (sym c.is_kind.ensures ∙ n.1))
 
 pub returns-then-if_var : goal.returns-then-if_var
