@@ -136,7 +136,7 @@ impl Row<'_> {
         Ok(())
     }
 
-    // A child.
+    // A child at the place.
     fn child(self, parent: Kind, place: u32, claims: &mut [Times; NODES]) -> Result<Self, Refusal>
         requires { place < 8 }
         ensures { FieldTested (child (admitted (kind_number parent) place)) self.entry claims.old result claims.new }
@@ -206,7 +206,7 @@ impl Row<'_> {
         self.next().child(parent, case, claims)
     }
 
-    // The fields that the kind says.
+    // The fields that the kind says: one arm for all kinds whose rows have one form. The numbers are the places of children.
     fn fields(self, kind: Kind, claims: &mut [Times; NODES]) -> Result<Self, Refusal>
         ensures { FieldsTested kind self.entry claims.old result claims.new }
     {
