@@ -1,4 +1,5 @@
-//! Every kind of child at every place of every kind of parent: the library's grid against the second reading, refusal 9 above all.
+//! Every kind of child at every place of every kind of parent: the library's grid against the second reading, refusal 9 above all; and
+//! the printed grid, docs/GRID.md, against the reading's table of kinds.
 
 use crate::calls::{Answer, Calls};
 use crate::image::{Sketch, Word};
@@ -88,4 +89,49 @@ pub fn compare(subject: &dyn Calls) -> Result<(u32, u32), String> {
         }
     }
     Ok((tried, admitted))
+}
+
+/// The kinds of a parent's children by place, as the reading has them.
+fn places(parent: u32) -> Vec<Option<u32>> {
+    fields(parent)
+        .iter()
+        .flat_map(|field| match *field {
+            Field::Name | Field::MaybeName => vec![],
+            Field::Child(kind) | Field::MaybeChild(kind) | Field::List(kind) | Field::Blocks(kind) => vec![Some(kind)],
+            Field::Case(kinds) => kinds.to_vec(),
+        })
+        .collect()
+}
+
+/// What is wrong with the printed grid, if anything is.
+pub fn misprint() -> Option<String> {
+    let page = include_str!("../../docs/GRID.md");
+    let cells = |line: &'static str| line.split('|').map(str::trim).collect::<Vec<_>>();
+    let kinds: Vec<_> = page.lines().filter(|line| line.starts_with("| ")).skip(1).map(cells).collect();
+    let grid: Vec<Vec<_>> = page.lines().skip_while(|line| *line != "```text").skip(2).map(|line| line.split_whitespace().collect()).collect();
+    for parent in 0..KINDS as usize {
+        let (Some(said), Some(row)) = (kinds.get(parent), grid.get(parent)) else {
+            return Some(format!("docs/GRID.md ends before kind {parent}"));
+        };
+        let places = places(parent as u32);
+        let mut entries = vec![0u32; KINDS as usize];
+        let mut admitted = vec![];
+        for (place, kind) in places.iter().enumerate() {
+            if let Some(kind) = *kind {
+                entries[kind as usize] |= 1 << place;
+                admitted.push(format!("{place} {}", kinds[kind as usize][2]));
+            }
+        }
+        let mut wanted = vec![parent.to_string()];
+        wanted.extend(entries.iter().map(|x| if *x == 0 { ".".to_string() } else { x.to_string() }));
+        wanted.push(said[2].to_string());
+        if *row != wanted {
+            return Some(format!("row {parent} of the grid in docs/GRID.md"));
+        }
+        let admitted = if admitted.is_empty() { "none".to_string() } else { admitted.join(", ") };
+        if said[1] != parent.to_string() || said[3] != admitted {
+            return Some(format!("what kind {parent} admits, in docs/GRID.md"));
+        }
+    }
+    None
 }

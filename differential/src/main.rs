@@ -121,6 +121,11 @@ fn run() -> bool {
             return false;
         }
     }
+    if let Some(what) = differential::grid::misprint() {
+        println!("not as the reading has it: {what}");
+        return false;
+    }
+    println!("docs/GRID.md: as the reading has the kinds");
     println!("seed {seed}, {count} images");
     for i in 0..count {
         let (input, mut r) = input(seed, i, 50, largest);
