@@ -320,19 +320,19 @@ module _ (img : List ℕ) (P : ℕ → Type 0) where
   ops-all zero p h = nil
   ops-all (suc c) p h = cons (rw add-zero at (h 0 (omega arith))) (ops-all c (p + 1) (λ i l. let q : p + suc i ≡ p + 1 + i = omega arith in rw q at (h (suc i) (omega arith))))
 
-  repeated-all : (near : ℕ) {ns : List ℕ} → All P ns → All P (repeated img near ns)
+  repeated-all : (seen : List ℕ) {ns : List ℕ} → All P ns → All P (repeated img seen ns)
   unfolding repeated
-  repeated-all near nil = nil
-  repeated-all near (cons {c = x} {cs = ns} h r) = go (field img x 0) (λ v. repeated-all v r)
+  repeated-all seen nil = nil
+  repeated-all seen (cons {c = x} {cs = ns} h r) = go (field img x 0) (λ l. repeated-all l r)
     where
-      pick : (y : ℕ) (b : Bool) → All P (repeated img (suc y) ns) → All P (elim b as (λ _. List ℕ) [ true ↦ x ∷ repeated img (suc y) ns | false ↦ repeated img (suc y) ns ])
+      pick : (y : ℕ) (b : Bool) → All P (repeated img (y ∷ seen) ns) → All P (elim b as (λ _. List ℕ) [ true ↦ x ∷ repeated img (y ∷ seen) ns | false ↦ repeated img (y ∷ seen) ns ])
       pick y true q = cons h q
       pick y false q = q
 
-      go : (w : ℕ) → ((v : ℕ) → All P (repeated img v ns))
-          → All P (elim w as (λ _. List ℕ) [ zero ↦ repeated img near ns | suc y ↦ elim (eqb near (suc y)) [ true ↦ x ∷ repeated img (suc y) ns | false ↦ repeated img (suc y) ns ] ])
-      go zero ih = ih near
-      go (suc y) ih = pick y (eqb near (suc y)) (ih (suc y))
+      go : (w : ℕ) → ((l : List ℕ) → All P (repeated img l ns))
+          → All P (elim w as (λ _. List ℕ) [ zero ↦ repeated img seen ns | suc y ↦ elim (among y seen) [ true ↦ x ∷ repeated img (y ∷ seen) ns | false ↦ repeated img (y ∷ seen) ns ] ])
+      go zero ih = ih seen
+      go (suc y) ih = pick y (among y seen) (ih (y ∷ seen))
 
 module _ (img : List ℕ) (accepted : verdict img ≡ 0) where
   abbrev pub IsArg : ℕ → Type 0
@@ -352,8 +352,8 @@ module _ (img : List ℕ) (accepted : verdict img ≡ 0) where
   unfolding repeated_in
   list_all m l = go (eqb (kind_at img m) 11) (eqb→eq (kind_at img m) 11)
     where
-      go : (b : Bool) → (T b → kind_at img m ≡ 11) → All IsArg (elim b as (λ _. List ℕ) [ true ↦ repeated img 0 (args_of img m) | false ↦ [] ])
-      go true e = repeated-all img IsArg 0 (args-all m l (e tt))
+      go : (b : Bool) → (T b → kind_at img m ≡ 11) → All IsArg (elim b as (λ _. List ℕ) [ true ↦ repeated img [] (args_of img m) | false ↦ [] ])
+      go true e = repeated-all img IsArg [] (args-all m l (e tt))
       go false e = nil
 
   -- and so are those that repeat a name

@@ -6,12 +6,10 @@ use Prim.Native.Nat.{ℕ, zero, suc, ◌+◌, ◌-◌, ◌<◌, ◌≤◌}
 use native.Mathlib.Nat.{sub-zero}
 use native.Mathlib.Numerals.{add-one}
 use native.Mathlib.Omega.{arith}
-use lib.Dec.{eqb, eqb-suc-suc, eqb-zero-suc}
+use lib.Dec.{eqb}
 use lib.ListN.{length, get_or, set, replicate, length-set, length-replicate, get_or-replicate}
 use lib.Seq.{get_or-set_same, get_or-set_other}
 use borrow.Author.Tests.{eq-eqb, ne_eqb, eqb-true, eqb-false}
-use Rattle.std.specs.Prelude.{Option, Some, None}
-use Rattle.std.specs.Option.{option_eq}
 use Rattle.ast.specs.Image.{nodes, kind_at, start_at, field}
 use Rattle.ast.specs.Kinds.{kind_of}
 use Rattle.ast.specs.Rows.{ops_from}
@@ -19,7 +17,6 @@ use Rattle.ast.specs.Tests.{verdict}
 use Rattle.ast.specs.Is.{Is, Run}
 use Rattle.ast.proofs.Shapes.{one_more, run-list}
 use Rattle.ast.proofs.Accepted.{sized}
-use Rattle.typed.specs.Nodes.{name_word}
 use Rattle.typed.specs.RowShapes.{Listed}
 use Rattle.typed.specs.declared.nodes.NodeList.{NodeList}
 use Rattle.typed.specs.declared.nodes.ArgDeclId.{ArgDeclId}
@@ -30,7 +27,8 @@ use Rattle.typed.proofs.Lists.{at-list}
 use Rattle.scopes.specs.Twice.{among}
 use Rattle.rows.specs.Rows.{Row, row, when}
 use Rattle.bindings.specs.Errors.{repeated, args_of, repeated_in, repeated_to, strict_from, strict_rows}
-use Rattle.bindings.specs.Promises.{marked, MarkedOne, Marks}
+use Rattle.scopes.specs.Promises.{Stamped}
+use Rattle.bindings.specs.Promises.{marked, Earlier, Met, MarkedOne, Marks}
 
 pub marked_append : (ns ks : List ℕ) (ms : List Bool) → marked (ns ++ ks) ms ≡ marked ks (marked ns ms)
 unfolding marked
@@ -60,44 +58,86 @@ mark-test ns n l =
     go true z = refl
     go false z = z
 
--- a name is the nearest earlier one's
-pub same-name : (near : Option ℕ) (x : ℕ) → option_eq eqb near (Some x) ≡ eqb (name_word near) (suc x)
-same-name None x = sym (eqb-zero-suc x)
-same-name (Some y) x = sym (eqb-suc-suc y x)
+-- what was met of a list by its stamps
+pub none-earlier : {l : List ℕ} → l ≡ replicate 1024 0 → Earlier 0 l
+none-earlier e x = subst (λ (l : List ℕ). get_or l x 0 ≤ 0) (sym e) (zeros 1024 x)
+  where
+    zeros : (n x : ℕ) → get_or (replicate n 0) x 0 ≤ 0
+    zeros zero x = omega arith
+    zeros (suc n) zero = omega arith
+    zeros (suc n) (suc x) = zeros n x
+
+module _ (m : ℕ) where
+  pub met_none : {l : List ℕ} → Earlier m l → Met m [] l
+  unfolding among
+  met_none h = record { met = λ x. ne_eqb _ _ (λ e. let z = h x in omega arith); earlier = λ x. let z = h x in omega arith }
+
+  -- a name more: by its stamp, whether it was met before
+  module _ {seen l k : List ℕ} {r : Bool} (x : ℕ) (h : Met m seen l) (s : Stamped l x m r k) where
+    met-again : r ≡ false → among x seen ≡ true
+    met-again e = sym (h.met x) ∙ eq-eqb _ _ (s.old e).0
+
+    met-first : r ≡ true → among x seen ≡ false
+    met-first e = sym (h.met x) ∙ ne_eqb _ _ (s.new e).0
+
+    met-next : Met m (x ∷ seen) k
+    unfolding among
+    met-next = go r refl
+      where
+        same : among x seen ≡ true → (y : ℕ) (b : Bool) → eqb y x ≡ b → eqb (get_or l y 0) (suc m) ≡ b || among y seen
+        same a y true q = h.met y ∙ ap (λ (z : ℕ). among z seen) (eqb-true _ _ q) ∙ a
+        same a y false q = h.met y
+
+        -- what stands at a name after the stamp
+        stamped : x < length l → (y : ℕ) (b : Bool) → eqb y x ≡ b → get_or (set l x (suc m)) y 0 ≡ elim b as (λ _. ℕ) [ true ↦ suc m | false ↦ get_or l y 0 ]
+        stamped w y true q = ap (λ (z : ℕ). get_or (set l x (suc m)) z 0) (eqb-true y x q) ∙ get_or-set_same l x (suc m) 0 w
+        stamped w y false q = get_or-set_other l x y (suc m) 0 (eqb-false y x q)
+
+        put : {v : ℕ} (y : ℕ) (b : Bool) → v ≡ elim b as (λ _. ℕ) [ true ↦ suc m | false ↦ get_or l y 0 ] → eqb v (suc m) ≡ b || among y seen
+        put y true q = eq-eqb _ _ q
+        put y false q = ap (λ (v : ℕ). eqb v (suc m)) q ∙ h.met y
+
+        low : {v : ℕ} (y : ℕ) (b : Bool) → v ≡ elim b as (λ _. ℕ) [ true ↦ suc m | false ↦ get_or l y 0 ] → v ≤ suc m
+        low y true q = omega arith
+        low y false q = let u = h.earlier y in omega arith
+
+        go : (b : Bool) → r ≡ b → Met m (x ∷ seen) k
+        go true e =
+            let w = (s.new e).1 in
+            subst (Met m (x ∷ seen)) (sym (s.new e).2)
+            (record { met = λ y. put y (eqb y x) (stamped w y (eqb y x) refl); earlier = λ y. low y (eqb y x) (stamped w y (eqb y x) refl) })
+        go false e = subst (Met m (x ∷ seen)) (sym (s.old e).1) (record { met = λ y. same (met-again e) y (eqb y x) refl; earlier = h.earlier })
 
 -- one argument
-module _ (img : List ℕ) (n near : ℕ) (ms : List Bool) where
-  pub mark-unnamed : {x : ℕ} → x ≡ field img n 0 → x ≡ 0 → MarkedOne img n near ms near ms
+module _ (img : List ℕ) (m n : ℕ) (ms : List Bool) (l : List ℕ) where
+  pub mark-unnamed : {w : ℕ} → w ≡ field img n 0 → w ≡ 0 → MarkedOne img m n ms l ms l
   unfolding repeated
   mark-unnamed e z = record {
-    so = λ ns. ap (λ (w : ℕ). marked (elim w as (λ _. List ℕ) [
-      | zero ↦ repeated img near ns
-      | suc x ↦ elim (eqb near (suc x)) [ true ↦ n ∷ repeated img (suc x) ns | false ↦ repeated img (suc x) ns ]
-    ]) ms) (sym e ∙ z);
+    so = λ seen h.
+        (seen, h, λ ns. ap (λ (w : ℕ). marked (elim w as (λ _. List ℕ) [
+          | zero ↦ repeated img seen ns
+          | suc x ↦ elim (among x seen) [ true ↦ n ∷ repeated img (x ∷ seen) ns | false ↦ repeated img (x ∷ seen) ns ]
+        ]) ms) (sym e ∙ z));
   }
 
-  named : (x : ℕ) → suc x ≡ field img n 0 → (ns : List ℕ)
-      → repeated img near (n ∷ ns) ≡ elim (eqb near (suc x)) as (λ _. List ℕ) [ true ↦ n ∷ repeated img (suc x) ns | false ↦ repeated img (suc x) ns ]
-  unfolding repeated
-  named x e ns = ap (λ (w : ℕ). elim w as (λ _. List ℕ) [
-    | zero ↦ repeated img near ns
-    | suc y ↦ elim (eqb near (suc y)) [ true ↦ n ∷ repeated img (suc y) ns | false ↦ repeated img (suc y) ns ]
-  ]) (sym e)
+  -- of the name x, whose word is w
+  module _ {w : ℕ} {r : Bool} {k : List ℕ} (x : ℕ) (e : w ≡ field img n 0) (z : w ≡ suc x) (s : Stamped l x m r k) where
+    named : {b : Bool} (seen ns : List ℕ) → among x seen ≡ b → repeated img seen (n ∷ ns) ≡ elim b as (λ _. List ℕ) [ true ↦ n ∷ repeated img (x ∷ seen) ns | false ↦ repeated img (x ∷ seen) ns ]
+    unfolding repeated
+    named seen ns a = ap (λ (w : ℕ). elim w as (λ _. List ℕ) [
+      | zero ↦ repeated img seen ns
+      | suc y ↦ elim (among y seen) [ true ↦ n ∷ repeated img (y ∷ seen) ns | false ↦ repeated img (y ∷ seen) ns ]
+    ]) (sym e ∙ z) ∙ ap (λ (b : Bool). elim b as (λ _. List ℕ) [ true ↦ n ∷ repeated img (x ∷ seen) ns | false ↦ repeated img (x ∷ seen) ns ]) a
 
-  -- a name x, whose word is w; b says whether it is the nearest earlier one's
-  pub mark-new : {w : ℕ} {b : Bool} (x : ℕ) → w ≡ field img n 0 → w ≡ suc x → b ≡ eqb near (suc x) → b ≡ false → MarkedOne img n near ms (suc x) ms
-  mark-new x e z q h = record {
-    so = λ ns. ap (λ (l : List ℕ). marked l ms)
-        (named x (sym z ∙ e) ns ∙ ap (λ (b : Bool). elim b as (λ _. List ℕ) [ true ↦ n ∷ repeated img (suc x) ns | false ↦ repeated img (suc x) ns ]) (sym q ∙ h));
-  }
+    pub mark-new : r ≡ true → MarkedOne img m n ms l ms k
+    mark-new q = record { so = λ seen h. (x ∷ seen, met-next m x h s, λ ns. ap (λ (k : List ℕ). marked k ms) (named seen ns (met-first m x h s q))) }
 
-  pub mark-again : {w i : ℕ} {b : Bool} (x : ℕ) → w ≡ field img n 0 → w ≡ suc x → b ≡ eqb near (suc x) → b ≡ true → i ≡ n → MarkedOne img n near ms (suc x) (set ms i true)
-  unfolding marked
-  mark-again x e z q h k = record {
-    so = λ ns. ap (λ (l : List ℕ). marked l ms)
-        (named x (sym z ∙ e) ns ∙ ap (λ (b : Bool). elim b as (λ _. List ℕ) [ true ↦ n ∷ repeated img (suc x) ns | false ↦ repeated img (suc x) ns ]) (sym q ∙ h))
-        ∙ ap (λ (i : ℕ). marked (repeated img (suc x) ns) (set ms i true)) (sym k);
-  }
+    pub mark-again : {i : ℕ} → r ≡ false → i ≡ n → MarkedOne img m n ms l (set ms i true) k
+    unfolding marked
+    mark-again q i = record {
+      so = λ seen h.
+          (x ∷ seen, met-next m x h s, λ ns. ap (λ (k : List ℕ). marked k ms) (named seen ns (met-again m x h s q)) ∙ ap (λ (i : ℕ). marked (repeated img (x ∷ seen) ns) (set ms i true)) (sym i));
+    }
 
 -- the arguments of a list that are left
 abbrev pub args_left : Items ArgDeclId → List ℕ
@@ -120,7 +160,7 @@ args-none s e = ap (λ (c : ℕ). ops_from s.image.now c (start_at s.image.now s
 module _ (img : List ℕ) where
   pub no-list : (m : ℕ) (ms : List Bool) → (kind_at img m ≡ 11 → ⊥) → ms ≡ marked (repeated_in img m) ms
   unfolding repeated_in marked
-  no-list m ms h = sym (ap (λ (b : Bool). marked (elim b as (λ _. List ℕ) [ true ↦ repeated img 0 (args_of img m) | false ↦ [] ]) ms) (ne_eqb _ _ h))
+  no-list m ms h = sym (ap (λ (b : Bool). marked (elim b as (λ _. List ℕ) [ true ↦ repeated img [] (args_of img m) | false ↦ [] ]) ms) (ne_eqb _ _ h))
 
   -- the list, by the test that the node is one
   pub arguments : {m : ℕ} {b : Bool} → verdict img ≡ 0 → m < nodes img → b ≡ eqb (kind_at img m) 11 → b ≡ true → Run img 10 m 1 (field img m 0)
@@ -129,28 +169,43 @@ module _ (img : List ℕ) where
       let is : Is img (kind_of 11) m = record { accepted = a; below = l; kind = ap kind_of (eqb-true _ _ (sym e ∙ h)) } in run-list img is refl
 
   pub list-start : {m : ℕ} {l : NodeList} {s start : Items ArgDeclId} → start ≡ s → kind_at img m ≡ 11 → Listed img m 0 l → (s.image.now ≡ img) × (s.left.list ≡ l) → (ms : List Bool)
-      → marked (repeated_in img m) ms ≡ marked (repeated img 0 (args_left start)) ms
+      → marked (repeated_in img m) ms ≡ marked (repeated img [] (args_left start)) ms
   unfolding repeated_in args_of
   list-start {m} {l} {s} e k q h ms =
-      ap (λ (b : Bool). marked (elim b as (λ _. List ℕ) [ true ↦ repeated img 0 (args_of img m) | false ↦ [] ]) ms) (eq-eqb _ _ k)
-      ∙ ap (λ (ns : List ℕ). marked (repeated img 0 ns) ms)
+      ap (λ (b : Bool). marked (elim b as (λ _. List ℕ) [ true ↦ repeated img [] (args_of img m) | false ↦ [] ]) ms) (eq-eqb _ _ k)
+      ∙ ap (λ (ns : List ℕ). marked (repeated img [] ns) ms)
       (at-list img (λ (n f c : ℕ). ops_from img (field img m 0) (start_at img m + 3) ≡ ops_from img c (start_at img n + 2 + f)) q (ap (ops_from img (field img m 0)) (let z : start_at img m + 3 ≡ start_at img m + 2 + 1 = omega arith in z))
       ∙ ap₂ (λ (i : List ℕ) (l : NodeList). ops_from i l.count (start_at i l.node.0 + 2 + l.first)) (sym h.0) (sym h.1)
       ∙ ap args_left (sym e))
 
-  -- one argument more
-  pub list-next : {x near r : ℕ} {s t : Items ArgDeclId} {whole ms vs : List Bool} → whole ≡ marked (repeated img near (args_left s)) ms
-      → Others s t → x ≡ field s.image.now s.left.list.node.0 s.left.list.first → MarkedOne img x near ms r vs → whole ≡ marked (repeated img r (args_left t)) vs
-  list-next {near = near} {t = t} {ms = ms} e o q h = e ∙ ap (λ (ns : List ℕ). marked (repeated img near ns) ms) (args-more o q) ∙ h.so (args_left t)
+  -- what is left of a list to mark, after the names of those before
+  pub record Marking (node : ℕ) (whole : List Bool) (s : Items ArgDeclId) (ms : List Bool) (l : List ℕ) : Type 0 where
+    pub seen : List ℕ
+    pub met : Met node seen l
+    pub marks : whole ≡ marked (repeated img seen (args_left s)) ms
 
-  -- an argument is a node, and there are at most 2,048
-  pub arg-low : {x : ℕ} → Is img (kind_of 10) x → x < 2048
-  arg-low is = let b = is.below in let s = (sized img is.accepted).few_nodes in omega arith
+  pub list-begin : {node : ℕ} {whole ms : List Bool} {l : List ℕ} {s : Items ArgDeclId} → Earlier node l → whole ≡ marked (repeated img [] (args_left s)) ms → Marking node whole s ms l
+  list-begin {node} e h = record { seen = []; met = met_none node e; marks = h }
+
+  -- one argument more
+  pub list-next : {node x : ℕ} {s t : Items ArgDeclId} {whole ms vs : List Bool} {l k : List ℕ} → Marking node whole s ms l
+      → Others s t → x ≡ field s.image.now s.left.list.node.0 s.left.list.first → MarkedOne img node x ms l vs k → Marking node whole t vs k
+  list-next {x = x} {t = t} {ms = ms} g o q h =
+      let r = h.so g.seen g.met in
+      record { seen = r.0; met = r.1; marks = g.marks ∙ ap (λ (ns : List ℕ). marked (repeated img g.seen ns) ms) (args-more o q) ∙ r.2 (args_left t) }
 
   -- all of them are marked
-  pub list_done : (s : Items ArgDeclId) {whole vs : List Bool} (near : ℕ) → whole ≡ marked (repeated img near (args_left s)) vs → args_left s ≡ [] → vs ≡ whole
+  pub list_done : {node : ℕ} {whole vs : List Bool} {l : List ℕ} (s : Items ArgDeclId) → Marking node whole s vs l → args_left s ≡ [] → vs ≡ whole
   unfolding repeated marked
-  list_done s {vs = vs} near e z = sym (e ∙ ap (λ (ns : List ℕ). marked (repeated img near ns) vs) z)
+  list_done {vs = vs} s g z = sym (g.marks ∙ ap (λ (ns : List ℕ). marked (repeated img g.seen ns) vs) z)
+
+  -- and the stamps are earlier ones for the next node
+  pub list-passed : {node : ℕ} {whole ms : List Bool} {l : List ℕ} {s : Items ArgDeclId} → Marking node whole s ms l → Earlier (node + 1) l
+  list-passed g x = let q = g.met.earlier x in omega arith
+
+  -- a node: there are at most 2,048
+  pub node-low : {n : ℕ} → verdict img ≡ 0 → n < nodes img → n < 2048
+  node-low a l = let s = (sized img a).few_nodes in omega arith
 
 pub to-next : (img : List ℕ) (m : ℕ) (ms : List Bool) → marked (repeated_in img m) (marked (repeated_to img m) ms) ≡ marked (repeated_to img (m + 1)) ms
 unfolding repeated_to
@@ -181,7 +236,7 @@ module _ (img : List ℕ) where
   strict-item {ms} m a h l q =
       strict_more m l
       (q ∙ ap (λ (xs : List Bool). get_or xs m false) h.all
-      ∙ mark-test (repeated_to img (nodes img)) m (let s = (sized img a).few_nodes in omega arith))
+      ∙ mark-test (repeated_to img (nodes img)) m (node-low img a l))
 
   pub strict-end : (m : ℕ) → nodes img ≤ m → strict_left m ≡ []
   unfolding strict_from

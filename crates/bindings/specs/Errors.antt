@@ -153,18 +153,19 @@ module _ (img : List ℕ) where
   unfoldable pub args_of : ℕ → List ℕ
   args_of m = ops_from img (field img m 0) (start_at img m + 3)
 
-  -- those whose name is that of the nearest earlier named one; `near` is that name plus 1, or 0
-  unfoldable pub repeated : ℕ → List ℕ → List ℕ
-  repeated near [] = []
-  repeated near (n ∷ ns) =
+  -- those whose name an earlier one carries: `seen` has the names before them
+  unfoldable pub repeated : List ℕ → List ℕ → List ℕ
+  unfolding among
+  repeated seen [] = []
+  repeated seen (n ∷ ns) =
       elim (field img n 0) [
-        | zero ↦ repeated near ns
-        | suc x ↦ elim (eqb near (suc x)) [ true ↦ n ∷ repeated (suc x) ns | false ↦ repeated (suc x) ns ]
+        | zero ↦ repeated seen ns
+        | suc x ↦ elim (among x seen) [ true ↦ n ∷ repeated (x ∷ seen) ns | false ↦ repeated (x ∷ seen) ns ]
       ]
 
   unfoldable pub repeated_in : ℕ → List ℕ
   unfolding repeated args_of
-  repeated_in m = elim (eqb (kind_at img m) arg_decl_list_kind) [ true ↦ repeated 0 (args_of m) | false ↦ [] ]
+  repeated_in m = elim (eqb (kind_at img m) arg_decl_list_kind) [ true ↦ repeated [] (args_of m) | false ↦ [] ]
 
   -- those of the argument lists among the first m nodes
   unfoldable pub repeated_to : ℕ → List ℕ

@@ -1,5 +1,5 @@
 -- What the contracts of the checks cite.
-use Rattle.std.specs.Prelude.{◌≡◌, Bool, true, false, List, [], ◌∷◌, ◌++◌, ℕ, zero, suc, ◌+◌, ◌<◌, ◌≤◌, ◌^◌, length, set, replicate, Result, Ok, Err}
+use Rattle.std.specs.Prelude.{◌≡◌, Bool, true, false, List, [], ◌∷◌, ◌++◌, ℕ, zero, suc, ◌+◌, ◌<◌, ◌≤◌, ◌^◌, eqb, length, get_or, set, replicate, Result, Ok, Err}
 use Rattle.ast.specs.Image.{nodes, field}
 use Rattle.ast.specs.Kinds.{Kind, kind_of}
 use Rattle.ast.specs.Is.{Is, Run}
@@ -14,6 +14,7 @@ use Rattle.environment.specs.Layout.{nodes_most}
 use Rattle.environment.specs.Asked.{Asks}
 use Rattle.environment.specs.declared.Scopes.{Scopes}
 use Rattle.rows.specs.Rows.{Row}
+use Rattle.scopes.specs.Twice.{among}
 use Rattle.bindings.specs.declared.Mode.{Mode}
 use Rattle.bindings.specs.declared.Mode.TheVariants.{Plain, Strict}
 use Rattle.bindings.specs.Errors.{is_ctor, defined_row, arg_row, rows_of, rows_seq, pattern_rows, arg_rows, decl_rows, decls_rows, plain_rows, repeated, repeated_to, strict_rows, is_strict}
@@ -114,10 +115,19 @@ unfoldable pub marked : List ℕ → List Bool → List Bool
 marked [] ms = ms
 marked (n ∷ ns) ms = marked ns (set ms n true)
 
--- from the marks ms and the name `near` one argument comes to the marks vs and the name r, with the rest of its list
--- still to mark
-pub record MarkedOne (img : List ℕ) (n near : ℕ) (ms : List Bool) (r : ℕ) (vs : List Bool) : Type 0 where
-  pub so : (ns : List ℕ) → marked (repeated img near (n ∷ ns)) ms ≡ marked (repeated img r ns) vs
+-- no stamp is that of the list m or a later one
+abbrev pub Earlier : ℕ → List ℕ → Type 0
+Earlier m stamps = (x : ℕ) → get_or stamps x 0 ≤ m
+
+-- the names `seen` of the list m are those that have its stamp, m + 1; no stamp is a later list's
+pub record Met (m : ℕ) (seen stamps : List ℕ) : Type 0 where
+  pub met : (x : ℕ) → eqb (get_or stamps x 0) (suc m) ≡ among x seen
+  pub earlier : Earlier (suc m) stamps
+
+-- the argument n of the list m takes the marks ms and the stamps l to the marks vs and the stamps k: from there the rest of the list
+-- is to be marked, after the names `after`
+pub record MarkedOne (img : List ℕ) (m n : ℕ) (ms : List Bool) (l : List ℕ) (vs : List Bool) (k : List ℕ) : Type 0 where
+  pub so : (seen : List ℕ) → Met m seen l → (after : List ℕ) × Met m after k × ((ns : List ℕ) → marked (repeated img seen (n ∷ ns)) ms ≡ marked (repeated img after ns) vs)
 
 -- all of them are marked, and the count has room for their rows
 pub record Marks (img : List ℕ) (ms : List Bool) (count : ℕ) : Type 0 where

@@ -6,9 +6,8 @@ ghost use Rattle.std.proofs.Math.Option.{some};
 ghost use Rattle.ast.specs.Is.{Is};
 ghost use Rattle.ast.specs.Image as ImageSpec;
 ghost use Rattle.ast.specs.Kinds.{kind_of};
-ghost use Rattle.ast.specs.Named.{module_kind, decl_kind, stmt_kind, branch_stmt_kind, match_stmt_kind, match_case_kind, then_atom_kind, defined_then_atom_kind, term_kind, term_list_kind, app_head_kind};
+ghost use Rattle.ast.specs.Named.{module_kind, decl_kind, stmt_kind, branch_stmt_kind, match_stmt_kind, match_case_kind, then_atom_kind, defined_then_atom_kind, term_kind, term_list_kind, app_head_kind, arg_decl_kind};
 ghost use Rattle.ast.specs.Tests as TestsSpec;
-ghost use Rattle.typed.specs.Nodes.{name_word};
 ghost use Rattle.error.specs.Kinds.{row_number};
 ghost use Rattle.error.specs.Refusals.{refusal_of};
 ghost use Rattle.table.specs.Table as TableSpec;
@@ -18,13 +17,14 @@ ghost use Rattle.environment.specs.Reading.{seen};
 ghost use Rattle.rows.specs.Rows.{row, rows_length, Appends, Wrote};
 ghost use Rattle.scopes.specs.Answers.{rowed_answer};
 ghost use Rattle.bindings.specs.Errors.{same_node, introduces, introduced_row, strict_rows, repeated_in, repeated_to, test_errors, errors};
-ghost use Rattle.bindings.specs.Promises.{Ready, ReadyAll, Defines, PlainVariable, IsMode, mode_of, inside, of_stmts, of_decl, of_decls, of_defined, of_variable, of_head, of_pattern, of_case, of_args, of_arg, names_ctor, mode_rows, all_rows, marked, MarkedOne, Marks};
+ghost use Rattle.bindings.specs.Promises.{Ready, ReadyAll, Defines, PlainVariable, IsMode, mode_of, Earlier, inside, of_stmts, of_decl, of_decls, of_defined, of_variable, of_head, of_pattern, of_case, of_args, of_arg, names_ctor, mode_rows, all_rows, marked, MarkedOne, Marks};
 
 use ast::kind::Kind;
 use ast::{NODES, NodeId};
 use environment::{Environment, Scopes};
 use error::{ErrorKind, Refusal, Unresolved};
 use rows::Rows;
+use scopes::Stamps;
 use typed::nodes::*;
 
 // The modes of Errors.
@@ -422,45 +422,45 @@ impl<'a> BindingsChecker<'a> {
     fn mark_lists(&self, marks: &mut [bool; NODES])
         ensures { marks.new ≡ marked (repeated_to self.now.scopes.image.now (ImageSpec.nodes self.now.scopes.image.now)) marks.old }
     {
+        let mut stamps = Stamps::new();
         for m in 0..ast::node_count(self.scopes.image) {
-            self.mark_list(marks, NodeId(m));
+            self.mark_list(marks, &mut stamps, NodeId(m));
         }
     }
 
     // The arguments of a list, if the node is one.
-    fn mark_list(&self, marks: &mut [bool; NODES], node: NodeId)
-        requires { node.0 < ImageSpec.nodes self.now.scopes.image.now }
-        ensures { marks.new ≡ marked (repeated_in self.now.scopes.image.now node.0) marks.old }
+    fn mark_list(&self, marks: &mut [bool; NODES], stamps: &mut Stamps, node: NodeId)
+        requires { (node.0 < ImageSpec.nodes self.now.scopes.image.now) × Earlier node.0 stamps.old }
+        ensures marks { marks.new ≡ marked (repeated_in self.now.scopes.image.now node.0) marks.old }
+        ensures stamps { Earlier (node.0 + 1) stamps.new }
     {
         if !ast::is_kind(self.scopes.image, node, Kind::ArgDeclList) {
             return;
         }
         let ArgDeclList { args } = typed::arg_decl_list(self.scopes.image, ArgDeclListId(node));
-        let mut near = None;
         for arg in args.of(self.scopes.image) {
-            near = self.mark_argument(marks, arg, near);
+            self.mark_argument(marks, stamps, node, arg);
         }
     }
 
-    // An argument is marked where its name is that of the nearest earlier named one, `near`. What is `near` for the next one
-    // is handed back.
+    // An argument is marked where its name was seen in its list before.
     fn mark_argument(
         &self,
         marks: &mut [bool; NODES],
+        stamps: &mut Stamps,
+        list: NodeId,
         arg: ArgDeclId,
-        near: Option<u32>,
-    ) -> Option<u32>
-        requires { arg.0.0 < nodes_most }
-        ensures { MarkedOne self.now.scopes.image.now arg.0.0 (name_word near) marks.old (name_word result) marks.new }
+    )
+        requires { Is self.now.scopes.image.now (kind_of arg_decl_kind) arg.0.0 × (list.0 < nodes_most) }
+        ensures { MarkedOne self.now.scopes.image.now list.0 arg.0.0 marks.old stamps.old marks.new stamps.new }
     {
         let ArgDecl { name, .. } = typed::arg_decl(self.scopes.image, arg);
-        let Some(number) = name else {
-            return near;
+        let Some(name) = name else {
+            return;
         };
-        if near == Some(number) {
+        if !stamps.stamp(name, list.0) {
             marks[arg.0.0 as usize] = true;
         }
-        name
     }
 
     // Row 4 at each marked node, by rising node number.

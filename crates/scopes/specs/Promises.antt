@@ -163,7 +163,7 @@ pub record Lent (img : List ℕ) (b : ScopeBuilder) : Type 0 where
   pub blank : b.env.now ≡ replicate environment_length 0
   pub starts : Builder.table_of b ≡ record { words = b.table.now; scopes = 0; symbols = 0 }
 
--- a name stamped for a scope: whether it was not yet
+-- the name x stamped for the list s: whether it was not yet
 pub record Stamped (seen : List ℕ) (x s : ℕ) (r : Bool) (vs : List ℕ) : Type 0 where
   pub new : r ≡ true → (get_or seen x 0 ≡ suc s → ⊥) × (x < length seen) × (vs ≡ set seen x (suc s))
   pub old : r ≡ false → (get_or seen x 0 ≡ suc s) × (vs ≡ seen)

@@ -161,9 +161,7 @@ fn walk_module(builder: &mut ScopeBuilder) -> Result<(), SymbolDeclaredTwice>
     let module_scope = builder.new_scope(NO_SCOPE);
     builder.insert_unordered(module.0, module_scope);
     let Module { decls } = typed::module(builder.image, module);
-    let mut seen = Stamps {
-        scopes: [0; ast::NAMES],
-    };
+    let mut seen = Stamps::new();
     walk_decls(builder, &mut seen, module_scope, decls)
 }
 
@@ -199,12 +197,13 @@ pub fn test_rows(image: &[u8], table: &[u32], rows: &[u32]) -> Result<(), Refusa
     Ok(())
 }
 
-// By name one more than the scope that it was last entered in, or 0: that a scope does not have a name yet is mostly told without
-// a search. No options, which would take twice the fixed memory that is zeroed for each call. Handed on beside the builder, since
-// the walks inside the declarations take the builder and have no use for this.
+// By name one more than the list that it was last met in, or 0: that a list does not have a name yet is told without a search. A
+// declaration list goes by the number of its scope, and strict mode has an argument list by its node. No options, which would take
+// twice the fixed memory that is zeroed for each call. Handed on beside the builder, since the walks inside the declarations take the
+// builder and have no use for this.
 #[derive(Drop)]
-struct Stamps {
-    scopes: [u32; ast::NAMES],
+pub struct Stamps {
+    lists: [u32; ast::NAMES],
 }
 
 impl Model for Stamps {
@@ -212,19 +211,27 @@ impl Model for Stamps {
 
     ghost Value = { List ℕ };
 
-    ghost view = { λ s. s.scopes };
+    ghost view = { λ s. s.lists };
 }
 
 impl Stamps {
-    // Stamps the name for the scope: true where it was not stamped yet, so that the scope does not have it.
-    fn stamp(&mut self, name: u32, scope: ScopeId) -> bool
-        requires { (name < names_most) × (scope.0 + 1 < 2 ^ 32) }
-        ensures { Stamped self.old name scope.0 result self.new }
+    pub fn new() -> Stamps
+        ensures { result ≡ replicate names_most 0 }
     {
-        if self.scopes[name as usize] == scope.0 + 1 {
+        Stamps {
+            lists: [0; ast::NAMES],
+        }
+    }
+
+    // Stamps the name for the list: true where it was not stamped yet, so that the list does not have it.
+    pub fn stamp(&mut self, name: u32, list: u32) -> bool
+        requires { (name < names_most) × (list + 1 < 2 ^ 32) }
+        ensures { Stamped self.old name list result self.new }
+    {
+        if self.lists[name as usize] == list + 1 {
             return false;
         }
-        self.scopes[name as usize] = scope.0 + 1;
+        self.lists[name as usize] = list + 1;
         true
     }
 }
@@ -241,7 +248,7 @@ fn insert_decl_symbol(
     ensures keeps { Keeps builder.old builder.new }
     ensures walk { Enters (enter_name builder.old.image.now id.0) builder.old current result seen.new builder.new }
 {
-    if !seen.stamp(name, current) {
+    if !seen.stamp(name, current.0) {
         if let Some(first) = builder.find(current, name) {
             return Err(SymbolDeclaredTwice {
                 name,

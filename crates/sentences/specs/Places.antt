@@ -35,22 +35,17 @@ module _ (img : List ℕ) where
     atom : {n : ℕ} → Node then_atom_kind n → InThen n
     down : {p c : ℕ} → InThen p → Stands p c → Determines p c → InThen c
 
-  -- arguments without a name
-  abbrev pub Unnamed : List ℕ → Type 0
-  Unnamed ns = (n : ℕ) → Memᴰ n ns → field img n 0 ≡ 0
-
-  -- row 4: an argument of a list with the name of the nearest earlier named one
+  -- row 4: a named argument of a list, whose name an earlier argument of the list carries
   pub record Repeated (n : ℕ) : Type 0 where
     pub list : ℕ
-    pub nearest : ℕ
     pub before : List ℕ
-    pub between : List ℕ
     pub after : List ℕ
+    pub earlier : ℕ
     pub is_list : Node arg_decl_list_kind list
-    pub args : args_of img list ≡ before ++ (nearest ∷ (between ++ (n ∷ after)))
-    pub unnamed : Unnamed between
+    pub args : args_of img list ≡ before ++ (n ∷ after)
     pub named : field img n 0 ≡ 0 → ⊥
-    pub same : field img nearest 0 ≡ field img n 0
+    pub stands : Memᴰ earlier before
+    pub same : field img earlier 0 ≡ field img n 0
 
   module _ (t : Table) where
     -- row 1: an ident term of a then-atom that introduces its name

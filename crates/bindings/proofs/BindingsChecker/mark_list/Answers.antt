@@ -1,29 +1,33 @@
 use mathlib.Core.Path.{sym, ◌∙◌}
+use native.Mathlib.Omega.{arith}
 use borrow.Author.Tests.{eqb-true, eqb-false}
 use Rattle.typed.proofs.Lists.{begun-row, taken, row-short}
-use Rattle.typed.specs.Nodes.{name_word}
-use Rattle.bindings.proofs.Marking.{no-list, arguments, list-start, list-next, list_done, arg-low, args-none}
+use Rattle.bindings.proofs.Marking.{no-list, arguments, list-start, list-begin, list-next, list_done, list-passed, node-low, args-none}
 use Rattle.bindings.proofs.BindingsChecker.mark_list.Goals as goal
 
 pub returns-then-not-is_kind : goal.returns-then-not-is_kind
-returns-then-not-is_kind c = no-list _ _ _ (eqb-false _ _ (sym c.is_kind.ensures ∙ c.if-not-is_kind.true))
+returns-then-not-is_kind c =
+    record { marks = no-list _ _ _ (eqb-false _ _ (sym c.is_kind.ensures ∙ c.if-not-is_kind.true)); stamps = λ x. let z = c.requires.1 x in omega arith }
 
 pub of-arg-items-requires : goal.of-arg-items-requires
-of-arg-items-requires c = row-short _ c.arg_decl_list.ensures (arguments _ c.args.self.now.accepted c.requires c.is_kind.ensures c.if-not-is_kind.false)
+of-arg-items-requires c = row-short _ c.arg_decl_list.ensures (arguments _ c.args.self.now.accepted c.requires.0 c.is_kind.ensures c.if-not-is_kind.false)
 
 pub loop-arg-init : goal.loop-arg-init
 loop-arg-init c =
-    let r = arguments _ c.args.self.now.accepted c.requires c.is_kind.ensures c.if-not-is_kind.false in
+    let r = arguments _ c.args.self.now.accepted c.requires.0 c.is_kind.ensures c.if-not-is_kind.false in
     let o = begun-row c.into_iter-arg-iterator.ensures.into_iter_gives c.arg_decl_list.ensures r c.of-arg-items.ensures in
-    (o.within, list-start _ c.into_iter-arg-iterator.ensures.into_iter_gives (eqb-true _ _ (sym c.is_kind.ensures ∙ c.if-not-is_kind.false)) c.arg_decl_list.ensures c.of-arg-items.ensures _)
+    let s = list-start _ c.into_iter-arg-iterator.ensures.into_iter_gives (eqb-true _ _ (sym c.is_kind.ensures ∙ c.if-not-is_kind.false)) c.arg_decl_list.ensures c.of-arg-items.ensures _ in
+    (o.within, list-begin _ c.requires.1 s)
 
-pub mark_argument-near-requires : goal.mark_argument-near-requires
-mark_argument-near-requires c = arg-low _ (taken c.loop-arg.invariant.0 c.in-Some.ensures.steps.0 c.in-Some.ensures.steps.1).is
+pub mark_argument-requires : goal.mark_argument-requires
+mark_argument-requires c =
+    ((taken c.loop-arg.invariant.0 c.in-Some.ensures.steps.0 c.in-Some.ensures.steps.1).is, node-low _ c.args.self.now.accepted c.requires.0)
 
 pub loop-arg-preserved : goal.loop-arg-preserved
 loop-arg-preserved c =
     let o = taken c.loop-arg.invariant.0 c.in-Some.ensures.steps.0 c.in-Some.ensures.steps.1 in
-    (o.rest, list-next _ c.loop-arg.invariant.1 c.in-Some.ensures.steps.0 c.in-Some.ensures.steps.1 c.mark_argument-near.ensures)
+    (o.rest, list-next _ c.loop-arg.invariant.1 c.in-Some.ensures.steps.0 c.in-Some.ensures.steps.1 c.mark_argument.ensures)
 
 pub returns : goal.returns
-returns c = list_done _ c.loop-arg.arg-iterator (name_word c.loop-arg.near) c.loop-arg.invariant.1 (args-none c.loop-arg.arg-iterator c.in-None.ensures.steps)
+returns c =
+    record { marks = list_done _ c.loop-arg.arg-iterator c.loop-arg.invariant.1 (args-none c.loop-arg.arg-iterator c.in-None.ensures.steps); stamps = list-passed _ c.loop-arg.invariant.1 }
