@@ -161,7 +161,7 @@ enum eqlog_error {
     EQLOG_INTRODUCED_IN_THEN = 1, /* VariableIntroducedInThenStmt, at the term */
     EQLOG_DEFINED_NOT_NEW = 2,    /* ThenDefinedVarNotNew, at the variable's term */
     EQLOG_PATTERN_NOT_FRESH = 3,  /* MatchPatternArgVarIsNotFresh, at the argument's term */
-    EQLOG_REPEATED_ARGUMENT = 4   /* strict mode: an argument named like the nearest earlier named one of its list */
+    EQLOG_REPEATED_ARGUMENT = 4   /* strict mode: an argument whose name an earlier one of its list has */
 };
 
 /* Fills the table. Result: b is K, c is Y. Refuses 1 to 13. */

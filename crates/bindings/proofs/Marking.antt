@@ -113,11 +113,14 @@ module _ (img : List ℕ) (m n : ℕ) (ms : List Bool) (l : List ℕ) where
   pub mark-unnamed : {w : ℕ} → w ≡ field img n 0 → w ≡ 0 → MarkedOne img m n ms l ms l
   unfolding repeated
   mark-unnamed e z = record {
-    so = λ seen h.
-        (seen, h, λ ns. ap (λ (w : ℕ). marked (elim w as (λ _. List ℕ) [
-          | zero ↦ repeated img seen ns
-          | suc x ↦ elim (among x seen) [ true ↦ n ∷ repeated img (x ∷ seen) ns | false ↦ repeated img (x ∷ seen) ns ]
-        ]) ms) (sym e ∙ z));
+    so = λ seen h. (
+      seen,
+      h,
+      λ ns. ap (λ (w : ℕ). marked (elim w as (λ _. List ℕ) [
+        | zero ↦ repeated img seen ns
+        | suc x ↦ elim (among x seen) [ true ↦ n ∷ repeated img (x ∷ seen) ns | false ↦ repeated img (x ∷ seen) ns ]
+      ]) ms) (sym e ∙ z),
+    );
   }
 
   -- of the name x, whose word is w

@@ -131,7 +131,7 @@ module _ (img tab rows : List ℕ) (mode : ℕ) where
         let s = sentences.row-three img table accepted n in
         ((λ m. s.0 (p.0 m)), (λ h. p.1 (s.1 h)))
 
-    -- row 4, in strict mode alone, at exactly the arguments that have the name of the nearest earlier named one
+    -- row 4, in strict mode alone, at exactly the named arguments whose name an earlier one of their list carries
     pub row-four : (n : ℕ) → Memᴰ (row 4 n) list ↔ ((mode ≡ 2) × Repeated img n)
     row-four n = (to, from)
       where

@@ -189,6 +189,26 @@ repeated_args =
       names = (84 ∷ []) ∷ (97 ∷ []) ∷ (112 ∷ []) ∷ [];
     }
 
+-- ★Document 02: one pred with the arguments a, b, a: accepted, K = 4, Y = 4
+abbrev pub apart_args : File
+apart_args =
+    record {
+      rows = (24 ∷ 0 ∷ [])
+          ∷ (23 ∷ 0 ∷ 0 ∷ [])
+          ∷ (10 ∷ 2 ∷ 1 ∷ [])
+          ∷ (24 ∷ 0 ∷ [])
+          ∷ (23 ∷ 0 ∷ 3 ∷ [])
+          ∷ (10 ∷ 3 ∷ 4 ∷ [])
+          ∷ (24 ∷ 0 ∷ [])
+          ∷ (23 ∷ 0 ∷ 6 ∷ [])
+          ∷ (10 ∷ 2 ∷ 7 ∷ [])
+          ∷ (11 ∷ 3 ∷ 2 ∷ 5 ∷ 8 ∷ [])
+          ∷ (3 ∷ 3 ∷ 9 ∷ [])
+          ∷ (1 ∷ 1 ∷ 10 ∷ [])
+          ∷ (0 ∷ 1 ∷ 11 ∷ []) ∷ [];
+      names = (84 ∷ []) ∷ (97 ∷ []) ∷ (98 ∷ []) ∷ (112 ∷ []) ∷ [];
+    }
+
 -- ★Match case of constructor Foo on (x, x), x new: row 3 at the second
 abbrev match_case : File
 match_case =
@@ -285,6 +305,7 @@ cases =
     ∷ record { image = encode enum_twice; lines = declared_twice 0 2 1 ∷ [] }
     ∷ record { image = encode model_list; lines = resolved 2 3 ∷ end_ok ∷ [] }
     ∷ record { image = encode repeated_args; lines = resolved 3 3 ∷ end_ok ∷ [] }
+    ∷ record { image = encode apart_args; lines = resolved 4 4 ∷ end_ok ∷ [] }
     ∷ record { image = encode match_case; lines = resolved 3 4 ∷ error 3 17 ∷ var 23 22 ∷ var 11 22 ∷ var 15 14 ∷ var 17 14 ∷ end_ok ∷ [] }
     ∷ record { image = encode dom_term; lines = resolved 2 2 ∷ var 9 8 ∷ end_once 9 8 ∷ [] }
     -- N = 2,048 passes 2, N = 2,049 is 2, 15 bytes are 1
@@ -305,4 +326,4 @@ case_a = refl
 
 pub starred : AsExpected cases
 unfolding word nodes kind_at start_at op_at field name_of operands names bytes last name_end name_start name_bytes kind_of ones numbers ops_from after_blocks block_kids block_counts after field_kids field_shape after_fields fields_kids fields_shape fields_at row_end kids shape kids_to swap swaps ordered grow_all grow class_at tree_to tree_at ◌▸◌ need run is times same test_sizes test_names in_row is_child child_word test_blocks test_field test_fields end_before test_node test_parents first is_var test_var test_tree verdict mark_words mark new_scope new_symbol row_is find_from climb held found find lookup is_kind is_value child_scope own_symbol introduce marked unmarked walk_ident head_role walk_arg walk walk_seq walk_first enter_name and_then resolve_tree enter_all visit visit_all test_table zeroed walked headed way_of way answer_by table_by table_call resolve lefts rights filled written cleared test_rows rows_by rows_call among when same_node asked introduces introduced_row defined_row defined_rows arg_row arg_rows list_rows is_ctor app_rows pattern_rows plain_rows args_of repeated repeated_in repeated_to strict_from strict_rows is_strict error_rows test_errors errors rows_of rows_seq rows_first rows_defined decl_rows decls_rows add opened head_sort rule_places rule_spots rules_of module_rules outer_const place place_seq place_then place_first spots spots_seq spots_back spots_first rules rules_all listed rows_for rule_rows all_rows occurrence_rows times_bound lone_in lone rows_by_rule lone_answer occurrences once bytes_of kinds_of starts_of words_of ends_of joined encode zipped row_lines end_lines body_lines lines_of report recorded recorded_all enter_names mark_all rule_node declared declared_all earliest
-starred = (case_a, (refl, (refl, (refl, (refl, (refl, (refl, (refl, (refl, (refl, (refl, (refl, (refl, (refl, (refl, (refl, tt))))))))))))))))
+starred = (case_a, (refl, (refl, (refl, (refl, (refl, (refl, (refl, (refl, (refl, (refl, (refl, (refl, (refl, (refl, (refl, (refl, tt)))))))))))))))))
