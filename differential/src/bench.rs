@@ -59,6 +59,22 @@ impl File {
         self.list(11, Vec::new(), &args)
     }
 
+    /// A predicate whose arguments, all of one type, have these names.
+    fn pred_of(&mut self, name: &str, args: &[Option<String>]) {
+        let name = self.name(name);
+        let args: Vec<usize> = args
+            .iter()
+            .map(|arg| {
+                let typ = self.type_expr("Person");
+                let arg = arg.as_deref().map(|text| self.name(text));
+                self.s.push(10, vec![MaybeName(arg), Child(typ)])
+            })
+            .collect();
+        let list = self.list(11, Vec::new(), &args);
+        let child = self.s.push(3, vec![Name(name), Child(list)]);
+        self.decl(1, child);
+    }
+
     fn type_decl(&mut self, name: &str) {
         let name = self.name(name);
         let child = self.s.push(2, vec![Name(name)]);
@@ -362,6 +378,51 @@ fn run_sorted(subject: &dyn Calls) {
     }
 }
 
+/// So many predicates of so many arguments each, which have so many names in turn; with 0 they have none.
+fn arguments(predicates: usize, count: usize, names: usize) -> Vec<u8> {
+    let mut f = File::default();
+    let args: Vec<Option<String>> = (0..count).map(|i| (names > 0).then(|| format!("a{}", i % names))).collect();
+    for i in 0..predicates {
+        f.pred_of(&format!("p{i}"), &args);
+    }
+    f.done(0)
+}
+
+/// Errors in plain and in strict mode on one image, in turn: medians in microseconds, and the rows of strict mode.
+fn time_strict(image: &[u8], subject: &dyn Calls) -> (f64, f64, u32) {
+    let n = sizes(image).n;
+    let mut table = vec![0u32; table_words(n)];
+    let mut rows = vec![0u32; rows_words(n)];
+    let mut times = [Vec::new(), Vec::new()];
+    for _ in 0..ROUNDS {
+        for mode in [1, 2] {
+            times[mode - 1].push(clock(|| sink(count(subject.errors(image, &mut table, &mut rows, mode as u32)))));
+        }
+    }
+    let [mut plain, mut strict] = times;
+    (median(&mut plain), median(&mut strict), rows[0])
+}
+
+/// Strict mode beside plain: lists of 600 arguments, many short lists, and files with few named arguments.
+fn run_strict(subject: &dyn Calls) {
+    let inputs: [(&str, Vec<u8>); 7] = [
+        ("600 arguments, all of different names", arguments(1, 600, 600)),
+        ("600 arguments, two names in turn", arguments(1, 600, 2)),
+        ("600 arguments, one name", arguments(1, 600, 1)),
+        ("600 arguments, no name", arguments(1, 600, 0)),
+        ("150 lists of three arguments, two names in turn", arguments(150, 3, 2)),
+        ("typical, 30 rules", typical(30, 2047)),
+        ("typical of 128 nodes", typical(1000, 128)),
+    ];
+    println!();
+    println!("| input | N | error rows, strict | L plain | L strict | strict / plain |");
+    println!("|---|---|---|---|---|---|");
+    for (name, image) in &inputs {
+        let (plain, strict, count) = time_strict(image, subject);
+        println!("| {name} | {} | {count} | {plain:.2} | {strict:.2} | {:.2} |", sizes(image).n, strict / plain);
+    }
+}
+
 /// The image test, the call that makes the index, and both lookups from the last scope, of so many names in turn: medians in
 /// microseconds, of one lookup. First how many symbols and scopes there are.
 fn time_indexed(image: &[u8], subject: &dyn Calls) -> (u32, u32, [f64; 4]) {
@@ -489,6 +550,7 @@ fn run() {
         );
     }
     run_sorted(&subject);
+    run_strict(&subject);
     run_indexed(&subject);
 }
 

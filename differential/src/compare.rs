@@ -4,7 +4,7 @@
 use original::{Answers, Built};
 
 use crate::calls::{Answer, Calls};
-use crate::counts::{Counts, CHANGED, CHANGED_WITH_EQUALS};
+use crate::counts::{Counts, APART, CHANGED, CHANGED_WITH_EQUALS};
 use crate::random::Random;
 use crate::reading::layout::{index_words, place, rows_words, table_words, Array, COUNTS};
 use crate::reading::tests::{fields, name_span, sizes, verdict, Field};
@@ -242,8 +242,12 @@ impl Compare<'_> {
             }
             let mut strict = lent(r, rows_words(n));
             let strict_answer = self.subject.errors(image, &mut spare, &mut strict, 2);
-            for (number, _) in pairs(&strict, n, strict_answer) {
+            let apart: Vec<u32> = checks::row4(&rows).into_iter().filter_map(|(node, near)| (!near).then_some(node)).collect();
+            for (number, node) in pairs(&strict, n, strict_answer) {
                 counts.see(&format!("error rows {number}"));
+                if number == 4 && apart.contains(&node) {
+                    counts.see(APART);
+                }
             }
             counts.see_times("occurrences", list.len() as u64);
             counts.most("K", k as u64);

@@ -10,6 +10,9 @@ pub const CALLS: [&str; 9] = ["resolve", "lookup", "index", "indexed", "errors",
 pub const CHANGED: &str = "error rows: lists that sorting changes";
 pub const CHANGED_WITH_EQUALS: &str = "error rows: lists that sorting changes, with several rows at one place";
 
+/// Rows 4 that must have been met at an argument whose name stands further back than the nearest earlier named one.
+pub const APART: &str = "error rows 4, the nearest earlier named argument of another name";
+
 #[derive(Default)]
 pub struct Counts {
     /// By call and answer.
@@ -98,7 +101,7 @@ impl Counts {
                 missing.push(format!("error row {row}"));
             }
         }
-        for what in [CHANGED, CHANGED_WITH_EQUALS] {
+        for what in [CHANGED, CHANGED_WITH_EQUALS, APART] {
             if self.of(what) == 0 {
                 missing.push(what.to_string());
             }

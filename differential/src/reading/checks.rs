@@ -95,19 +95,15 @@ impl Checks<'_> {
     }
 }
 
-/// "at each named argument whose name equals that of the nearest earlier named argument of its list, by rising node
-/// number"
-fn row4(rows: &Rows) -> Vec<u32> {
+/// Document 02, S-5: "at each named argument whose name any earlier argument of its list carries"; document 01: "by rising
+/// node number". With each whether the nearest earlier named argument carries it.
+pub fn row4(rows: &Rows) -> Vec<(u32, bool)> {
     let mut found = Vec::new();
     for list in (0..rows.n as u32).filter(|&n| rows.kind(n) == 11) {
-        let mut nearest = None;
-        for &arg in rows.list(list, 0) {
-            let name = rows.name(arg);
-            if name.is_some() {
-                if name == nearest {
-                    found.push(arg);
-                }
-                nearest = name;
+        let named: Vec<(u32, u32)> = rows.list(list, 0).iter().filter_map(|&arg| Some((arg, rows.name(arg)?))).collect();
+        for (i, &(arg, name)) in named.iter().enumerate() {
+            if named[..i].iter().any(|earlier| earlier.1 == name) {
+                found.push((arg, named[i - 1].1 == name));
             }
         }
     }
@@ -125,7 +121,7 @@ pub fn errors(r: &Resolved, strict: bool) -> Vec<(u32, u32)> {
         }
     }
     if strict {
-        list.extend(row4(&r.rows).into_iter().map(|n| (4, n)));
+        list.extend(row4(&r.rows).into_iter().map(|(n, _)| (4, n)));
     }
     list
 }
