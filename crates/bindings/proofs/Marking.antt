@@ -15,6 +15,8 @@ use Rattle.ast.specs.Kinds.{kind_of}
 use Rattle.ast.specs.Rows.{ops_from}
 use Rattle.ast.specs.Tests.{verdict}
 use Rattle.ast.specs.Is.{Is, Run}
+use Rattle.ast.specs.Promises.{Head, Within}
+use Rattle.ast.specs.declared.Sizes.{Sizes}
 use Rattle.ast.proofs.Shapes.{one_more, run-list}
 use Rattle.ast.proofs.Accepted.{sized}
 use Rattle.typed.specs.RowShapes.{Listed}
@@ -28,7 +30,7 @@ use Rattle.scopes.specs.Twice.{among}
 use Rattle.rows.specs.Rows.{Row, row, when}
 use Rattle.bindings.specs.Errors.{repeated, args_of, repeated_in, repeated_to, strict_from, strict_rows}
 use Rattle.scopes.specs.Promises.{Stamped}
-use Rattle.bindings.specs.Promises.{marked, Earlier, Met, MarkedOne, Marks}
+use Rattle.bindings.specs.Promises.{marked, Earlier, Met, MarkedOne, AllMarked}
 
 pub marked_append : (ns ks : List ℕ) (ms : List Bool) → marked (ns ++ ks) ms ≡ marked ks (marked ns ms)
 unfolding marked
@@ -135,11 +137,10 @@ module _ (img : List ℕ) (m n : ℕ) (ms : List Bool) (l : List ℕ) where
     pub mark-new : r ≡ true → MarkedOne img m n ms l ms k
     mark-new q = record { so = λ seen h. (x ∷ seen, met-next m x h s, λ ns. ap (λ (k : List ℕ). marked k ms) (named seen ns (met-first m x h s q))) }
 
-    pub mark-again : {i : ℕ} → r ≡ false → i ≡ n → MarkedOne img m n ms l (set ms i true) k
+    pub mark-again : {vs : List Bool} → r ≡ false → vs ≡ set ms n true → MarkedOne img m n ms l vs k
     unfolding marked
-    mark-again q i = record {
-      so = λ seen h.
-          (x ∷ seen, met-next m x h s, λ ns. ap (λ (k : List ℕ). marked k ms) (named seen ns (met-again m x h s q)) ∙ ap (λ (i : ℕ). marked (repeated img (x ∷ seen) ns) (set ms i true)) (sym i));
+    mark-again q v = record {
+      so = λ seen h. (x ∷ seen, met-next m x h s, λ ns. ap (λ (k : List ℕ). marked k ms) (named seen ns (met-again m x h s q)) ∙ ap (marked (repeated img (x ∷ seen) ns)) (sym v));
     }
 
 -- the arguments of a list that are left
@@ -165,11 +166,9 @@ module _ (img : List ℕ) where
   unfolding repeated_in marked
   no-list m ms h = sym (ap (λ (b : Bool). marked (elim b as (λ _. List ℕ) [ true ↦ repeated img [] (args_of img m) | false ↦ [] ]) ms) (ne_eqb _ _ h))
 
-  -- the list, by the test that the node is one
-  pub arguments : {m : ℕ} {b : Bool} → verdict img ≡ 0 → m < nodes img → b ≡ eqb (kind_at img m) 11 → b ≡ true → Run img 10 m 1 (field img m 0)
+  pub arguments : {m : ℕ} → verdict img ≡ 0 → m < nodes img → kind_at img m ≡ 11 → Run img 10 m 1 (field img m 0)
   unfolding kind_of
-  arguments {m} a l e h =
-      let is : Is img (kind_of 11) m = record { accepted = a; below = l; kind = ap kind_of (eqb-true _ _ (sym e ∙ h)) } in run-list img is refl
+  arguments {m} a l e = let is : Is img (kind_of 11) m = record { accepted = a; below = l; kind = ap kind_of e } in run-list img is refl
 
   pub list-start : {m : ℕ} {l : NodeList} {s start : Items ArgDeclId} → start ≡ s → kind_at img m ≡ 11 → Listed img m 0 l → (s.image.now ≡ img) × (s.left.list ≡ l) → (ms : List Bool)
       → marked (repeated_in img m) ms ≡ marked (repeated img [] (args_left start)) ms
@@ -206,6 +205,22 @@ module _ (img : List ℕ) where
   pub list-passed : {node : ℕ} {whole ms : List Bool} {l : List ℕ} {s : Items ArgDeclId} → Marking node whole s ms l → Earlier (node + 1) l
   list-passed g x = let q = g.met.earlier x in omega arith
 
+  -- the sizes of an accepted image are those of all its words
+  pub sized-within : {s : Sizes} → verdict img ≡ 0 → Head img s → Within img s
+  sized-within a h =
+      let s = sized img a in
+      let n = h.nodes_are in
+      let c = h.operands_are in
+      let k = h.names_are in
+      let b = h.bytes_are in
+      let some = s.some in
+      let few = s.few_nodes in
+      let short = s.few_operands in
+      let called = s.few_names in
+      let long = s.few_bytes in
+      let exact = s.exact in
+      record { head = h; some = omega arith; few = omega arith; short = omega arith; called = omega arith; long = omega arith; exact = omega arith }
+
   -- a node: there are at most 2,048
   pub node-low : {n : ℕ} → verdict img ≡ 0 → n < nodes img → n < 2048
   node-low a l = let s = (sized img a).few_nodes in omega arith
@@ -234,12 +249,24 @@ module _ (img : List ℕ) where
       ∙ ap (λ (b : Bool). when b (row 4 m) ++ strict_left (m + 1)) (sym e)
 
   -- the same by the marks
-  pub strict-item : {ms : List Bool} {count : ℕ} {b : Bool} (m : ℕ) → verdict img ≡ 0 → Marks img ms count → m < nodes img → b ≡ get_or ms m false
+  pub strict-item : {ms : List Bool} {count : ℕ} {b : Bool} (m : ℕ) → verdict img ≡ 0 → AllMarked img ms count → m < nodes img → b ≡ get_or ms m false
       → strict_left m ≡ when b (row 4 m) ++ strict_left (m + 1)
   strict-item {ms} m a h l q =
       strict_more m l
       (q ∙ ap (λ (xs : List Bool). get_or xs m false) h.all
       ∙ mark-test (repeated_to img (nodes img)) m (node-low img a l))
+
+  -- no mark, no row
+  pub strict-none : {ms : List Bool} {count : ℕ} → verdict img ≡ 0 → AllMarked img ms count → ms ≡ replicate 2048 false → strict_rows img ≡ []
+  unfolding strict_from when
+  strict-none {ms} a h e = strict-start ∙ from (nodes img - 0) 0 (let s = (sized img a).few_nodes in omega arith)
+    where
+      from : (c m : ℕ) → m + c ≤ 2048 → strict_from img (repeated_to img (nodes img)) c m ≡ []
+      from zero m l = refl
+      from (suc c) m l =
+          ap (λ (b : Bool). when b (row 4 m) ++ strict_from img (repeated_to img (nodes img)) c (m + 1))
+          (sym (mark-test (repeated_to img (nodes img)) m (omega arith)) ∙ ap (λ (xs : List Bool). get_or xs m false) (sym h.all ∙ e) ∙ get_or-replicate {A = Bool} 2048 m false false (omega arith))
+          ∙ from c (m + 1) (omega arith)
 
   pub strict-end : (m : ℕ) → nodes img ≤ m → strict_left m ≡ []
   unfolding strict_from

@@ -130,7 +130,7 @@ pub record MarkedOne (img : List ℕ) (m n : ℕ) (ms : List Bool) (l : List ℕ
   pub so : (seen : List ℕ) → Met m seen l → (after : List ℕ) × Met m after k × ((ns : List ℕ) → marked (repeated img seen (n ∷ ns)) ms ≡ marked (repeated img after ns) vs)
 
 -- all of them are marked, and the count has room for their rows
-pub record Marks (img : List ℕ) (ms : List Bool) (count : ℕ) : Type 0 where
+pub record AllMarked (img : List ℕ) (ms : List Bool) (count : ℕ) : Type 0 where
   pub all : ms ≡ marked (repeated_to img (nodes img)) (replicate nodes_most false)
   pub fits : count + length (strict_rows img) < 2 ^ 32
 

@@ -1,12 +1,12 @@
 // Position-local binding checks on rule bodies: the error rows.
 #![tactic(auto)]
 
-ghost use Rattle.std.specs.Prelude.{◌≡◌, true, false, [], ◌∷◌, ◌+◌, ◌<◌, ◌≤◌, ◌^◌, length, IfOk};
+ghost use Rattle.std.specs.Prelude.{◌≡◌, true, false, [], ◌∷◌, ◌+◌, ◌<◌, ◌≤◌, ◌^◌, length, get_or, set, replicate, IfOk};
 ghost use Rattle.std.proofs.Math.Option.{some};
 ghost use Rattle.ast.specs.Is.{Is};
 ghost use Rattle.ast.specs.Image as ImageSpec;
 ghost use Rattle.ast.specs.Kinds.{kind_of};
-ghost use Rattle.ast.specs.Named.{module_kind, decl_kind, stmt_kind, branch_stmt_kind, match_stmt_kind, match_case_kind, then_atom_kind, defined_then_atom_kind, term_kind, term_list_kind, app_head_kind, arg_decl_kind};
+ghost use Rattle.ast.specs.Named.{module_kind, decl_kind, stmt_kind, branch_stmt_kind, match_stmt_kind, match_case_kind, then_atom_kind, defined_then_atom_kind, term_kind, term_list_kind, app_head_kind, arg_decl_kind, arg_decl_list_kind};
 ghost use Rattle.ast.specs.Tests as TestsSpec;
 ghost use Rattle.error.specs.Kinds.{row_number};
 ghost use Rattle.error.specs.Refusals.{refusal_of};
@@ -17,14 +17,15 @@ ghost use Rattle.environment.specs.Reading.{seen};
 ghost use Rattle.rows.specs.Rows.{row, rows_length, Appends, Wrote};
 ghost use Rattle.scopes.specs.Answers.{rowed_answer};
 ghost use Rattle.bindings.specs.Errors.{same_node, introduces, introduced_row, strict_rows, repeated_in, repeated_to, test_errors, errors};
-ghost use Rattle.bindings.specs.Promises.{Ready, ReadyAll, Defines, PlainVariable, IsMode, mode_of, Earlier, inside, of_stmts, of_decl, of_decls, of_defined, of_variable, of_head, of_pattern, of_case, of_args, of_arg, names_ctor, mode_rows, all_rows, marked, MarkedOne, Marks};
+ghost use Rattle.bindings.specs.Promises.{Ready, ReadyAll, Defines, PlainVariable, IsMode, mode_of, Earlier, inside, of_stmts, of_decl, of_decls, of_defined, of_variable, of_head, of_pattern, of_case, of_args, of_arg, names_ctor, mode_rows, all_rows, marked, MarkedOne, AllMarked};
 
 use ast::kind::Kind;
-use ast::{NODES, NodeId};
+use ast::{NODES, NodeId, SizedImage};
 use environment::{Environment, Scopes};
 use error::{ErrorKind, Refusal, Unresolved};
 use rows::Rows;
 use scopes::Stamps;
+use std::marker::Model;
 use typed::nodes::*;
 
 // The modes of Errors.
@@ -87,6 +88,57 @@ fn report(rows: &mut Rows, kind: ErrorKind, node: NodeId)
     ensures { Appends (row (row_number kind) node.0 ∷ []) rows.old rows.new }
 {
     rows.put(kind.row_number(), node.0);
+}
+
+// Strict mode's marks, by node, in fixed memory, since there is no heap. `any` is false where no node is marked, so that they need
+// not be gone through.
+#[derive(Drop)]
+struct Marks {
+    nodes: [bool; NODES],
+    any: bool,
+}
+
+impl Model for Marks {
+    ghost use Rattle.std.specs.Prelude.{◌≡◌, Bool, true, false, List, length, replicate};
+    ghost use Rattle.environment.specs.Layout.{nodes_most};
+
+    ghost Value = { List Bool };
+
+    ghost view = { λ m. m.nodes };
+
+    ghost invariant = { λ m. (length m.nodes ≡ nodes_most) × (m.any ≡ false → m.nodes ≡ replicate nodes_most false) };
+}
+
+impl Marks {
+    fn new() -> Marks
+        ensures { result ≡ replicate nodes_most false }
+    {
+        Marks {
+            nodes: [false; NODES],
+            any: false,
+        }
+    }
+
+    fn mark(&mut self, node: NodeId)
+        requires { node.0 < nodes_most }
+        ensures { self.new ≡ set self.old node.0 true }
+    {
+        self.nodes[node.0 as usize] = true;
+        self.any = true;
+    }
+
+    fn is_marked(&self, node: NodeId) -> bool
+        requires { node.0 < nodes_most }
+        ensures { result ≡ get_or self.now node.0 false }
+    {
+        self.nodes[node.0 as usize]
+    }
+
+    fn none(&self) -> bool
+        ensures { result ≡ true → self.now ≡ replicate nodes_most false }
+    {
+        !self.any
+    }
 }
 
 // Walks the rule bodies of a resolved image. The rows, in the Rust a field, stand beside it: with them in here each step would owe
@@ -413,44 +465,41 @@ impl<'a> BindingsChecker<'a> {
         requires { rows.old.count + length (strict_rows self.now.scopes.image.now) < 2 ^ 32 }
         ensures { Appends (strict_rows self.now.scopes.image.now) rows.old rows.new }
     {
-        // fixed memory, since there is no heap
-        let mut marks = [false; NODES];
+        let mut marks = Marks::new();
         self.mark_lists(&mut marks);
         self.put_marked(&marks, rows);
     }
 
-    fn mark_lists(&self, marks: &mut [bool; NODES])
+    // The argument lists by rising node number, whose kinds are read as those of an image that is sized: all are there.
+    fn mark_lists(&self, marks: &mut Marks)
         ensures { marks.new ≡ marked (repeated_to self.now.scopes.image.now (ImageSpec.nodes self.now.scopes.image.now)) marks.old }
     {
+        let sized = SizedImage {
+            image: self.scopes.image,
+            sizes: ast::sizes_of(self.scopes.image),
+        };
         let mut stamps = Stamps::new();
-        for m in 0..ast::node_count(self.scopes.image) {
-            self.mark_list(marks, &mut stamps, NodeId(m));
+        for m in 0..sized.sizes.nodes {
+            if sized.is_kind(NodeId(m), Kind::ArgDeclList) {
+                self.mark_list(marks, &mut stamps, ArgDeclListId(NodeId(m)));
+            }
         }
     }
 
-    // The arguments of a list, if the node is one.
-    fn mark_list(&self, marks: &mut [bool; NODES], stamps: &mut Stamps, node: NodeId)
-        requires { (node.0 < ImageSpec.nodes self.now.scopes.image.now) × Earlier node.0 stamps.old }
-        ensures marks { marks.new ≡ marked (repeated_in self.now.scopes.image.now node.0) marks.old }
-        ensures stamps { Earlier (node.0 + 1) stamps.new }
+    // The arguments of a list.
+    fn mark_list(&self, marks: &mut Marks, stamps: &mut Stamps, list: ArgDeclListId)
+        requires { (list.0.0 < ImageSpec.nodes self.now.scopes.image.now) × (ImageSpec.kind_at self.now.scopes.image.now list.0.0 ≡ arg_decl_list_kind) × Earlier list.0.0 stamps.old }
+        ensures marks { marks.new ≡ marked (repeated_in self.now.scopes.image.now list.0.0) marks.old }
+        ensures stamps { Earlier (list.0.0 + 1) stamps.new }
     {
-        if !ast::is_kind(self.scopes.image, node, Kind::ArgDeclList) {
-            return;
-        }
-        let ArgDeclList { args } = typed::arg_decl_list(self.scopes.image, ArgDeclListId(node));
+        let ArgDeclList { args } = typed::arg_decl_list(self.scopes.image, list);
         for arg in args.of(self.scopes.image) {
-            self.mark_argument(marks, stamps, node, arg);
+            self.mark_argument(marks, stamps, list.0, arg);
         }
     }
 
     // An argument is marked where its name was seen in its list before.
-    fn mark_argument(
-        &self,
-        marks: &mut [bool; NODES],
-        stamps: &mut Stamps,
-        list: NodeId,
-        arg: ArgDeclId,
-    )
+    fn mark_argument(&self, marks: &mut Marks, stamps: &mut Stamps, list: NodeId, arg: ArgDeclId)
         requires { Is self.now.scopes.image.now (kind_of arg_decl_kind) arg.0.0 × (list.0 < nodes_most) }
         ensures { MarkedOne self.now.scopes.image.now list.0 arg.0.0 marks.old stamps.old marks.new stamps.new }
     {
@@ -459,17 +508,20 @@ impl<'a> BindingsChecker<'a> {
             return;
         };
         if !stamps.stamp(name, list.0) {
-            marks[arg.0.0 as usize] = true;
+            marks.mark(arg.0);
         }
     }
 
     // Row 4 at each marked node, by rising node number.
-    fn put_marked(&self, marks: &[bool; NODES], rows: &mut Rows)
-        requires { Marks self.now.scopes.image.now marks.now rows.old.count }
+    fn put_marked(&self, marks: &Marks, rows: &mut Rows)
+        requires { AllMarked self.now.scopes.image.now marks.now rows.old.count }
         ensures { Appends (strict_rows self.now.scopes.image.now) rows.old rows.new }
     {
+        if marks.none() {
+            return;
+        }
         for m in 0..ast::node_count(self.scopes.image) {
-            if marks[m as usize] {
+            if marks.is_marked(NodeId(m)) {
                 report(rows, ErrorKind::RepeatedArgument, NodeId(m));
             }
         }

@@ -1,4 +1,4 @@
-use mathlib.Core.Path.{refl, sym, ap, ◌∙◌}
+use mathlib.Core.Path.{sym, ap, ◌∙◌}
 use native.Mathlib.Omega.{arith}
 use Rattle.typed.specs.Nodes.{name_word}
 use Rattle.environment.proofs.Asking.{arg-named}
@@ -13,7 +13,7 @@ stamp-requires c =
     ((arg-named _ c.requires.0 (sym (ap name_word c.in-Some.is) ∙ c.arg_decl-name.ensures.first)).below, let l = c.requires.1 in omega arith)
 
 pub returns-then-not-stamp : goal.returns-then-not-stamp
-returns-then-not-stamp c = mark-again _ _ _ _ _ _ c.arg_decl-name.ensures.first (ap name_word c.in-Some.is) c.stamp.ensures c.if-not-stamp.true refl
+returns-then-not-stamp c = mark-again _ _ _ _ _ _ c.arg_decl-name.ensures.first (ap name_word c.in-Some.is) c.stamp.ensures c.if-not-stamp.true c.mark.ensures
 
 pub returns-else-not-stamp : goal.returns-else-not-stamp
 returns-else-not-stamp c = mark-new _ _ _ _ _ _ c.arg_decl-name.ensures.first (ap name_word c.in-Some.is) c.stamp.ensures c.if-not-stamp.false

@@ -1,23 +1,15 @@
-use mathlib.Core.Path.{sym, ◌∙◌}
-use native.Mathlib.Omega.{arith}
-use borrow.Author.Tests.{eqb-true, eqb-false}
 use Rattle.typed.proofs.Lists.{begun-row, taken, row-short}
-use Rattle.bindings.proofs.Marking.{no-list, arguments, list-start, list-begin, list-next, list_done, list-passed, node-low, args-none}
+use Rattle.bindings.proofs.Marking.{arguments, list-start, list-begin, list-next, list_done, list-passed, node-low, args-none}
 use Rattle.bindings.proofs.BindingsChecker.mark_list.Goals as goal
 
-pub returns-then-not-is_kind : goal.returns-then-not-is_kind
-returns-then-not-is_kind c =
-    record { marks = no-list _ _ _ (eqb-false _ _ (sym c.is_kind.ensures ∙ c.if-not-is_kind.true)); stamps = λ x. let z = c.requires.1 x in omega arith }
-
 pub of-arg-items-requires : goal.of-arg-items-requires
-of-arg-items-requires c = row-short _ c.arg_decl_list.ensures (arguments _ c.args.self.now.accepted c.requires.0 c.is_kind.ensures c.if-not-is_kind.false)
+of-arg-items-requires c = row-short _ c.arg_decl_list.ensures (arguments _ c.args.self.now.accepted c.requires.0 c.requires.1)
 
 pub loop-arg-init : goal.loop-arg-init
 loop-arg-init c =
-    let r = arguments _ c.args.self.now.accepted c.requires.0 c.is_kind.ensures c.if-not-is_kind.false in
+    let r = arguments _ c.args.self.now.accepted c.requires.0 c.requires.1 in
     let o = begun-row c.into_iter-arg-iterator.ensures.into_iter_gives c.arg_decl_list.ensures r c.of-arg-items.ensures in
-    let s = list-start _ c.into_iter-arg-iterator.ensures.into_iter_gives (eqb-true _ _ (sym c.is_kind.ensures ∙ c.if-not-is_kind.false)) c.arg_decl_list.ensures c.of-arg-items.ensures _ in
-    (o.within, list-begin _ c.requires.1 s)
+    (o.within, list-begin _ c.requires.2 (list-start _ c.into_iter-arg-iterator.ensures.into_iter_gives c.requires.1 c.arg_decl_list.ensures c.of-arg-items.ensures _))
 
 pub mark_argument-requires : goal.mark_argument-requires
 mark_argument-requires c =
