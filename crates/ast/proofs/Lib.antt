@@ -10,6 +10,7 @@ pub mod Vars
 pub mod RowNames
 pub mod Acceptance
 pub mod Words
+pub mod Blank
 pub mod Scans
 pub mod Runs
 pub mod Kids

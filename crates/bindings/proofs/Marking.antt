@@ -7,7 +7,7 @@ use native.Mathlib.Nat.{sub-zero}
 use native.Mathlib.Numerals.{add-one}
 use native.Mathlib.Omega.{arith}
 use lib.Dec.{eqb}
-use lib.ListN.{length, get_or, set, replicate, length-set, length-replicate, get_or-replicate}
+use lib.ListN.{length, get_or, set, replicate, length-set, length-replicate}
 use lib.Seq.{get_or-set_same, get_or-set_other}
 use borrow.Author.Tests.{eq-eqb, ne_eqb, eqb-true, eqb-false}
 use Rattle.ast.specs.Image.{nodes, kind_at, start_at, field}
@@ -17,6 +17,7 @@ use Rattle.ast.specs.Tests.{verdict}
 use Rattle.ast.specs.Is.{Is, Run}
 use Rattle.ast.specs.Promises.{Head, Within}
 use Rattle.ast.specs.declared.Sizes.{Sizes}
+use Rattle.ast.proofs.Blank.{blank}
 use Rattle.ast.proofs.Shapes.{one_more, run-list}
 use Rattle.ast.proofs.Accepted.{sized}
 use Rattle.typed.specs.RowShapes.{Listed}
@@ -54,7 +55,7 @@ marked-at (m ∷ ns) ms n l =
 pub mark-test : (ns : List ℕ) (n : ℕ) → n < 2048 → get_or (marked ns (replicate 2048 false)) n false ≡ among n ns
 mark-test ns n l =
     marked-at ns (replicate 2048 false) n (subst (λ (x : ℕ). n < x) (sym (length-replicate {A = Bool} 2048 false)) l)
-    ∙ go (among n ns) (get_or-replicate {A = Bool} 2048 n false false l)
+    ∙ go (among n ns) (blank false 2048 n)
   where
     go : (b : Bool) {x : Bool} → x ≡ false → b || x ≡ b
     go true z = refl
@@ -62,12 +63,7 @@ mark-test ns n l =
 
 -- what was met of a list by its stamps
 pub none-earlier : {l : List ℕ} → l ≡ replicate 1024 0 → Earlier 0 l
-none-earlier e x = subst (λ (l : List ℕ). get_or l x 0 ≤ 0) (sym e) (zeros 1024 x)
-  where
-    zeros : (n x : ℕ) → get_or (replicate n 0) x 0 ≤ 0
-    zeros zero x = omega arith
-    zeros (suc n) zero = omega arith
-    zeros (suc n) (suc x) = zeros n x
+none-earlier e x = let z = ap (λ (l : List ℕ). get_or l x 0) e ∙ blank 0 1024 x in omega arith
 
 module _ (m : ℕ) where
   pub met_none : {l : List ℕ} → Earlier m l → Met m [] l
@@ -265,7 +261,7 @@ module _ (img : List ℕ) where
       from zero m l = refl
       from (suc c) m l =
           ap (λ (b : Bool). when b (row 4 m) ++ strict_from img (repeated_to img (nodes img)) c (m + 1))
-          (sym (mark-test (repeated_to img (nodes img)) m (omega arith)) ∙ ap (λ (xs : List Bool). get_or xs m false) (sym h.all ∙ e) ∙ get_or-replicate {A = Bool} 2048 m false false (omega arith))
+          (sym (mark-test (repeated_to img (nodes img)) m (omega arith)) ∙ ap (λ (xs : List Bool). get_or xs m false) (sym h.all ∙ e) ∙ blank false 2048 m)
           ∙ from c (m + 1) (omega arith)
 
   pub strict-end : (m : ℕ) → nodes img ≤ m → strict_left m ≡ []

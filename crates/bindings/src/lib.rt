@@ -470,7 +470,8 @@ impl<'a> BindingsChecker<'a> {
         self.put_marked(&marks, rows);
     }
 
-    // The argument lists by rising node number, whose kinds are read as those of an image that is sized: all are there.
+    // The argument lists, by rising node number. The image is taken as the sized one that it is, so that no read of a kind tests
+    // whether it is there.
     fn mark_lists(&self, marks: &mut Marks)
         ensures { marks.new ≡ marked (repeated_to self.now.scopes.image.now (ImageSpec.nodes self.now.scopes.image.now)) marks.old }
     {

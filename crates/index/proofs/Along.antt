@@ -10,12 +10,12 @@ use native.Mathlib.Decide.{dec_lt, ℕ_discrete}
 use native.Mathlib.Nat.{zero-add}
 use native.Mathlib.Omega.{arith}
 use lib.Dec.{ltb, ltb→lt}
-use lib.ListN.{length, get_or, set, replicate, length-set, length-replicate, get_or-replicate}
+use lib.ListN.{length, get_or, set, replicate, length-set, length-replicate}
 use lib.Seq.{get_or-set_same, get_or-set_other}
 use borrow.Author.Tests.{ltb-true, ltb-false}
-use Rattle.std.proofs.lemmas.List.{get_or_past}
 use Rattle.ast.specs.Image.{nodes, names}
 use Rattle.ast.proofs.Accepted.{both, needed, sized}
+use Rattle.ast.proofs.Blank.{blank}
 use Rattle.table.specs.Layout.{all_ones}
 use Rattle.table.specs.Rising.{scope_of, parent_at}
 use Rattle.table.specs.Table.{Table, Found, symbol_at, found}
@@ -210,20 +210,13 @@ module _ (img tab : List ℕ) where
     pub only : (q : ℕ) → get_or flags q false ≡ true → Over img table q s
     pub all : (q : ℕ) → Over img table q s → (get_or flags q false ≡ true) ⊎ Over img table q a
 
-  unset : (n q : ℕ) → get_or (replicate n false) q false ≡ false
-  unset n q = go (dec_lt q n)
-    where
-      go : Dec (q < n) → get_or (replicate n false) q false ≡ false
-      go (yes l) = get_or-replicate n q false false l
-      go (no l) = get_or_past (replicate n false) q false (let z = length-replicate n false in omega arith)
-
   pub climb-begin : (s : ℕ) → s < 2048 → Climbing s (replicate 2048 false) s
   climb-begin s l =
       record {
         long = length-replicate 2048 false;
         low = l;
         way = itself;
-        only = λ q e. absurd (false≢true (sym (unset 2048 q) ∙ e));
+        only = λ q e. absurd (false≢true (sym (blank false 2048 q) ∙ e));
         all = λ q o. inr o;
       }
 

@@ -18,6 +18,7 @@ use Rattle.ast.specs.Image.{names, bytes, bytes_place, name_start, name_end, nam
 use Rattle.ast.specs.Promises.{Within, Rises}
 use Rattle.ast.specs.Tests.{◌▸◌, need, run, same, rising, unequal, test_ends, test_twice, test_names}
 use Rattle.ast.proofs.Accepted.{skip, stop, stop-at, name_in}
+use Rattle.ast.proofs.Blank.{blank}
 use Rattle.ast.proofs.Runs.{RunLeft, run-begin, run-next, run-stop, run_end, RunSeen, seen-begin, seen_next, seen_first, seen_end}
 use Rattle.ast.proofs.Scans.{need-in, need-out}
 use Rattle.ast.specs.declared.Sizes.{Sizes}
@@ -209,15 +210,10 @@ module _ (img : List ℕ) where
         left = run-begin _ _;
         heads_long = length-replicate {A = ℕ} 1024 0;
         next_long = length-replicate {A = ℕ} 1024 0;
-        low = λ h. zeros 1024 h;
+        low = λ h. let z = blank {A = ℕ} 0 1024 h in omega arith;
         falls = λ j h. absurd (omega arith);
         reach = λ m h. absurd (omega arith);
       }
-    where
-      zeros : (n h : ℕ) → get_or (replicate n 0) h 0 ≤ 0
-      zeros zero h = omega arith
-      zeros (suc n) zero = omega arith
-      zeros (suc n) (suc h) = zeros n h
 
   pub twice-are : test_twice img ≡ run (λ i. run (unequal img i) i 0) (names img) 0
   unfolding test_twice

@@ -1,4 +1,4 @@
--- The starred small rule files of document 01, and one that is not starred, as ONE computed check of the definitions.
+-- The starred small rule files of documents 01 and 02, and one that is not starred, as ONE computed check of the definitions.
 use Rattle.std.specs.Prelude.{◌≡◌, refl, List, [], ◌∷◌, ◌++◌, ℕ, ◌+◌, replicate}
 use Rattle.ast.specs.Image.{word, nodes, kind_at, start_at, op_at, field, name_of, operands, names, bytes, last, name_end, name_start, name_bytes}
 use Rattle.ast.specs.Kinds.{kind_of}
@@ -172,20 +172,17 @@ model_list =
       names = (112 ∷ []) ∷ (77 ∷ []) ∷ [];
     }
 
+-- the rows of an argument of type T, numbered from n on; w is the word of its name
+abbrev argument : ℕ → ℕ → List (List ℕ)
+argument w n = (24 ∷ 0 ∷ []) ∷ (23 ∷ 0 ∷ n ∷ []) ∷ (10 ∷ w ∷ (n + 1) ∷ []) ∷ []
+
 -- ★One pred with two arguments named a: accepted, K = 3, Y = 3
 abbrev pub repeated_args : File
 repeated_args =
     record {
-      rows = (24 ∷ 0 ∷ [])
-          ∷ (23 ∷ 0 ∷ 0 ∷ [])
-          ∷ (10 ∷ 2 ∷ 1 ∷ [])
-          ∷ (24 ∷ 0 ∷ [])
-          ∷ (23 ∷ 0 ∷ 3 ∷ [])
-          ∷ (10 ∷ 2 ∷ 4 ∷ [])
-          ∷ (11 ∷ 2 ∷ 2 ∷ 5 ∷ [])
-          ∷ (3 ∷ 2 ∷ 6 ∷ [])
-          ∷ (1 ∷ 1 ∷ 7 ∷ [])
-          ∷ (0 ∷ 1 ∷ 8 ∷ []) ∷ [];
+      rows = argument 2 0
+          ++ argument 2 3
+          ++ ((11 ∷ 2 ∷ 2 ∷ 5 ∷ []) ∷ (3 ∷ 2 ∷ 6 ∷ []) ∷ (1 ∷ 1 ∷ 7 ∷ []) ∷ (0 ∷ 1 ∷ 8 ∷ []) ∷ []);
       names = (84 ∷ []) ∷ (97 ∷ []) ∷ (112 ∷ []) ∷ [];
     }
 
@@ -193,19 +190,10 @@ repeated_args =
 abbrev pub apart_args : File
 apart_args =
     record {
-      rows = (24 ∷ 0 ∷ [])
-          ∷ (23 ∷ 0 ∷ 0 ∷ [])
-          ∷ (10 ∷ 2 ∷ 1 ∷ [])
-          ∷ (24 ∷ 0 ∷ [])
-          ∷ (23 ∷ 0 ∷ 3 ∷ [])
-          ∷ (10 ∷ 3 ∷ 4 ∷ [])
-          ∷ (24 ∷ 0 ∷ [])
-          ∷ (23 ∷ 0 ∷ 6 ∷ [])
-          ∷ (10 ∷ 2 ∷ 7 ∷ [])
-          ∷ (11 ∷ 3 ∷ 2 ∷ 5 ∷ 8 ∷ [])
-          ∷ (3 ∷ 3 ∷ 9 ∷ [])
-          ∷ (1 ∷ 1 ∷ 10 ∷ [])
-          ∷ (0 ∷ 1 ∷ 11 ∷ []) ∷ [];
+      rows = argument 2 0
+          ++ argument 3 3
+          ++ argument 2 6
+          ++ ((11 ∷ 3 ∷ 2 ∷ 5 ∷ 8 ∷ []) ∷ (3 ∷ 3 ∷ 9 ∷ []) ∷ (1 ∷ 1 ∷ 10 ∷ []) ∷ (0 ∷ 1 ∷ 11 ∷ []) ∷ []);
       names = (84 ∷ []) ∷ (97 ∷ []) ∷ (98 ∷ []) ∷ (112 ∷ []) ∷ [];
     }
 

@@ -1,2 +1,2 @@
-// The small rule files of document 01: a computed check of the definitions, in specs/.
+// The small rule files of documents 01 and 02: a computed check of the definitions, in specs/.
 #![tactic(auto)]

@@ -1,0 +1,9 @@
+-- A list of one value has it everywhere, and past its end the default.
+use mathlib.Core.Path.{◌≡◌, refl}
+use Prim.Native.Nat.{ℕ, zero, suc}
+use lib.ListN.{get_or, replicate}
+
+pub blank : {A : Type 0} (d : A) (n i : ℕ) → get_or (replicate n d) i d ≡ d
+blank d zero i = refl
+blank d (suc n) zero = refl
+blank d (suc n) (suc i) = blank d n i
