@@ -4,33 +4,38 @@
 #include <inttypes.h>
 #include <stdio.h>
 
-static const char text[] = "pred shares(who: Person, who: Person); rule { then shares(x, y); }";
-static const char *const names[] = {"shares", "who", "Person", "x", "y"};
+static const char text[] = "pred shares(who: Person, vault: Vault, who: Person); rule { then shares(x, y, z); }";
+static const char *const names[] = {"shares", "who", "vault", "Person", "Vault", "x", "y", "z"};
 
 static const struct row file[] = {
-    {24, "Person", 0, 1, {2}},                             /* 0: the type Person */
-    {23, "Person", 0, 2, {0, 0}},                          /* 1 */
-    {10, "who: Person", 0, 2, {2, 1}},                     /* 2: the argument who */
-    {24, "Person", 1, 1, {2}},                             /* 3 */
-    {23, "Person", 1, 2, {0, 3}},                          /* 4 */
-    {10, "who: Person", 1, 2, {2, 4}},                     /* 5: the argument who, again */
-    {11, "who: Person, who: Person", 0, 3, {2, 2, 5}},     /* 6 */
-    {3, "pred shares(who: Person, who: Person);", 0, 2, {0, 6}},
-    {1, "pred shares(who: Person, who: Person);", 0, 2, {1, 7}},
-    {27, "shares", 1, 1, {0}},                             /* 9: the predicate */
-    {26, "shares", 1, 2, {0, 9}},
-    {13, "x", 0, 1, {3}},                                  /* 11: x */
-    {12, "x", 0, 2, {0, 11}},
-    {13, "y", 0, 1, {4}},                                  /* 13: y */
-    {12, "y", 0, 2, {0, 13}},
-    {22, "x, y", 0, 3, {2, 12, 14}},                       /* 15: the terms */
-    {31, "shares(x, y)", 0, 2, {10, 15}},
-    {29, "shares(x, y)", 0, 2, {2, 16}},
-    {38, "then shares(x, y);", 0, 1, {17}},
-    {36, "then shares(x, y);", 0, 2, {1, 18}},
-    {6, "rule { then shares(x, y); }", 0, 3, {0, 1, 19}},  /* 20: the rule, without a name */
-    {1, "rule { then shares(x, y); }", 0, 2, {4, 20}},
-    {0, text, 0, 3, {2, 8, 21}},                           /* 22: the module */
+    {24, "Person", 0, 1, {3}},                                          /* 0: the type Person */
+    {23, "Person", 0, 2, {0, 0}},                                       /* 1 */
+    {10, "who: Person", 0, 2, {2, 1}},                                  /* 2: the argument who */
+    {24, "Vault", 0, 1, {4}},                                           /* 3 */
+    {23, "Vault", 0, 2, {0, 3}},                                        /* 4 */
+    {10, "vault: Vault", 0, 2, {3, 4}},                                 /* 5: the argument vault */
+    {24, "Person", 1, 1, {3}},                                          /* 6 */
+    {23, "Person", 1, 2, {0, 6}},                                       /* 7 */
+    {10, "who: Person", 1, 2, {2, 7}},                                  /* 8: the argument who, again */
+    {11, "who: Person, vault: Vault, who: Person", 0, 4, {3, 2, 5, 8}}, /* 9 */
+    {3, "pred shares(who: Person, vault: Vault, who: Person);", 0, 2, {0, 9}},
+    {1, "pred shares(who: Person, vault: Vault, who: Person);", 0, 2, {1, 10}},
+    {27, "shares", 1, 1, {0}},                                          /* 12: the predicate */
+    {26, "shares", 1, 2, {0, 12}},
+    {13, "x", 0, 1, {5}},                                               /* 14: x */
+    {12, "x", 0, 2, {0, 14}},
+    {13, "y", 0, 1, {6}},                                               /* 16: y */
+    {12, "y", 0, 2, {0, 16}},
+    {13, "z", 0, 1, {7}},                                               /* 18: z */
+    {12, "z", 0, 2, {0, 18}},
+    {22, "x, y, z", 0, 4, {3, 15, 17, 19}},                             /* 20: the terms */
+    {31, "shares(x, y, z)", 0, 2, {13, 20}},
+    {29, "shares(x, y, z)", 0, 2, {2, 21}},
+    {38, "then shares(x, y, z);", 0, 1, {22}},
+    {36, "then shares(x, y, z);", 0, 2, {1, 23}},
+    {6, "rule { then shares(x, y, z); }", 0, 3, {0, 1, 24}},            /* 25: the rule, without a name */
+    {1, "rule { then shares(x, y, z); }", 0, 2, {4, 25}},
+    {0, text, 0, 3, {2, 11, 26}},                                       /* 27: the module */
 };
 
 enum { NODES = sizeof file / sizeof *file, NAMES = sizeof names / sizeof *names };

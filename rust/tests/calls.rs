@@ -249,6 +249,48 @@ fn errors_writes_rows() {
     );
 }
 
+/// A predicate with arguments of so many names, each a number from 1 on, or 0 for none; their list has them in the sequence of
+/// `order`. Argument i is node 3 i + 2.
+fn arguments(names: &[u32], order: &[u32]) -> Vec<u8> {
+    let mut rows: Vec<(u32, Vec<u32>)> = Vec::new();
+    for name in names {
+        let n = rows.len() as u32;
+        rows.extend([(24, vec![0]), (23, vec![0, n]), (10, vec![*name, n + 1])]);
+    }
+    let n = rows.len() as u32;
+    let list = [names.len() as u32].into_iter().chain(order.iter().map(|i| 3 * i + 2)).collect();
+    rows.extend([(11, list), (3, vec![0, n]), (1, vec![1, n + 1]), (0, vec![1, n + 2])]);
+    let rows: Vec<(u32, &[u32])> = rows.iter().map(|(kind, words)| (*kind, &words[..])).collect();
+    image(&rows, &["a", "b", "c"])
+}
+
+#[test]
+fn strict_finds_repeated_arguments() {
+    let strict = |names: &[u32], order: &[u32]| {
+        let image = arguments(names, order);
+        let n = 3 * names.len() + 4;
+        let (mut table, mut rows) = (vec![0; table_len(n)], vec![0; rows_len(n)]);
+        assert_eq!(errors(&image, &mut table, &mut rows, Mode::Plain), Rows::Written(0));
+        let Rows::Written(count) = errors(&image, &mut table, &mut rows, Mode::Strict) else { panic!("no rows") };
+        let list: Vec<_> = pairs(&rows, n).collect();
+        assert_eq!(list.len(), count as usize);
+        assert!(list.iter().all(|row| row.0 == 4));
+        list.iter().map(|row| row.1).collect::<Vec<_>>()
+    };
+    // next to one another, and further apart
+    assert_eq!(strict(&[1, 1], &[0, 1]), [5]);
+    assert_eq!(strict(&[1, 2, 1], &[0, 1, 2]), [8]);
+    assert_eq!(strict(&[1, 1, 1], &[0, 1, 2]), [5, 8]);
+    assert_eq!(strict(&[1, 2, 1, 2, 3, 1], &[0, 1, 2, 3, 4, 5]), [8, 11, 17]);
+    // no name twice; no names
+    assert_eq!(strict(&[1, 2, 3], &[0, 1, 2]), []);
+    assert_eq!(strict(&[0, 0, 1, 0], &[0, 1, 2, 3]), []);
+    assert_eq!(strict(&[1, 0, 2, 0, 1], &[0, 1, 2, 3, 4]), [14]);
+    // earlier in the list's sequence; rows by rising node number
+    assert_eq!(strict(&[1, 2, 1], &[2, 1, 0]), [2]);
+    assert_eq!(strict(&[1, 2, 1, 2], &[3, 2, 1, 0]), [2, 5]);
+}
+
 #[test]
 fn sorted_writes_rows_by_place() {
     let mut table = vec![7; table_len(19) + 1];
