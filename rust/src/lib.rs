@@ -301,8 +301,11 @@ pub enum Once {
 #[derive(Copy, Clone, Debug, PartialEq, Eq, Hash)]
 #[repr(u32)]
 pub enum Mode {
+    /// As plain.
     Default = 0,
+    /// Rows 1 to 3.
     Plain = 1,
+    /// After them rows 4: each named argument whose name an earlier argument of its list has.
     Strict = 2,
 }
 

@@ -1,4 +1,4 @@
-// Runs the small rule files of document 01, and byte strings at the limits of size: NAME.image has the report NAME.report. The
+// Runs the small rule files of both documents, and byte strings at the limits of size: NAME.image has the report NAME.report. The
 // rule files are those of crates/starred, whose definitions give the same bytes and the same lines.
 #![tactic(auto)]
 
@@ -35,6 +35,8 @@ const RULES: &[&str] = &[
     "model_list",
     // ★One pred with two arguments named a
     "repeated_args",
+    // ★One pred with the arguments a, b, a
+    "apart_args",
     // ★Match case of constructor Foo on (x, x)
     "match_case",
     // `then p(dom x)`, x new
