@@ -3,7 +3,10 @@ use mathlib.Core.Path.{◌≡◌, refl, sym, ap, ap₂, subst, ◌∙◌}
 use mathlib.Core.Bool.{Bool, true, false, ◌||◌}
 use mathlib.Core.List.{List, [], ◌∷◌, ◌++◌}
 use Prim.Native.Nat.{ℕ, zero, suc, ◌+◌, ◌-◌, ◌<◌, ◌≤◌}
-use native.Mathlib.Nat.{sub-zero}
+use native.Mathlib.Nat.{sub-zero, add-zero, zero-add}
+use native.Mathlib.Decide.{dec_lt}
+use Rattle.std.specs.Prelude.{min}
+use Rattle.std.proofs.Math.Nat.{min-le_right, le-min}
 use native.Mathlib.Numerals.{add-one}
 use native.Mathlib.Omega.{arith}
 use lib.Dec.{eqb}
@@ -252,18 +255,37 @@ module _ (img : List ℕ) where
       (q ∙ ap (λ (xs : List Bool). get_or xs m false) h.all
       ∙ mark-test (repeated_to img (nodes img)) m (node-low img a l))
 
-  -- no mark, no row
-  pub strict-none : {ms : List Bool} {count : ℕ} → verdict img ≡ 0 → AllMarked img ms count → ms ≡ replicate 2048 false → strict_rows img ≡ []
-  unfolding strict_from when
-  strict-none {ms} a h e = strict-start ∙ from (nodes img - 0) 0 (let s = (sized img a).few_nodes in omega arith)
-    where
-      from : (c m : ℕ) → m + c ≤ 2048 → strict_from img (repeated_to img (nodes img)) c m ≡ []
-      from zero m l = refl
-      from (suc c) m l =
-          ap (λ (b : Bool). when b (row 4 m) ++ strict_from img (repeated_to img (nodes img)) c (m + 1))
-          (sym (mark-test (repeated_to img (nodes img)) m (omega arith)) ∙ ap (λ (xs : List Bool). get_or xs m false) (sym h.all ∙ e) ∙ blank false 2048 m)
-          ∙ from c (m + 1) (omega arith)
-
   pub strict-end : (m : ℕ) → nodes img ≤ m → strict_left m ≡ []
   unfolding strict_from
   strict-end m h = let z : nodes img - m ≡ 0 = omega arith in ap (λ (c : ℕ). strict_from img (repeated_to img (nodes img)) c m) z
+
+  -- the rows are looked for up to the end of the marks, and before that of the nodes
+  pub before-end : {m e k : ℕ} (end : ℕ) → m < e → e ≡ min end k → k ≡ nodes img → m < nodes img
+  before-end {k = k} end l q c = let r = min-le_right end k in omega arith
+
+  -- where no node is marked there is no row
+  module _ {ms : List Bool} {count : ℕ} (a : verdict img ≡ 0) (h : AllMarked img ms count) where
+    skips : (d m : ℕ) → ((n : ℕ) → m ≤ n → n < m + d → get_or ms n false ≡ false) → strict_left m ≡ strict_left (m + d)
+    unfolding when
+    skips zero m f = ap strict_left (sym (add-zero m))
+    skips (suc d) m f = go (dec_lt m (nodes img)) (skips d (m + 1) (λ n p q. f n (omega arith) (omega arith)))
+      where
+        go : Dec (m < nodes img) → strict_left (m + 1) ≡ strict_left (m + 1 + d) → strict_left m ≡ strict_left (m + suc d)
+        go (yes l) more =
+            strict-item m a h l refl
+            ∙ ap (λ (b : Bool). when b (row 4 m) ++ strict_left (m + 1)) (f m (omega arith) (omega arith))
+            ∙ more
+            ∙ ap strict_left (let z : m + 1 + d ≡ m + suc d = omega arith in z)
+        go (no l) more = strict-end m (omega arith) ∙ sym (strict-end (m + suc d) (omega arith))
+
+    -- none below `first`, and none from `end` on
+    pub strict-first : (first : ℕ) → ((n : ℕ) → n < first → get_or ms n false ≡ false) → strict_rows img ≡ strict_left first
+    strict-first first f = strict-start ∙ skips first 0 (λ n p q. f n (omega arith)) ∙ ap strict_left (zero-add first)
+
+    pub strict-rest : {e k : ℕ} (end m : ℕ) → ((n : ℕ) → end ≤ n → get_or ms n false ≡ false) → e ≡ min end k → k ≡ nodes img → e ≤ m → strict_left m ≡ []
+    strict-rest {k = k} end m f q c l = go (dec_lt m (nodes img)) (dec_lt m end)
+      where
+        go : Dec (m < nodes img) → Dec (m < end) → strict_left m ≡ []
+        go (yes n) (yes j) = absurd (let r = le-min {k = suc m} {a = end} {b = k} (omega arith) (omega arith) in omega arith)
+        go (yes n) (no j) = skips (nodes img - m) m (λ n p q. f n (omega arith)) ∙ strict-end (m + (nodes img - m)) (omega arith)
+        go (no n) j = strict-end m (omega arith)

@@ -1,7 +1,7 @@
 // Position-local binding checks on rule bodies: the error rows.
 #![tactic(auto)]
 
-ghost use Rattle.std.specs.Prelude.{◌≡◌, true, false, [], ◌∷◌, ◌+◌, ◌<◌, ◌≤◌, ◌^◌, length, get_or, set, replicate, IfOk};
+ghost use Rattle.std.specs.Prelude.{◌≡◌, true, false, [], ◌∷◌, ◌+◌, ◌<◌, ◌≤◌, ◌^◌, ℕ, length, get_or, set, replicate, IfOk};
 ghost use Rattle.std.proofs.Math.Option.{some};
 ghost use Rattle.ast.specs.Is.{Is};
 ghost use Rattle.ast.specs.Image as ImageSpec;
@@ -90,23 +90,23 @@ fn report(rows: &mut Rows, kind: ErrorKind, node: NodeId)
     rows.put(kind.row_number(), node.0);
 }
 
-// Strict mode's marks, by node, in fixed memory, since there is no heap. `any` is false where no node is marked, so that they need
-// not be gone through.
+// Strict mode's marks, by node, in fixed memory, since there is no heap: none below `first`, and none from `end` on.
 #[derive(Drop)]
 struct Marks {
     nodes: [bool; NODES],
-    any: bool,
+    first: u32,
+    end: u32,
 }
 
 impl Model for Marks {
-    ghost use Rattle.std.specs.Prelude.{◌≡◌, Bool, true, false, List, length, replicate};
+    ghost use Rattle.std.specs.Prelude.{◌≡◌, Bool, true, false, List, ℕ, ◌<◌, ◌≤◌, length, get_or};
     ghost use Rattle.environment.specs.Layout.{nodes_most};
 
     ghost Value = { List Bool };
 
     ghost view = { λ m. m.nodes };
 
-    ghost invariant = { λ m. (length m.nodes ≡ nodes_most) × (m.any ≡ false → m.nodes ≡ replicate nodes_most false) };
+    ghost invariant = { λ m. (length m.nodes ≡ nodes_most) × ((n : ℕ) → get_or m.nodes n false ≡ true → (m.first ≤ n) × (n < m.end)) };
 }
 
 impl Marks {
@@ -115,7 +115,8 @@ impl Marks {
     {
         Marks {
             nodes: [false; NODES],
-            any: false,
+            first: u32::MAX,
+            end: 0,
         }
     }
 
@@ -124,7 +125,8 @@ impl Marks {
         ensures { self.new ≡ set self.old node.0 true }
     {
         self.nodes[node.0 as usize] = true;
-        self.any = true;
+        self.first = self.first.min(node.0);
+        self.end = self.end.max(node.0 + 1);
     }
 
     fn is_marked(&self, node: NodeId) -> bool
@@ -134,10 +136,17 @@ impl Marks {
         self.nodes[node.0 as usize]
     }
 
-    fn none(&self) -> bool
-        ensures { result ≡ true → self.now ≡ replicate nodes_most false }
+    // Below this number no node is marked, and from the other on.
+    fn first(&self) -> u32
+        ensures { (n : ℕ) → n < result → get_or self.now n false ≡ false }
     {
-        !self.any
+        self.first
+    }
+
+    fn end(&self) -> u32
+        ensures { (n : ℕ) → result ≤ n → get_or self.now n false ≡ false }
+    {
+        self.end
     }
 }
 
@@ -518,10 +527,8 @@ impl<'a> BindingsChecker<'a> {
         requires { AllMarked self.now.scopes.image.now marks.now rows.old.count }
         ensures { Appends (strict_rows self.now.scopes.image.now) rows.old rows.new }
     {
-        if marks.none() {
-            return;
-        }
-        for m in 0..ast::node_count(self.scopes.image) {
+        let end = marks.end().min(ast::node_count(self.scopes.image));
+        for m in marks.first()..end {
             if marks.is_marked(NodeId(m)) {
                 report(rows, ErrorKind::RepeatedArgument, NodeId(m));
             }
