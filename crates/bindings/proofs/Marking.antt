@@ -1,12 +1,12 @@
 -- Laws of strict mode's marks.
 use mathlib.Core.Path.{◌≡◌, refl, sym, ap, ap₂, subst, ◌∙◌}
 use mathlib.Core.Bool.{Bool, true, false, ◌||◌}
-use mathlib.Core.List.{List, [], ◌∷◌, ◌++◌}
-use Prim.Native.Nat.{ℕ, zero, suc, ◌+◌, ◌-◌, ◌<◌, ◌≤◌}
-use native.Mathlib.Nat.{sub-zero, add-zero, zero-add}
+use mathlib.Core.List.{List, [], ◌∷◌, ◌++◌, append_assoc}
+use Prim.Native.Nat.{ℕ, zero, suc, ◌+◌, ◌-◌, ◌*◌, ◌/◌, ◌<◌, ◌≤◌}
+use native.Mathlib.Nat.{sub-zero, add-zero}
 use native.Mathlib.Decide.{dec_lt}
 use Rattle.std.specs.Prelude.{min}
-use Rattle.std.proofs.Math.Nat.{min-le_right, le-min}
+use Rattle.std.proofs.Math.Nat.{min-le_left, min-le_right, le-min}
 use native.Mathlib.Numerals.{add-one}
 use native.Mathlib.Omega.{arith}
 use lib.Dec.{eqb}
@@ -34,7 +34,7 @@ use Rattle.scopes.specs.Twice.{among}
 use Rattle.rows.specs.Rows.{Row, row, when}
 use Rattle.bindings.specs.Errors.{repeated, args_of, repeated_in, repeated_to, strict_from, strict_rows}
 use Rattle.scopes.specs.Promises.{Stamped}
-use Rattle.bindings.specs.Promises.{marked, Earlier, Met, MarkedOne, AllMarked}
+use Rattle.bindings.specs.Promises.{marked, Earlier, Met, MarkedOne, AllMarked, span_rows, group_rows}
 
 pub marked_append : (ns ks : List ℕ) (ms : List Bool) → marked (ns ++ ks) ms ≡ marked ks (marked ns ms)
 unfolding marked
@@ -232,60 +232,79 @@ pub to_start : (img : List ℕ) (ms : List Bool) → ms ≡ marked (repeated_to 
 unfolding repeated_to marked
 to_start img ms = refl
 
--- row 4: what is left after m nodes
+-- rows 4 of the nodes from a on, up to the end e
 module _ (img : List ℕ) where
-  abbrev pub strict_left : ℕ → List Row
-  strict_left m = strict_from img (repeated_to img (nodes img)) (nodes img - m) m
-
-  pub strict-start : strict_rows img ≡ strict_left 0
+  pub strict-start : strict_rows img ≡ span_rows img 0 (nodes img)
   unfolding strict_rows
   strict-start = ap (λ (c : ℕ). strict_from img (repeated_to img (nodes img)) c 0) (sym (sub-zero (nodes img)))
 
-  pub strict_more : (m : ℕ) {b : Bool} → m < nodes img → b ≡ among m (repeated_to img (nodes img)) → strict_left m ≡ when b (row 4 m) ++ strict_left (m + 1)
+  strict_more : (e m : ℕ) {b : Bool} → m < e → b ≡ among m (repeated_to img (nodes img)) → span_rows img m e ≡ when b (row 4 m) ++ span_rows img (m + 1) e
   unfolding strict_from
-  strict_more m h e =
+  strict_more e m h q =
       ap (λ (c : ℕ). strict_from img (repeated_to img (nodes img)) c m) (one_more h)
-      ∙ ap (λ (b : Bool). when b (row 4 m) ++ strict_left (m + 1)) (sym e)
+      ∙ ap (λ (b : Bool). when b (row 4 m) ++ span_rows img (m + 1) e) (sym q)
 
-  -- the same by the marks
-  pub strict-item : {ms : List Bool} {count : ℕ} {b : Bool} (m : ℕ) → verdict img ≡ 0 → AllMarked img ms count → m < nodes img → b ≡ get_or ms m false
-      → strict_left m ≡ when b (row 4 m) ++ strict_left (m + 1)
-  strict-item {ms} m a h l q =
-      strict_more m l
-      (q ∙ ap (λ (xs : List Bool). get_or xs m false) h.all
-      ∙ mark-test (repeated_to img (nodes img)) m (node-low img a l))
-
-  pub strict-end : (m : ℕ) → nodes img ≤ m → strict_left m ≡ []
+  pub strict-end : (e m : ℕ) → e ≤ m → span_rows img m e ≡ []
   unfolding strict_from
-  strict-end m h = let z : nodes img - m ≡ 0 = omega arith in ap (λ (c : ℕ). strict_from img (repeated_to img (nodes img)) c m) z
+  strict-end e m h = let z : e - m ≡ 0 = omega arith in ap (λ (c : ℕ). strict_from img (repeated_to img (nodes img)) c m) z
 
-  -- the rows are looked for up to the end of the marks, and before that of the nodes
-  pub before-end : {m e k : ℕ} (end : ℕ) → m < e → e ≡ min end k → k ≡ nodes img → m < nodes img
-  before-end {k = k} end l q c = let r = min-le_right end k in omega arith
+  module _ {ms : List Bool} {count : ℕ} {l : List Row} (a : verdict img ≡ 0) (h : AllMarked img ms count l) where
+    -- one node more, by the marks
+    pub strict-item : {b : Bool} (e m : ℕ) → e ≤ nodes img → m < e → b ≡ get_or ms m false → span_rows img m e ≡ when b (row 4 m) ++ span_rows img (m + 1) e
+    strict-item e m k l q =
+        strict_more e m l
+        (q ∙ ap (λ (xs : List Bool). get_or xs m false) h.all
+        ∙ mark-test (repeated_to img (nodes img)) m (node-low img a (let z = l in omega arith)))
 
-  -- where no node is marked there is no row
-  module _ {ms : List Bool} {count : ℕ} (a : verdict img ≡ 0) (h : AllMarked img ms count) where
-    skips : (d m : ℕ) → ((n : ℕ) → m ≤ n → n < m + d → get_or ms n false ≡ false) → strict_left m ≡ strict_left (m + d)
+    -- none where no node is marked
+    pub skips : (d m : ℕ) → ((n : ℕ) → m ≤ n → n < m + d → get_or ms n false ≡ false) → span_rows img m (nodes img) ≡ span_rows img (m + d) (nodes img)
     unfolding when
-    skips zero m f = ap strict_left (sym (add-zero m))
+    skips zero m f = ap (λ (m : ℕ). span_rows img m (nodes img)) (sym (add-zero m))
     skips (suc d) m f = go (dec_lt m (nodes img)) (skips d (m + 1) (λ n p q. f n (omega arith) (omega arith)))
       where
-        go : Dec (m < nodes img) → strict_left (m + 1) ≡ strict_left (m + 1 + d) → strict_left m ≡ strict_left (m + suc d)
-        go (yes l) more =
-            strict-item m a h l refl
-            ∙ ap (λ (b : Bool). when b (row 4 m) ++ strict_left (m + 1)) (f m (omega arith) (omega arith))
+        go : Dec (m < nodes img) → span_rows img (m + 1) (nodes img) ≡ span_rows img (m + 1 + d) (nodes img) → span_rows img m (nodes img) ≡ span_rows img (m + suc d) (nodes img)
+        go (yes k) more =
+            strict-item (nodes img) m (omega arith) k refl
+            ∙ ap (λ (b : Bool). when b (row 4 m) ++ span_rows img (m + 1) (nodes img)) (f m (omega arith) (omega arith))
             ∙ more
-            ∙ ap strict_left (let z : m + 1 + d ≡ m + suc d = omega arith in z)
-        go (no l) more = strict-end m (omega arith) ∙ sym (strict-end (m + suc d) (omega arith))
+            ∙ ap (λ (m : ℕ). span_rows img m (nodes img)) (let z : m + 1 + d ≡ m + suc d = omega arith in z)
+        go (no k) more = strict-end (nodes img) m (omega arith) ∙ sym (strict-end (nodes img) (m + suc d) (omega arith))
 
-    -- none below `first`, and none from `end` on
-    pub strict-first : (first : ℕ) → ((n : ℕ) → n < first → get_or ms n false ≡ false) → strict_rows img ≡ strict_left first
-    strict-first first f = strict-start ∙ skips first 0 (λ n p q. f n (omega arith)) ∙ ap strict_left (zero-add first)
+  -- before the end of a group
+  pub group_end : {e k m : ℕ} (g : ℕ) → e ≡ min (g * 32 + 32) k → k ≡ nodes img → m < e → (m < min (g * 32 + 32) (nodes img)) × (m < nodes img)
+  group_end {m = m} g q c l =
+      let z : m < min (g * 32 + 32) (nodes img) = subst (λ (e : ℕ). m < e) (q ∙ ap (min (g * 32 + 32)) c) l in
+      (z, let r = min-le_right (g * 32 + 32) (nodes img) in omega arith)
 
-    pub strict-rest : {e k : ℕ} (end m : ℕ) → ((n : ℕ) → end ≤ n → get_or ms n false ≡ false) → e ≡ min end k → k ≡ nodes img → e ≤ m → strict_left m ≡ []
-    strict-rest {k = k} end m f q c l = go (dec_lt m (nodes img)) (dec_lt m end)
-      where
-        go : Dec (m < nodes img) → Dec (m < end) → strict_left m ≡ []
-        go (yes n) (yes j) = absurd (let r = le-min {k = suc m} {a = end} {b = k} (omega arith) (omega arith) in omega arith)
-        go (yes n) (no j) = skips (nodes img - m) m (λ n p q. f n (omega arith)) ∙ strict-end (m + (nodes img - m)) (omega arith)
-        go (no n) j = strict-end m (omega arith)
+  -- a group of nodes, and those after it
+  pub strict-split : (d m : ℕ) → span_rows img m (nodes img) ≡ span_rows img m (min (m + d) (nodes img)) ++ span_rows img (m + d) (nodes img)
+  strict-split zero m =
+      sym (ap (λ (l : List Row). l ++ span_rows img (m + 0) (nodes img)) (strict-end (min (m + 0) (nodes img)) m (let q = min-le_left (m + 0) (nodes img) in omega arith))
+      ∙ ap (λ (m : ℕ). span_rows img m (nodes img)) (add-zero m))
+  strict-split (suc d) m = go (dec_lt m (nodes img)) (strict-split d (m + 1))
+    where
+      after : ℕ
+      after = m + suc d
+
+      go : Dec (m < nodes img) → span_rows img (m + 1) (nodes img) ≡ span_rows img (m + 1) (min (m + 1 + d) (nodes img)) ++ span_rows img (m + 1 + d) (nodes img)
+          → span_rows img m (nodes img) ≡ span_rows img m (min after (nodes img)) ++ span_rows img after (nodes img)
+      go (yes k) more =
+          let w = when (among m (repeated_to img (nodes img))) (row 4 m) in
+          strict_more (nodes img) m k refl
+          ∙ ap (λ (l : List Row). w ++ l)
+          (more ∙ ap (λ (n : ℕ). span_rows img (m + 1) (min n (nodes img)) ++ span_rows img n (nodes img)) (let z : m + 1 + d ≡ after = omega arith in z))
+          ∙ sym (append_assoc w (span_rows img (m + 1) (min after (nodes img))) (span_rows img after (nodes img)))
+          ∙ ap (λ (l : List Row). l ++ span_rows img after (nodes img)) (sym (strict_more (min after (nodes img)) m (le-min {k = suc m} {a = after} {b = nodes img} (omega arith) (omega arith)) refl))
+      go (no k) more =
+          strict-end (nodes img) m (omega arith)
+          ∙ sym (ap (λ (l : List Row). l ++ span_rows img after (nodes img)) (strict-end (min after (nodes img)) m (let q = min-le_right after (nodes img) in omega arith)) ∙ strict-end (nodes img) after (omega arith))
+
+  -- the group g: its rows, and none where no node of it is marked
+  pub group-next : (g : ℕ) → span_rows img (g * 32) (nodes img) ≡ group_rows img g ++ span_rows img ((g + 1) * 32) (nodes img)
+  group-next g = strict-split 32 (g * 32) ∙ ap (λ (m : ℕ). group_rows img g ++ span_rows img m (nodes img)) (let z : g * 32 + 32 ≡ (g + 1) * 32 = omega arith in z)
+
+  pub group-none : {ms : List Bool} {count : ℕ} {l : List Row} → verdict img ≡ 0 → AllMarked img ms count l → (g : ℕ) → ((n : ℕ) → n / 32 ≡ g → get_or ms n false ≡ false)
+      → span_rows img (g * 32) (nodes img) ≡ [] ++ span_rows img ((g + 1) * 32) (nodes img)
+  group-none a h g f =
+      skips a h 32 (g * 32) (λ n p q. f n (let z : n / 32 ≡ g = omega arith in z))
+      ∙ ap (λ (m : ℕ). span_rows img m (nodes img)) (let z : g * 32 + 32 ≡ (g + 1) * 32 = omega arith in z)

@@ -1,5 +1,5 @@
 -- What the contracts of the checks cite.
-use Rattle.std.specs.Prelude.{◌≡◌, Bool, true, false, List, [], ◌∷◌, ◌++◌, ℕ, zero, suc, ◌+◌, ◌<◌, ◌≤◌, ◌^◌, eqb, length, get_or, set, replicate, Result, Ok, Err}
+use Rattle.std.specs.Prelude.{◌≡◌, Bool, true, false, List, [], ◌∷◌, ◌++◌, ℕ, zero, suc, ◌+◌, ◌-◌, ◌*◌, ◌<◌, ◌≤◌, ◌^◌, min, eqb, length, get_or, set, replicate, Result, Ok, Err}
 use Rattle.ast.specs.Image.{nodes, field}
 use Rattle.ast.specs.Kinds.{Kind, kind_of}
 use Rattle.ast.specs.Is.{Is, Run}
@@ -17,7 +17,7 @@ use Rattle.rows.specs.Rows.{Row}
 use Rattle.scopes.specs.Twice.{among}
 use Rattle.bindings.specs.declared.Mode.{Mode}
 use Rattle.bindings.specs.declared.Mode.TheVariants.{Plain, Strict}
-use Rattle.bindings.specs.Errors.{is_ctor, defined_row, arg_row, rows_of, rows_seq, pattern_rows, arg_rows, decl_rows, decls_rows, plain_rows, repeated, repeated_to, strict_rows, is_strict}
+use Rattle.bindings.specs.Errors.{is_ctor, defined_row, arg_row, rows_of, rows_seq, pattern_rows, arg_rows, decl_rows, decls_rows, plain_rows, repeated, repeated_to, strict_from, strict_rows, is_strict}
 
 -- the mode of a number
 abbrev pub mode_of : ℕ → Result Mode Refusal
@@ -129,10 +129,17 @@ pub record Met (m : ℕ) (seen stamps : List ℕ) : Type 0 where
 pub record MarkedOne (img : List ℕ) (m n : ℕ) (ms : List Bool) (l : List ℕ) (vs : List Bool) (k : List ℕ) : Type 0 where
   pub so : (seen : List ℕ) → Met m seen l → (after : List ℕ) × Met m after k × ((ns : List ℕ) → marked (repeated img seen (n ∷ ns)) ms ≡ marked (repeated img after ns) vs)
 
--- all of them are marked, and the count has room for their rows
-pub record AllMarked (img : List ℕ) (ms : List Bool) (count : ℕ) : Type 0 where
+-- all of them are marked, and the count has room for the rows l
+pub record AllMarked (img : List ℕ) (ms : List Bool) (count : ℕ) (l : List Row) : Type 0 where
   pub all : ms ≡ marked (repeated_to img (nodes img)) (replicate nodes_most false)
-  pub fits : count + length (strict_rows img) < 2 ^ 32
+  pub fits : count + length l < 2 ^ 32
+
+-- rows 4 at the nodes from a to before e, and at those of a group of 32
+abbrev pub span_rows : List ℕ → (a e : ℕ) → List Row
+span_rows img a e = strict_from img (repeated_to img (nodes img)) (e - a) a
+
+abbrev pub group_rows : List ℕ → ℕ → List Row
+group_rows img g = span_rows img (g * 32) (min (g * 32 + 32) (nodes img))
 
 -- the rows that strict mode adds, by the number of the mode, and by the mode
 abbrev pub of_mode : List ℕ → ℕ → List Row

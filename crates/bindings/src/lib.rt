@@ -1,7 +1,7 @@
 // Position-local binding checks on rule bodies: the error rows.
 #![tactic(auto)]
 
-ghost use Rattle.std.specs.Prelude.{◌≡◌, true, false, [], ◌∷◌, ◌+◌, ◌<◌, ◌≤◌, ◌^◌, ℕ, length, get_or, set, replicate, IfOk};
+ghost use Rattle.std.specs.Prelude.{◌≡◌, true, false, [], ◌∷◌, ◌+◌, ◌<◌, ◌≤◌, ◌/◌, ◌^◌, ℕ, length, get_or, set, replicate, IfOk};
 ghost use Rattle.std.proofs.Math.Option.{some};
 ghost use Rattle.ast.specs.Is.{Is};
 ghost use Rattle.ast.specs.Image as ImageSpec;
@@ -17,7 +17,7 @@ ghost use Rattle.environment.specs.Reading.{seen};
 ghost use Rattle.rows.specs.Rows.{row, rows_length, Appends, Wrote};
 ghost use Rattle.scopes.specs.Answers.{rowed_answer};
 ghost use Rattle.bindings.specs.Errors.{same_node, introduces, introduced_row, strict_rows, repeated_in, repeated_to, test_errors, errors};
-ghost use Rattle.bindings.specs.Promises.{Ready, ReadyAll, Defines, PlainVariable, IsMode, mode_of, Earlier, inside, of_stmts, of_decl, of_decls, of_defined, of_variable, of_head, of_pattern, of_case, of_args, of_arg, names_ctor, mode_rows, all_rows, marked, MarkedOne, AllMarked};
+ghost use Rattle.bindings.specs.Promises.{Ready, ReadyAll, Defines, PlainVariable, IsMode, mode_of, Earlier, inside, of_stmts, of_decl, of_decls, of_defined, of_variable, of_head, of_pattern, of_case, of_args, of_arg, names_ctor, mode_rows, all_rows, marked, MarkedOne, AllMarked, group_rows};
 
 use ast::kind::Kind;
 use ast::{NODES, NodeId, SizedImage};
@@ -90,23 +90,27 @@ fn report(rows: &mut Rows, kind: ErrorKind, node: NodeId)
     rows.put(kind.row_number(), node.0);
 }
 
-// Strict mode's marks, by node, in fixed memory, since there is no heap: none below `first`, and none from `end` on.
+// So many nodes at a time, so that those of which none is marked are passed over.
+const GROUP: usize = 32;
+
+const GROUPS: usize = NODES / GROUP;
+
+// Strict mode's marks, by node, and by group whether it may have one. In fixed memory, since there is no heap.
 #[derive(Drop)]
 struct Marks {
     nodes: [bool; NODES],
-    first: u32,
-    end: u32,
+    groups: [bool; GROUPS],
 }
 
 impl Model for Marks {
-    ghost use Rattle.std.specs.Prelude.{◌≡◌, Bool, true, false, List, ℕ, ◌<◌, ◌≤◌, length, get_or};
+    ghost use Rattle.std.specs.Prelude.{◌≡◌, Bool, true, false, List, ℕ, ◌/◌, length, get_or};
     ghost use Rattle.environment.specs.Layout.{nodes_most};
 
     ghost Value = { List Bool };
 
     ghost view = { λ m. m.nodes };
 
-    ghost invariant = { λ m. (length m.nodes ≡ nodes_most) × ((n : ℕ) → get_or m.nodes n false ≡ true → (m.first ≤ n) × (n < m.end)) };
+    ghost invariant = { λ m. (length m.nodes ≡ nodes_most) × (length m.groups ≡ 64) × ((n : ℕ) → get_or m.nodes n false ≡ true → get_or m.groups (n / 32) false ≡ true) };
 }
 
 impl Marks {
@@ -115,8 +119,7 @@ impl Marks {
     {
         Marks {
             nodes: [false; NODES],
-            first: u32::MAX,
-            end: 0,
+            groups: [false; GROUPS],
         }
     }
 
@@ -125,8 +128,7 @@ impl Marks {
         ensures { self.new ≡ set self.old node.0 true }
     {
         self.nodes[node.0 as usize] = true;
-        self.first = self.first.min(node.0);
-        self.end = self.end.max(node.0 + 1);
+        self.groups[node.0 as usize / GROUP] = true;
     }
 
     fn is_marked(&self, node: NodeId) -> bool
@@ -136,17 +138,12 @@ impl Marks {
         self.nodes[node.0 as usize]
     }
 
-    // Below this number no node is marked, and from the other on.
-    fn first(&self) -> u32
-        ensures { (n : ℕ) → n < result → get_or self.now n false ≡ false }
+    // Whether a node of the group may be marked.
+    fn has(&self, group: usize) -> bool
+        requires { group < 64 }
+        ensures { result ≡ false → (n : ℕ) → n / 32 ≡ group → get_or self.now n false ≡ false }
     {
-        self.first
-    }
-
-    fn end(&self) -> u32
-        ensures { (n : ℕ) → result ≤ n → get_or self.now n false ≡ false }
-    {
-        self.end
+        self.groups[group]
     }
 }
 
@@ -524,11 +521,24 @@ impl<'a> BindingsChecker<'a> {
 
     // Row 4 at each marked node, by rising node number.
     fn put_marked(&self, marks: &Marks, rows: &mut Rows)
-        requires { AllMarked self.now.scopes.image.now marks.now rows.old.count }
+        requires { AllMarked self.now.scopes.image.now marks.now rows.old.count (strict_rows self.now.scopes.image.now) }
         ensures { Appends (strict_rows self.now.scopes.image.now) rows.old rows.new }
     {
-        let end = marks.end().min(ast::node_count(self.scopes.image));
-        for m in marks.first()..end {
+        for group in 0..GROUPS {
+            if marks.has(group) {
+                self.put_group(marks, rows, group);
+            }
+        }
+    }
+
+    // The same at those of a group.
+    fn put_group(&self, marks: &Marks, rows: &mut Rows, group: usize)
+        requires { AllMarked self.now.scopes.image.now marks.now rows.old.count (group_rows self.now.scopes.image.now group) × (group < 64) }
+        ensures { Appends (group_rows self.now.scopes.image.now group) rows.old rows.new }
+    {
+        let start = (group * GROUP) as u32;
+        let end = (start + GROUP as u32).min(ast::node_count(self.scopes.image));
+        for m in start..end {
             if marks.is_marked(NodeId(m)) {
                 report(rows, ErrorKind::RepeatedArgument, NodeId(m));
             }
