@@ -405,8 +405,9 @@ fn time_strict(image: &[u8], subject: &dyn Calls) -> (f64, f64, u32) {
 
 /// Strict mode beside plain: lists of 600 arguments, many short lists, and files with few named arguments.
 fn run_strict(subject: &dyn Calls) {
-    let inputs: [(&str, Vec<u8>); 7] = [
+    let inputs: [(&str, Vec<u8>); 8] = [
         ("600 arguments, all of different names", arguments(1, 600, 600)),
+        ("600 arguments, the last named as the first", arguments(1, 600, 599)),
         ("600 arguments, two names in turn", arguments(1, 600, 2)),
         ("600 arguments, one name", arguments(1, 600, 1)),
         ("600 arguments, no name", arguments(1, 600, 0)),

@@ -232,12 +232,17 @@ pub to_start : (img : List ℕ) (ms : List Bool) → ms ≡ marked (repeated_to 
 unfolding repeated_to marked
 to_start img ms = refl
 
--- rows 4 of the nodes from a on, up to the end e
+-- rows 4
 module _ (img : List ℕ) where
-  pub strict-start : strict_rows img ≡ span_rows img 0 (nodes img)
+  -- what is left from the node m on
+  abbrev pub strict_left : ℕ → List Row
+  strict_left m = span_rows img m (nodes img)
+
+  pub strict-start : strict_rows img ≡ strict_left 0
   unfolding strict_rows
   strict-start = ap (λ (c : ℕ). strict_from img (repeated_to img (nodes img)) c 0) (sym (sub-zero (nodes img)))
 
+  -- up to an end, one node more
   strict_more : (e m : ℕ) {b : Bool} → m < e → b ≡ among m (repeated_to img (nodes img)) → span_rows img m e ≡ when b (row 4 m) ++ span_rows img (m + 1) e
   unfolding strict_from
   strict_more e m h q =
@@ -249,62 +254,58 @@ module _ (img : List ℕ) where
   strict-end e m h = let z : e - m ≡ 0 = omega arith in ap (λ (c : ℕ). strict_from img (repeated_to img (nodes img)) c m) z
 
   module _ {ms : List Bool} {count : ℕ} {l : List Row} (a : verdict img ≡ 0) (h : AllMarked img ms count l) where
-    -- one node more, by the marks
+    -- the same by the marks
     pub strict-item : {b : Bool} (e m : ℕ) → e ≤ nodes img → m < e → b ≡ get_or ms m false → span_rows img m e ≡ when b (row 4 m) ++ span_rows img (m + 1) e
     strict-item e m k l q =
         strict_more e m l
         (q ∙ ap (λ (xs : List Bool). get_or xs m false) h.all
         ∙ mark-test (repeated_to img (nodes img)) m (node-low img a (let z = l in omega arith)))
 
-    -- none where no node is marked
-    pub skips : (d m : ℕ) → ((n : ℕ) → m ≤ n → n < m + d → get_or ms n false ≡ false) → span_rows img m (nodes img) ≡ span_rows img (m + d) (nodes img)
+    -- none at nodes that are not marked
+    skips : (d m : ℕ) → ((n : ℕ) → m ≤ n → n < m + d → get_or ms n false ≡ false) → strict_left m ≡ strict_left (m + d)
     unfolding when
-    skips zero m f = ap (λ (m : ℕ). span_rows img m (nodes img)) (sym (add-zero m))
+    skips zero m f = ap strict_left (sym (add-zero m))
     skips (suc d) m f = go (dec_lt m (nodes img)) (skips d (m + 1) (λ n p q. f n (omega arith) (omega arith)))
       where
-        go : Dec (m < nodes img) → span_rows img (m + 1) (nodes img) ≡ span_rows img (m + 1 + d) (nodes img) → span_rows img m (nodes img) ≡ span_rows img (m + suc d) (nodes img)
+        go : Dec (m < nodes img) → strict_left (m + 1) ≡ strict_left (m + 1 + d) → strict_left m ≡ strict_left (m + suc d)
         go (yes k) more =
             strict-item (nodes img) m (omega arith) k refl
-            ∙ ap (λ (b : Bool). when b (row 4 m) ++ span_rows img (m + 1) (nodes img)) (f m (omega arith) (omega arith))
+            ∙ ap (λ (b : Bool). when b (row 4 m) ++ strict_left (m + 1)) (f m (omega arith) (omega arith))
             ∙ more
-            ∙ ap (λ (m : ℕ). span_rows img m (nodes img)) (let z : m + 1 + d ≡ m + suc d = omega arith in z)
+            ∙ ap strict_left (let z : m + 1 + d ≡ m + suc d = omega arith in z)
         go (no k) more = strict-end (nodes img) m (omega arith) ∙ sym (strict-end (nodes img) (m + suc d) (omega arith))
 
-  -- before the end of a group
-  pub group_end : {e k m : ℕ} (g : ℕ) → e ≡ min (g * 32 + 32) k → k ≡ nodes img → m < e → (m < min (g * 32 + 32) (nodes img)) × (m < nodes img)
-  group_end {m = m} g q c l =
-      let z : m < min (g * 32 + 32) (nodes img) = subst (λ (e : ℕ). m < e) (q ∙ ap (min (g * 32 + 32)) c) l in
-      (z, let r = min-le_right (g * 32 + 32) (nodes img) in omega arith)
-
-  -- a group of nodes, and those after it
-  pub strict-split : (d m : ℕ) → span_rows img m (nodes img) ≡ span_rows img m (min (m + d) (nodes img)) ++ span_rows img (m + d) (nodes img)
-  strict-split zero m =
-      sym (ap (λ (l : List Row). l ++ span_rows img (m + 0) (nodes img)) (strict-end (min (m + 0) (nodes img)) m (let q = min-le_left (m + 0) (nodes img) in omega arith))
-      ∙ ap (λ (m : ℕ). span_rows img m (nodes img)) (add-zero m))
-  strict-split (suc d) m = go (dec_lt m (nodes img)) (strict-split d (m + 1))
+  -- those of some nodes, and those after them
+  split_at : (d m : ℕ) → strict_left m ≡ span_rows img m (min (m + d) (nodes img)) ++ strict_left (m + d)
+  split_at zero m =
+      sym (ap (λ (l : List Row). l ++ strict_left (m + 0)) (strict-end (min (m + 0) (nodes img)) m (let q = min-le_left (m + 0) (nodes img) in omega arith)) ∙ ap strict_left (add-zero m))
+  split_at (suc d) m = go (dec_lt m (nodes img)) (split_at d (m + 1))
     where
       after : ℕ
       after = m + suc d
 
-      go : Dec (m < nodes img) → span_rows img (m + 1) (nodes img) ≡ span_rows img (m + 1) (min (m + 1 + d) (nodes img)) ++ span_rows img (m + 1 + d) (nodes img)
-          → span_rows img m (nodes img) ≡ span_rows img m (min after (nodes img)) ++ span_rows img after (nodes img)
+      go : Dec (m < nodes img) → strict_left (m + 1) ≡ span_rows img (m + 1) (min (m + 1 + d) (nodes img)) ++ strict_left (m + 1 + d)
+          → strict_left m ≡ span_rows img m (min after (nodes img)) ++ strict_left after
       go (yes k) more =
           let w = when (among m (repeated_to img (nodes img))) (row 4 m) in
           strict_more (nodes img) m k refl
-          ∙ ap (λ (l : List Row). w ++ l)
-          (more ∙ ap (λ (n : ℕ). span_rows img (m + 1) (min n (nodes img)) ++ span_rows img n (nodes img)) (let z : m + 1 + d ≡ after = omega arith in z))
-          ∙ sym (append_assoc w (span_rows img (m + 1) (min after (nodes img))) (span_rows img after (nodes img)))
-          ∙ ap (λ (l : List Row). l ++ span_rows img after (nodes img)) (sym (strict_more (min after (nodes img)) m (le-min {k = suc m} {a = after} {b = nodes img} (omega arith) (omega arith)) refl))
+          ∙ ap (λ (l : List Row). w ++ l) (more ∙ ap (λ (n : ℕ). span_rows img (m + 1) (min n (nodes img)) ++ strict_left n) (let z : m + 1 + d ≡ after = omega arith in z))
+          ∙ sym (append_assoc w (span_rows img (m + 1) (min after (nodes img))) (strict_left after))
+          ∙ ap (λ (l : List Row). l ++ strict_left after) (sym (strict_more (min after (nodes img)) m (le-min {k = suc m} {a = after} {b = nodes img} (omega arith) (omega arith)) refl))
       go (no k) more =
           strict-end (nodes img) m (omega arith)
-          ∙ sym (ap (λ (l : List Row). l ++ span_rows img after (nodes img)) (strict-end (min after (nodes img)) m (let q = min-le_right after (nodes img) in omega arith)) ∙ strict-end (nodes img) after (omega arith))
+          ∙ sym (ap (λ (l : List Row). l ++ strict_left after) (strict-end (min after (nodes img)) m (let q = min-le_right after (nodes img) in omega arith)) ∙ strict-end (nodes img) after (omega arith))
 
   -- the group g: its rows, and none where no node of it is marked
-  pub group-next : (g : ℕ) → span_rows img (g * 32) (nodes img) ≡ group_rows img g ++ span_rows img ((g + 1) * 32) (nodes img)
-  group-next g = strict-split 32 (g * 32) ∙ ap (λ (m : ℕ). group_rows img g ++ span_rows img m (nodes img)) (let z : g * 32 + 32 ≡ (g + 1) * 32 = omega arith in z)
+  pub group-next : (g : ℕ) → strict_left (g * 32) ≡ group_rows img g ++ strict_left ((g + 1) * 32)
+  group-next g = split_at 32 (g * 32) ∙ ap (λ (m : ℕ). group_rows img g ++ strict_left m) (let z : g * 32 + 32 ≡ (g + 1) * 32 = omega arith in z)
 
   pub group-none : {ms : List Bool} {count : ℕ} {l : List Row} → verdict img ≡ 0 → AllMarked img ms count l → (g : ℕ) → ((n : ℕ) → n / 32 ≡ g → get_or ms n false ≡ false)
-      → span_rows img (g * 32) (nodes img) ≡ [] ++ span_rows img ((g + 1) * 32) (nodes img)
-  group-none a h g f =
-      skips a h 32 (g * 32) (λ n p q. f n (let z : n / 32 ≡ g = omega arith in z))
-      ∙ ap (λ (m : ℕ). span_rows img m (nodes img)) (let z : g * 32 + 32 ≡ (g + 1) * 32 = omega arith in z)
+      → strict_left (g * 32) ≡ strict_left ((g + 1) * 32)
+  group-none a h g f = skips a h 32 (g * 32) (λ n p q. f n (let z : n / 32 ≡ g = omega arith in z)) ∙ ap strict_left (let z : g * 32 + 32 ≡ (g + 1) * 32 = omega arith in z)
+
+  -- a node before the end of a group
+  pub group_end : {e k m : ℕ} (g : ℕ) → e ≡ min (g * 32 + 32) k → k ≡ nodes img → m < e → (m < min (g * 32 + 32) (nodes img)) × (m < nodes img)
+  group_end {m = m} g q c l =
+      let z : m < min (g * 32 + 32) (nodes img) = subst (λ (e : ℕ). m < e) (q ∙ ap (min (g * 32 + 32)) c) l in
+      (z, let r = min-le_right (g * 32 + 32) (nodes img) in omega arith)
