@@ -16,7 +16,7 @@
  *
  * Stack: EQLOG_STACK_BYTES are enough for any call on any image. Nesting reaches some 1,000 levels, and the walks
  * over the tree call themselves once or more for each. Measured on the deepest images of eight forms (terms, app heads,
- * members, arguments, branches, matches, models, each in itself): 350,000 bytes are enough for every call, 340,000 are
+ * members, arguments, branches, matches, models, each in itself): 330,000 bytes are enough for every call, 320,000 are
  * not.
  * The proof is about a machine with no stack: a thread with less is ended by the system's guard page.
  *
