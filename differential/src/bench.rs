@@ -48,31 +48,16 @@ impl File {
         self.s.push(23, vec![Plain(0), Child(child)])
     }
 
-    fn args(&mut self, types: &[&str]) -> usize {
-        let args: Vec<usize> = types
-            .iter()
-            .map(|t| {
-                let typ = self.type_expr(t);
-                self.s.push(10, vec![MaybeName(None), Child(typ)])
+    /// Arguments, each a name, if it has one, and a type.
+    fn args<'a>(&mut self, args: impl Iterator<Item = (Option<&'a str>, &'a str)>) -> usize {
+        let args: Vec<usize> = args
+            .map(|(name, typ)| {
+                let typ = self.type_expr(typ);
+                let name = name.map(|name| self.name(name));
+                self.s.push(10, vec![MaybeName(name), Child(typ)])
             })
             .collect();
         self.list(11, Vec::new(), &args)
-    }
-
-    /// A predicate whose arguments, all of one type, have these names.
-    fn pred_of(&mut self, name: &str, args: &[Option<String>]) {
-        let name = self.name(name);
-        let args: Vec<usize> = args
-            .iter()
-            .map(|arg| {
-                let typ = self.type_expr("Person");
-                let arg = arg.as_deref().map(|text| self.name(text));
-                self.s.push(10, vec![MaybeName(arg), Child(typ)])
-            })
-            .collect();
-        let list = self.list(11, Vec::new(), &args);
-        let child = self.s.push(3, vec![Name(name), Child(list)]);
-        self.decl(1, child);
     }
 
     fn type_decl(&mut self, name: &str) {
@@ -81,16 +66,16 @@ impl File {
         self.decl(0, child);
     }
 
-    fn pred_decl(&mut self, name: &str, types: &[&str]) {
+    fn pred_decl<'a>(&mut self, name: &str, args: impl Iterator<Item = (Option<&'a str>, &'a str)>) {
         let name = self.name(name);
-        let args = self.args(types);
+        let args = self.args(args);
         let child = self.s.push(3, vec![Name(name), Child(args)]);
         self.decl(1, child);
     }
 
     fn func_decl(&mut self, name: &str, types: &[&str], result: &str) {
         let name = self.name(name);
-        let args = self.args(types);
+        let args = self.args(unnamed(types));
         let result = self.type_expr(result);
         let child = self.s.push(4, vec![Name(name), Child(args), Child(result)]);
         self.decl(2, child);
@@ -164,13 +149,18 @@ impl File {
     }
 }
 
+/// Arguments of these types, without names.
+fn unnamed<'a>(types: &'a [&'a str]) -> impl Iterator<Item = (Option<&'a str>, &'a str)> {
+    types.iter().map(|typ| (None, *typ))
+}
+
 /// Sharing rules: some types, predicates and functions, then rules of 5 to 10 variables each, every variable used twice.
 fn typical(rules: usize, nodes: usize) -> Vec<u8> {
     let mut f = File::default();
     for t in ["Person", "Vault", "Login"] {
         f.type_decl(t);
     }
-    f.pred_decl("shares", &["Person", "Vault", "Person"]);
+    f.pred_decl("shares", unnamed(&["Person", "Vault", "Person"]));
     f.func_decl("owner", &["Vault"], "Person");
     let vars: Vec<String> = (0..10).map(|i| format!("v{i}")).collect();
     for made in 0..rules {
@@ -383,7 +373,7 @@ fn arguments(predicates: usize, count: usize, names: usize) -> Vec<u8> {
     let mut f = File::default();
     let args: Vec<Option<String>> = (0..count).map(|i| (names > 0).then(|| format!("a{}", i % names))).collect();
     for i in 0..predicates {
-        f.pred_of(&format!("p{i}"), &args);
+        f.pred_decl(&format!("p{i}"), args.iter().map(|name| (name.as_deref(), "Person")));
     }
     f.done(0)
 }

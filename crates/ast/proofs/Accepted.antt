@@ -13,7 +13,8 @@ use Rattle.ast.specs.Image.{nodes, op_at, operands, names, bytes, name_start, na
 use Rattle.ast.specs.Kinds.{Field, name, opt_name, child, opt_child, list, lists, cases, no_child}
 use Rattle.ast.specs.Rows.{after, after_blocks, after_fields, row_end}
 use Rattle.ast.specs.Tests.{◌▸◌, need, run, same, in_row, is_child, child_word, test_blocks, test_field, test_fields, test_node, test_tree, test_sizes, test_ends, test_twice, test_names, verdict}
-use Rattle.ast.specs.Promises.{Rises}
+use Rattle.ast.specs.Promises.{Head, Within, Rises}
+use Rattle.ast.specs.declared.Sizes.{Sizes}
 use Rattle.ast.proofs.Formed.{Child, Items, FormedBlocks, FormedField, FormedFields, FormedNode, Formed}
 
 pub both : (a b : ℕ) → a ▸ b ≡ 0 → (a ≡ 0) × (b ≡ 0)
@@ -209,6 +210,10 @@ module _ (img : List ℕ) where
 
   pub sized : verdict img ≡ 0 → Sized
   sized e = sizes-ok (passed e).sizes
+
+  -- and then so are the sizes read in front
+  pub within : {s : Sizes} → Sized → Head img s → Within img s
+  within z h = record { head = h; some = omega arith; few = omega arith; short = omega arith; called = omega arith; long = omega arith; exact = omega arith }
 
   -- each word of the four areas lies within the image
   pub words-in : Sized → (n p i : ℕ) → n < nodes img → p < operands img → i < names img

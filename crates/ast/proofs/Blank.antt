@@ -1,4 +1,4 @@
--- A list of one value has it everywhere, and past its end the default.
+-- A list of one value has it everywhere, where it is what is read past the end.
 use mathlib.Core.Path.{◌≡◌, refl}
 use Prim.Native.Nat.{ℕ, zero, suc}
 use lib.ListN.{get_or, replicate}

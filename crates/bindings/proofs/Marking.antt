@@ -18,8 +18,6 @@ use Rattle.ast.specs.Kinds.{kind_of}
 use Rattle.ast.specs.Rows.{ops_from}
 use Rattle.ast.specs.Tests.{verdict}
 use Rattle.ast.specs.Is.{Is, Run}
-use Rattle.ast.specs.Promises.{Head, Within}
-use Rattle.ast.specs.declared.Sizes.{Sizes}
 use Rattle.ast.proofs.Blank.{blank}
 use Rattle.ast.proofs.Shapes.{one_more, run-list}
 use Rattle.ast.proofs.Accepted.{sized}
@@ -203,22 +201,6 @@ module _ (img : List ℕ) where
   -- and the stamps are earlier ones for the next node
   pub list-passed : {node : ℕ} {whole ms : List Bool} {l : List ℕ} {s : Items ArgDeclId} → Marking node whole s ms l → Earlier (node + 1) l
   list-passed g x = let q = g.met.earlier x in omega arith
-
-  -- the sizes of an accepted image are those of all its words
-  pub sized-within : {s : Sizes} → verdict img ≡ 0 → Head img s → Within img s
-  sized-within a h =
-      let s = sized img a in
-      let n = h.nodes_are in
-      let c = h.operands_are in
-      let k = h.names_are in
-      let b = h.bytes_are in
-      let some = s.some in
-      let few = s.few_nodes in
-      let short = s.few_operands in
-      let called = s.few_names in
-      let long = s.few_bytes in
-      let exact = s.exact in
-      record { head = h; some = omega arith; few = omega arith; short = omega arith; called = omega arith; long = omega arith; exact = omega arith }
 
   -- a node: there are at most 2,048
   pub node-low : {n : ℕ} → verdict img ≡ 0 → n < nodes img → n < 2048

@@ -134,12 +134,19 @@ pub record AllMarked (img : List ℕ) (ms : List Bool) (count : ℕ) (l : List R
   pub all : ms ≡ marked (repeated_to img (nodes img)) (replicate nodes_most false)
   pub fits : count + length l < 2 ^ 32
 
--- rows 4 at the nodes from a to before e, and at those of a group of 32
+-- the marks are gone through by groups of so many nodes, of which there are so many
+abbrev pub group_nodes : ℕ
+group_nodes = 32
+
+abbrev pub groups_most : ℕ
+groups_most = 64
+
+-- rows 4 at the nodes from a to before e, and at those of a group
 abbrev pub span_rows : List ℕ → (a e : ℕ) → List Row
 span_rows img a e = strict_from img (repeated_to img (nodes img)) (e - a) a
 
 abbrev pub group_rows : List ℕ → ℕ → List Row
-group_rows img g = span_rows img (g * 32) (min (g * 32 + 32) (nodes img))
+group_rows img g = span_rows img (g * group_nodes) (min (g * group_nodes + group_nodes) (nodes img))
 
 -- the rows that strict mode adds, by the number of the mode, and by the mode
 abbrev pub of_mode : List ℕ → ℕ → List Row

@@ -17,7 +17,7 @@ ghost use Rattle.environment.specs.Reading.{seen};
 ghost use Rattle.rows.specs.Rows.{row, rows_length, Appends, Wrote};
 ghost use Rattle.scopes.specs.Answers.{rowed_answer};
 ghost use Rattle.bindings.specs.Errors.{same_node, introduces, introduced_row, strict_rows, repeated_in, repeated_to, test_errors, errors};
-ghost use Rattle.bindings.specs.Promises.{Ready, ReadyAll, Defines, PlainVariable, IsMode, mode_of, Earlier, inside, of_stmts, of_decl, of_decls, of_defined, of_variable, of_head, of_pattern, of_case, of_args, of_arg, names_ctor, mode_rows, all_rows, marked, MarkedOne, AllMarked, group_rows};
+ghost use Rattle.bindings.specs.Promises.{Ready, ReadyAll, Defines, PlainVariable, IsMode, mode_of, Earlier, inside, of_stmts, of_decl, of_decls, of_defined, of_variable, of_head, of_pattern, of_case, of_args, of_arg, names_ctor, mode_rows, all_rows, marked, MarkedOne, AllMarked, group_nodes, groups_most, group_rows};
 
 use ast::kind::Kind;
 use ast::{NODES, NodeId, SizedImage};
@@ -90,7 +90,7 @@ fn report(rows: &mut Rows, kind: ErrorKind, node: NodeId)
     rows.put(kind.row_number(), node.0);
 }
 
-// So many nodes at a time, so that those of which none is marked are passed over.
+// The marks are gone through by groups of so many nodes: a group of which none is marked is passed over.
 const GROUP: usize = 32;
 
 const GROUPS: usize = NODES / GROUP;
@@ -105,12 +105,13 @@ struct Marks {
 impl Model for Marks {
     ghost use Rattle.std.specs.Prelude.{◌≡◌, Bool, true, false, List, ℕ, ◌/◌, length, get_or};
     ghost use Rattle.environment.specs.Layout.{nodes_most};
+    ghost use Rattle.bindings.specs.Promises.{group_nodes, groups_most};
 
     ghost Value = { List Bool };
 
     ghost view = { λ m. m.nodes };
 
-    ghost invariant = { λ m. (length m.nodes ≡ nodes_most) × (length m.groups ≡ 64) × ((n : ℕ) → get_or m.nodes n false ≡ true → get_or m.groups (n / 32) false ≡ true) };
+    ghost invariant = { λ m. (length m.nodes ≡ nodes_most) × (length m.groups ≡ groups_most) × ((n : ℕ) → get_or m.nodes n false ≡ true → get_or m.groups (n / group_nodes) false ≡ true) };
 }
 
 impl Marks {
@@ -140,8 +141,8 @@ impl Marks {
 
     // Whether a node of the group may be marked.
     fn has(&self, group: usize) -> bool
-        requires { group < 64 }
-        ensures { result ≡ false → (n : ℕ) → n / 32 ≡ group → get_or self.now n false ≡ false }
+        requires { group < groups_most }
+        ensures { result ≡ false → (n : ℕ) → n / group_nodes ≡ group → get_or self.now n false ≡ false }
     {
         self.groups[group]
     }
@@ -533,7 +534,7 @@ impl<'a> BindingsChecker<'a> {
 
     // The same at those of a group.
     fn put_group(&self, marks: &Marks, rows: &mut Rows, group: usize)
-        requires { AllMarked self.now.scopes.image.now marks.now rows.old.count (group_rows self.now.scopes.image.now group) × (group < 64) }
+        requires { AllMarked self.now.scopes.image.now marks.now rows.old.count (group_rows self.now.scopes.image.now group) × (group < groups_most) }
         ensures { Appends (group_rows self.now.scopes.image.now group) rows.old rows.new }
     {
         let start = (group * GROUP) as u32;

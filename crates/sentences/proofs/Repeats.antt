@@ -63,13 +63,16 @@ module _ (img : List ℕ) where
   unfolding repeated
   by-word seen x ns w e = ap (by_word seen x ns) e
 
-  -- one argument before
-  one-before : {seen ns : List ℕ} {n : ℕ} (x : ℕ) → Within seen ns n → Within seen (x ∷ ns) n
-  one-before x h = record { before = x ∷ h.before; after = h.after; name = h.name; split = ap (λ (l : List ℕ). x ∷ l) h.split; named = h.named; carried = ⊎_elim inl (λ c. inr (c.0, Memᴰ.tail c.1, c.2)) h.carried }
-
-  -- with its name
-  name-before : {seen ns : List ℕ} {n y : ℕ} (x : ℕ) → field img x 0 ≡ suc y → Within (y ∷ seen) ns n → Within seen (x ∷ ns) n
-  name-before {y = y} x e h = record { before = x ∷ h.before; after = h.after; name = h.name; split = ap (λ (l : List ℕ). x ∷ l) h.split; named = h.named; carried = ⊎_elim (λ m. ⊎_elim (λ q. inr (x, Memᴰ.head refl, e ∙ ap suc (sym q))) inl (Memᴰ.cases_cons m)) (λ c. inr (c.0, Memᴰ.tail c.1, c.2)) h.carried }
+  -- one argument before: what was carried after it is its name, or was carried before
+  first-before : {seen l ns : List ℕ} {n : ℕ} (x : ℕ) → ((y : ℕ) → Memᴰ y l → (field img x 0 ≡ suc y) ⊎ Memᴰ y seen) → Within l ns n → Within seen (x ∷ ns) n
+  first-before x f h = record {
+    before = x ∷ h.before;
+    after = h.after;
+    name = h.name;
+    split = ap (λ (l : List ℕ). x ∷ l) h.split;
+    named = h.named;
+    carried = ⊎_elim (λ m. ⊎_elim (λ q. inr (x, Memᴰ.head refl, q)) inl (f h.name m)) (λ c. inr (c.0, Memᴰ.tail c.1, c.2)) h.carried;
+  }
 
   repeats : (seen ns : List ℕ) {n : ℕ} → Memᴰ n (repeated img seen ns) → Within seen ns n
   unfolding repeated
@@ -77,14 +80,17 @@ module _ (img : List ℕ) where
   repeats seen (x ∷ ns) {n} m = go (field img x 0) refl (λ l. repeats l ns) m
     where
       go : (w : ℕ) → field img x 0 ≡ w → ((l : List ℕ) → Memᴰ n (repeated img l ns) → Within l ns n) → Memᴰ n (by_word seen x ns w) → Within seen (x ∷ ns) n
-      go zero e ih k = one-before x (ih seen k)
+      go zero e ih k = first-before x (λ z m. inr m) (ih seen k)
       go (suc y) e ih k = pick (among y seen) refl k
         where
+          later : Memᴰ n (repeated img (y ∷ seen) ns) → Within seen (x ∷ ns) n
+          later m = first-before x (λ z l. ⊎_elim (λ q. inl (e ∙ ap suc (sym q))) inr (Memᴰ.cases_cons l)) (ih (y ∷ seen) m)
+
           pick : (b : Bool) → among y seen ≡ b → Memᴰ n (elim b as (λ _. List ℕ) [ true ↦ x ∷ repeated img (y ∷ seen) ns | false ↦ repeated img (y ∷ seen) ns ]) → Within seen (x ∷ ns) n
           pick true q c =
               ⊎_elim (λ z. record { before = []; after = ns; name = y; split = ap (λ (v : ℕ). v ∷ ns) (sym z); named = ap (λ (v : ℕ). field img v 0) z ∙ e; carried = inl (among-mem y seen q) })
-              (λ l. name-before x e (ih (y ∷ seen) l)) (Memᴰ.cases_cons c)
-          pick false q c = name-before x e (ih (y ∷ seen) c)
+              later (Memᴰ.cases_cons c)
+          pick false q c = later c
 
   -- the other way
   within-repeats : {n y : ℕ} (seen before after : List ℕ) → field img n 0 ≡ suc y → Memᴰ y seen ⊎ Carried y before → Memᴰ n (repeated img seen (before ++ (n ∷ after)))

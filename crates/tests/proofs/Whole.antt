@@ -13,9 +13,9 @@ use borrow.Author.Tests.{lt-ltb, le-ltb, le-leb, lt-leb, eq-eqb, ne_eqb, eqb-tru
 use Rattle.ast.specs.Image.{nodes, kind_at, start_at, op_at, field, operands, names, bytes, last}
 use Rattle.ast.specs.Kinds.{Field, name, opt_name, child, opt_child, list, lists, cases, kind_of}
 use Rattle.ast.specs.Rows.{numbers, kids, kids_to, fields_at, row_end, after}
-use Rattle.ast.specs.Promises.{Head, Within, claim_all}
+use Rattle.ast.specs.Promises.{claim_all}
 use Rattle.ast.specs.Tests.{◌▸◌, need, run, in_row, child_word, test_field, test_fields, times, first, is_var, test_var, test_sizes, test_node, test_parents, test_tree, end_before}
-use Rattle.ast.proofs.Accepted.{both, needed, skip, stop, stop-at, sizes-ok}
+use Rattle.ast.proofs.Accepted.{both, needed, skip, stop, stop-at}
 use Rattle.error.specs.declared.Refusal.{Refusal}
 use Rattle.error.specs.declared.Refusal.TheVariants as refusal
 use Rattle.tests.specs.Rows.{FieldsStep}
@@ -28,7 +28,6 @@ use Rattle.std.specs.Prelude.{Result, Ok, Err}
 use Rattle.ast.proofs.Runs.{RunLeft, run-begin, run-next, run-stop, run_end}
 use Rattle.ast.proofs.Scans.{need-in, need-out, claim-append, ▸-assoc}
 use Rattle.tests.proofs.Entries.{some-field}
-use Rattle.ast.specs.declared.Sizes.{Sizes}
 use Rattle.ast.specs.declared.NodeId.{NodeId}
 use Rattle.typed.specs.Nodes.{term_of, term_at}
 use Rattle.typed.specs.declared.nodes.IdentTermId.{IdentTermId}
@@ -279,12 +278,6 @@ module _ (img : List ℕ) where
 
   pub nodes-passed : run (test_node img) (nodes img) 0 ≡ 0 → run (test_node img) (nodes img) 0 ▸ test_tree img ≡ test_tree img
   nodes-passed e = skip _ _ e
-
-  -- what the sizes say, where they pass
-  pub sized-within : (s : Sizes) → Head img s → test_sizes img ≡ 0 → Within img s
-  sized-within s h e =
-      let z = sizes-ok img e in
-      record { head = h; some = omega arith; few = omega arith; short = omega arith; called = omega arith; long = omega arith; exact = omega arith }
 
   -- 1 to 3
   size-1 : 16 ≤ length img → need 1 (leb 16 (length img)) ≡ 0

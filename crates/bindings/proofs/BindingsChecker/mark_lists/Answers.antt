@@ -2,9 +2,10 @@ use mathlib.Core.Path.{sym, ap, subst, ◌∙◌}
 use Prim.Native.Nat.{◌+◌}
 use native.Mathlib.Omega.{arith}
 use borrow.Author.Tests.{eqb-false}
+use Rattle.ast.proofs.Accepted.{sized, within}
 use Rattle.bindings.specs.Errors.{repeated_in}
 use Rattle.bindings.specs.Promises.{marked, Earlier}
-use Rattle.bindings.proofs.Marking.{to_start, to-next, no-list, none-earlier, sized-within}
+use Rattle.bindings.proofs.Marking.{to_start, to-next, no-list, none-earlier}
 use Rattle.bindings.proofs.BindingsChecker.mark_lists.Goals.{then-is_kind, else-is_kind}
 use Rattle.bindings.proofs.BindingsChecker.mark_lists.Goals as goal
 
@@ -12,7 +13,7 @@ pub loop-m-init : goal.loop-m-init
 loop-m-init c = (to_start _ _, none-earlier c.new-stamps.ensures)
 
 pub invariant_of-sized : goal.invariant_of-sized
-invariant_of-sized c = record { within = sized-within _ c.args.self.now.accepted c.sizes_of.ensures }
+invariant_of-sized c = record { within = within _ (sized _ c.args.self.now.accepted) c.sizes_of.ensures }
 
 pub loop-m-preserved : goal.loop-m-preserved
 loop-m-preserved c =
