@@ -1,4 +1,5 @@
-/* The error rows of a small rule file through the C interface: in the sequence of the check, and by place. */
+/* The error rows of a small rule file through the C interface, in the usual mode, which is strict: in the sequence of the check,
+ * and by place. */
 #include "rule_file.h"
 
 #include <inttypes.h>
@@ -58,6 +59,6 @@ static int print_rows(const char *what, uint64_t answer) {
 
 int main(void) {
     put_image(text, file, NODES, names, NAMES);
-    return print_rows("errors:", eqlog_errors(image, image_len, table, EQLOG_TABLE_WORDS(NODES), rows, EQLOG_ROWS_WORDS(NODES), EQLOG_STRICT))
-        || print_rows("sorted:", eqlog_sorted(image, image_len, table, EQLOG_TABLE_WORDS(NODES), rows, EQLOG_ROWS_WORDS(NODES), EQLOG_STRICT));
+    return print_rows("errors:", eqlog_errors(image, image_len, table, EQLOG_TABLE_WORDS(NODES), rows, EQLOG_ROWS_WORDS(NODES), EQLOG_DEFAULT))
+        || print_rows("sorted:", eqlog_sorted(image, image_len, table, EQLOG_TABLE_WORDS(NODES), rows, EQLOG_ROWS_WORDS(NODES), EQLOG_DEFAULT));
 }

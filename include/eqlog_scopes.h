@@ -154,14 +154,19 @@ enum eqlog_symbol {
     EQLOG_VAR = 9
 };
 
-enum eqlog_mode { EQLOG_DEFAULT = 0, EQLOG_PLAIN = 1, EQLOG_STRICT = 2 };
+/* How eqlog_errors and eqlog_sorted check: strict, unless the caller says EQLOG_PLAIN. */
+enum eqlog_mode {
+    EQLOG_DEFAULT = 0, /* strict, as EQLOG_STRICT: the usual mode */
+    EQLOG_PLAIN = 1,   /* error rows 1 to 3 alone: for a check at each key press, and what equals the original Rust */
+    EQLOG_STRICT = 2   /* error rows 1 to 3, then rows 4 */
+};
 
 /* The numbers of error rows. */
 enum eqlog_error {
     EQLOG_INTRODUCED_IN_THEN = 1, /* VariableIntroducedInThenStmt, at the term */
     EQLOG_DEFINED_NOT_NEW = 2,    /* ThenDefinedVarNotNew, at the variable's term */
     EQLOG_PATTERN_NOT_FRESH = 3,  /* MatchPatternArgVarIsNotFresh, at the argument's term */
-    EQLOG_REPEATED_ARGUMENT = 4   /* strict mode: an argument whose name an earlier one of its list has */
+    EQLOG_REPEATED_ARGUMENT = 4   /* not in EQLOG_PLAIN: at an argument whose name an earlier one of its list has */
 };
 
 /* Fills the table. Result: b is K, c is Y. Refuses 1 to 13. */
@@ -186,7 +191,8 @@ uint64_t eqlog_index(const uint8_t *image, size_t image_len, const uint32_t *tab
 uint64_t eqlog_lookup_indexed(const uint8_t *image, size_t image_len, const uint32_t *table, size_t table_len,
                               const uint32_t *index, size_t index_len, uint32_t scope, const uint8_t *name, size_t name_len);
 
-/* Resolves, then writes the error rows: a count, then error numbers and nodes. Result: c is the count. Refuses 1 to 15. */
+/* Resolves, then writes the error rows of the mode (enum eqlog_mode): a count, then error numbers and nodes. Result: c is
+ * the count. Refuses 1 to 15. */
 uint64_t eqlog_errors(const uint8_t *image, size_t image_len, uint32_t *table, size_t table_len, uint32_t *rows,
                       size_t rows_len, uint32_t mode);
 

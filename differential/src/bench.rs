@@ -5,7 +5,7 @@
 
 use std::time::Instant;
 
-use differential::calls::{Answer, Calls};
+use differential::calls::{Answer, Calls, PLAIN, STRICT};
 use differential::image::{Sketch, Word};
 use differential::inputs::{deep, pad, Deep};
 use differential::make::{Make, Style};
@@ -311,7 +311,7 @@ fn time(name: &str, image: &[u8], subject: &dyn Calls) -> Line {
         rust[0].push(clock(|| sink(built.resolve())));
         here[0].push(clock(|| add(subject.resolve(image, &mut table))));
         rust[1].push(clock(|| sink(built.errors())));
-        here[1].push(clock(|| add(subject.errors(image, &mut table, &mut rows, 1))));
+        here[1].push(clock(|| add(subject.errors(image, &mut table, &mut rows, PLAIN))));
         rust[2].push(clock(|| sink(built.once())));
         here[2].push(clock(|| add(subject.once(image, &mut table))));
         rust[3].push(clock(|| sink(built.all())));
@@ -342,8 +342,8 @@ fn time_sorted(image: &[u8], subject: &dyn Calls) -> (f64, f64, u32) {
     let mut rows = vec![0u32; rows_words(n)];
     let (mut errors, mut sorted) = (Vec::new(), Vec::new());
     for _ in 0..ROUNDS {
-        errors.push(clock(|| sink(count(subject.errors(image, &mut table, &mut rows, 1)))));
-        sorted.push(clock(|| sink(count(subject.sorted(image, &mut table, &mut rows, 1)))));
+        errors.push(clock(|| sink(count(subject.errors(image, &mut table, &mut rows, PLAIN)))));
+        sorted.push(clock(|| sink(count(subject.sorted(image, &mut table, &mut rows, PLAIN)))));
     }
     (median(&mut errors), median(&mut sorted), rows[0])
 }
@@ -385,8 +385,8 @@ fn time_strict(image: &[u8], subject: &dyn Calls) -> (f64, f64, u32) {
     let mut rows = vec![0u32; rows_words(n)];
     let mut times = [Vec::new(), Vec::new()];
     for _ in 0..ROUNDS {
-        for mode in [1, 2] {
-            times[mode - 1].push(clock(|| sink(count(subject.errors(image, &mut table, &mut rows, mode as u32)))));
+        for (times, mode) in times.iter_mut().zip([PLAIN, STRICT]) {
+            times.push(clock(|| sink(count(subject.errors(image, &mut table, &mut rows, mode)))));
         }
     }
     let [mut plain, mut strict] = times;

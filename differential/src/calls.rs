@@ -13,6 +13,11 @@ pub enum Answer {
     Other(u32, u32),
 }
 
+/// The modes of Errors and Sorted.
+pub const DEFAULT: u32 = 0;
+pub const PLAIN: u32 = 1;
+pub const STRICT: u32 = 2;
+
 pub trait Calls {
     fn resolve(&self, image: &[u8], table: &mut [u32]) -> Answer;
     fn lookup(&self, image: &[u8], table: &[u32], scope: u32, name: &[u8]) -> Answer;
@@ -20,6 +25,8 @@ pub trait Calls {
     fn lookup_indexed(&self, image: &[u8], table: &[u32], index: &[u32], scope: u32, name: &[u8]) -> Answer;
     fn errors(&self, image: &[u8], table: &mut [u32], rows: &mut [u32], mode: u32) -> Answer;
     fn sorted(&self, image: &[u8], table: &mut [u32], rows: &mut [u32], mode: u32) -> Answer;
+    /// The editor's, at each key press.
+    fn live_check(&self, image: &[u8], table: &mut [u32], rows: &mut [u32]) -> Answer;
     fn once(&self, image: &[u8], table: &mut [u32]) -> Answer;
     fn occurrences(&self, image: &[u8], table: &mut [u32], rows: &mut [u32]) -> Answer;
     /// Where the name stands in the image, start and length; 0 and 0 where it is empty.
@@ -85,6 +92,10 @@ mod library {
 
         fn sorted(&self, image: &[u8], table: &mut [u32], rows: &mut [u32], mode: u32) -> Answer {
             rows_answer(lib::sorted_by_number(image, table, rows, mode))
+        }
+
+        fn live_check(&self, image: &[u8], table: &mut [u32], rows: &mut [u32]) -> Answer {
+            rows_answer(lib::live_check(image, table, rows))
         }
 
         fn once(&self, image: &[u8], table: &mut [u32]) -> Answer {

@@ -3,8 +3,8 @@
 
 use original::{Answers, Built};
 
-use crate::calls::{Answer, Calls};
-use crate::counts::{Counts, APART, CHANGED, CHANGED_WITH_EQUALS};
+use crate::calls::{Answer, Calls, DEFAULT, PLAIN, STRICT};
+use crate::counts::{Counts, APART, BY_DEFAULT, CHANGED, CHANGED_WITH_EQUALS};
 use crate::random::Random;
 use crate::reading::layout::{index_words, place, rows_words, table_words, Array, COUNTS};
 use crate::reading::tests::{fields, name_span, sizes, verdict, Field};
@@ -95,6 +95,11 @@ impl Compare<'_> {
         let sorted = self.both("sorted", &start, |c, d| d.answer = c.sorted(image, &mut d.table, &mut d.rows, mode))?;
         counts.answer("sorted", sorted.answer);
         by_place(image, &errors, &sorted, counts)?;
+        let live = self.both("live_check", &start, |c, d| d.answer = c.live_check(image, &mut d.table, &mut d.rows))?;
+        counts.answer("live", live.answer);
+        if mode == DEFAULT && pairs(&errors.rows, n, errors.answer).iter().any(|row| row.0 == 4) {
+            counts.see(BY_DEFAULT);
+        }
         let once = self.both("once", &start, |c, d| d.answer = c.once(image, &mut d.table))?;
         counts.answer("once", once.answer);
         let list = self.both("occurrences", &start, |c, d| d.answer = c.occurrences(image, &mut d.table, &mut d.rows))?;
@@ -228,8 +233,8 @@ impl Compare<'_> {
         let mut sorted = errors.clone();
         let mut spare = table.clone();
         let answer = self.subject.resolve(image, &mut table);
-        let error_answer = self.subject.errors(image, &mut spare, &mut errors, 1);
-        let sorted_answer = self.subject.sorted(image, &mut spare, &mut sorted, 1);
+        let error_answer = self.subject.errors(image, &mut spare, &mut errors, PLAIN);
+        let sorted_answer = self.subject.sorted(image, &mut spare, &mut sorted, PLAIN);
         let once = self.subject.once(image, &mut spare);
         let list_answer = self.subject.occurrences(image, &mut spare, &mut list);
         let list = pairs(&list, n, list_answer);
@@ -241,7 +246,7 @@ impl Compare<'_> {
                 counts.see("compared with sight");
             }
             let mut strict = lent(r, rows_words(n));
-            let strict_answer = self.subject.errors(image, &mut spare, &mut strict, 2);
+            let strict_answer = self.subject.errors(image, &mut spare, &mut strict, STRICT);
             let apart: Vec<u32> = checks::row4(&rows).into_iter().filter_map(|(node, near)| (!near).then_some(node)).collect();
             for (number, node) in pairs(&strict, n, strict_answer) {
                 counts.see(&format!("error rows {number}"));

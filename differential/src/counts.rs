@@ -4,7 +4,7 @@ use std::collections::BTreeMap;
 
 use crate::calls::Answer;
 
-pub const CALLS: [&str; 9] = ["resolve", "lookup", "index", "indexed", "errors", "sorted", "once", "occurrences", "name"];
+pub const CALLS: [&str; 10] = ["resolve", "lookup", "index", "indexed", "errors", "sorted", "live", "once", "occurrences", "name"];
 
 /// Lists of error rows that sorting by place must have met.
 pub const CHANGED: &str = "error rows: lists that sorting changes";
@@ -12,6 +12,9 @@ pub const CHANGED_WITH_EQUALS: &str = "error rows: lists that sorting changes, w
 
 /// Rows 4 that must have been met at an argument whose name stands further back than the nearest earlier named one.
 pub const APART: &str = "error rows 4, the nearest earlier named argument of another name";
+
+/// Lists with a row 4 that must have been met in the default mode.
+pub const BY_DEFAULT: &str = "error rows: lists of mode 0 with a row 4";
 
 #[derive(Default)]
 pub struct Counts {
@@ -101,7 +104,7 @@ impl Counts {
                 missing.push(format!("error row {row}"));
             }
         }
-        for what in [CHANGED, CHANGED_WITH_EQUALS, APART] {
+        for what in [CHANGED, CHANGED_WITH_EQUALS, APART, BY_DEFAULT] {
             if self.of(what) == 0 {
                 missing.push(what.to_string());
             }

@@ -56,7 +56,7 @@ fn write_records(mut args: impl Iterator<Item = String>) -> bool {
 /// The deepest images of each form, every call in the stack that the header promises to be enough: too little ends the process.
 #[cfg(feature = "library")]
 fn deepest() {
-    use differential::calls::Answer;
+    use differential::calls::{Answer, STRICT};
     use differential::inputs::{deep, DEEP};
     use differential::random::Random;
     use differential::reading::layout::{index_words, rows_words, table_words};
@@ -83,8 +83,8 @@ fn deepest() {
                     subject.lookup_indexed(&image, &table, &index, scopes.saturating_sub(1), bytes);
                 }
             }
-            subject.errors(&image, &mut table, &mut rows, 2);
-            subject.sorted(&image, &mut table, &mut rows, 2);
+            subject.errors(&image, &mut table, &mut rows, STRICT);
+            subject.sorted(&image, &mut table, &mut rows, STRICT);
             subject.occurrences(&image, &mut table, &mut rows);
             subject.once(&image, &mut table);
             subject.name(&image, 0);

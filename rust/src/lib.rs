@@ -297,13 +297,14 @@ pub enum Once {
     Lone { node: u32, binding: u32 },
 }
 
-/// How [`errors`] and [`sorted`] check.
-#[derive(Copy, Clone, Debug, PartialEq, Eq, Hash)]
+/// How [`errors`] and [`sorted`] check: strict, unless the caller says [`Mode::Plain`].
+#[derive(Copy, Clone, Debug, Default, PartialEq, Eq, Hash)]
 #[repr(u32)]
 pub enum Mode {
-    /// As plain.
+    /// Strict, as [`Mode::Strict`]: the usual mode, and `Mode::default()`.
+    #[default]
     Default = 0,
-    /// Rows 1 to 3.
+    /// Rows 1 to 3 alone, those that the original Rust has. [`live_check`] passes it.
     Plain = 1,
     /// After them rows 4: each named argument whose name an earlier argument of its list has.
     Strict = 2,
@@ -389,6 +390,11 @@ pub fn errors(image: &[u8], table: &mut [u32], rows: &mut [u32], mode: Mode) -> 
 /// The same with the mode as a number, of which 0 to 2 are modes.
 pub fn errors_by_number(image: &[u8], table: &mut [u32], rows: &mut [u32], mode: u32) -> Rows {
     by_mode(raw::eqlog_errors, image, table, rows, mode)
+}
+
+/// The editor's check at each key press: [`errors`] in [`Mode::Plain`], whichever mode is the usual one.
+pub fn live_check(image: &[u8], table: &mut [u32], rows: &mut [u32]) -> Rows {
+    errors(image, table, rows, Mode::Plain)
 }
 
 /// The same rows as [`errors`], by place: the second location word of each row's node rises from row to row, and rows of

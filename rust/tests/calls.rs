@@ -292,6 +292,37 @@ fn strict_finds_repeated_arguments() {
 }
 
 #[test]
+fn strict_unless_told_otherwise() {
+    // a, b, a
+    let image = arguments(&[1, 2, 1], &[0, 1, 2]);
+    let done = |call: &dyn Fn(&mut [u32], &mut [u32]) -> Rows| {
+        let (mut table, mut rows) = (vec![7; table_len(13)], vec![7; rows_len(13)]);
+        (call(&mut table, &mut rows), table, rows)
+    };
+    let strict = done(&|table, rows| errors(&image, table, rows, Mode::Strict));
+    assert_eq!((strict.0, pairs(&strict.2, 13).collect()), (Rows::Written(1), vec![(4, 8)]));
+    assert_eq!(done(&|table, rows| errors(&image, table, rows, Mode::default())), strict);
+    assert_eq!(done(&|table, rows| errors_by_number(&image, table, rows, 0)), strict);
+    assert_eq!(done(&|table, rows| sorted(&image, table, rows, Mode::default())), strict);
+    // the live check is plain
+    let plain = done(&|table, rows| errors_by_number(&image, table, rows, 1));
+    assert_eq!(plain.0, Rows::Written(0));
+    assert_eq!(done(&|table, rows| errors(&image, table, rows, Mode::Plain)), plain);
+    assert_eq!(done(&|table, rows| live_check(&image, table, rows)), plain);
+}
+
+#[test]
+fn live_check_is_plain_errors() {
+    let (mut table, mut rows) = lent();
+    // y is introduced in a then-statement
+    assert_eq!(live_check(&lone(), &mut table, &mut rows), Rows::Written(1));
+    assert_eq!(pairs(&rows, 11).collect::<Vec<_>>(), [(1, 3)]);
+    assert_eq!(live_check(&lone(), &mut table, &mut rows[..rows_len(11) - 1]), Rows::Refused(Refusal::Rows));
+    let clash = Twice { name: 0, first: 2, second: 1 };
+    assert_eq!(live_check(&twice(), &mut table, &mut rows), Rows::Twice(clash));
+}
+
+#[test]
 fn sorted_writes_rows_by_place() {
     let mut table = vec![7; table_len(19) + 1];
     let mut rows = vec![7; rows_len(19) + 1];

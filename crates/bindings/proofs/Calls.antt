@@ -1,6 +1,6 @@
 -- Errors as its code goes: its rows are written, its refusals, and what the checks find in the table that resolving fills.
 use mathlib.Core.Path.{◌≡◌, refl, sym, ap, subst, ◌∙◌}
-use mathlib.Core.Bool.{Bool, true, false}
+use mathlib.Core.Bool.{Bool, true, false, not}
 use mathlib.Core.List.{List, [], ◌++◌}
 use Prim.Native.Nat.{ℕ, zero, suc, ◌+◌, ◌<◌, ◌≤◌, ◌^◌}
 use native.Mathlib.Omega.{arith}
@@ -48,29 +48,29 @@ module _ (img : List ℕ) where
   pub mode-fits : (t : Table) {a b : Rows} → verdict img ≡ 0 → a.count ≡ 0 → Appends (plain_rows img t) a b → b.count + length (strict_rows img) < 2 ^ 32
   mode-fits t e z h = let a = rows_fit t e in let b = h.appended.count in omega arith
 
-  pub mode-strict : (mode : ℕ) → mode ≡ 2 → strict_rows img ≡ of_mode img mode
+  pub mode-strict : (mode : ℕ) → (mode ≡ 1 → ⊥) → strict_rows img ≡ of_mode img mode
   unfolding is_strict
-  mode-strict mode e = sym (ap (λ (b : Bool). elim b as (λ _. List Row) [ true ↦ strict_rows img | false ↦ [] ]) (eq-eqb mode 2 e))
+  mode-strict mode h = sym (ap (λ (b : Bool). elim (not b) as (λ _. List Row) [ true ↦ strict_rows img | false ↦ [] ]) (ne_eqb mode 1 h))
 
-  pub mode-plain : (mode : ℕ) → (mode ≡ 2 → ⊥) → of_mode img mode ≡ []
+  pub mode-plain : (mode : ℕ) → mode ≡ 1 → of_mode img mode ≡ []
   unfolding is_strict
-  mode-plain mode h = ap (λ (b : Bool). elim b as (λ _. List Row) [ true ↦ strict_rows img | false ↦ [] ]) (ne_eqb mode 2 h)
+  mode-plain mode e = ap (λ (b : Bool). elim (not b) as (λ _. List Row) [ true ↦ strict_rows img | false ↦ [] ]) (eq-eqb mode 1 e)
 
   pub errors-are : (t : Table) (mode : ℕ) → plain_rows img t ++ of_mode img mode ≡ error_rows img t mode
   unfolding error_rows
   errors-are t mode = refl
 
-  -- the rows of a mode by its number
+  -- the rows of a mode by its number; what a number that is no mode's has is never asked
   numbered : Result Mode Refusal → List Row
   numbered (Ok mode) = mode_rows img mode
-  numbered (Err r) = []
+  numbered (Err r) = strict_rows img
 
   numbered-is : (number : ℕ) → numbered (mode_of number) ≡ of_mode img number
   unfolding is_strict numbered
   numbered-is zero = refl
   numbered-is (suc zero) = refl
   numbered-is (suc (suc zero)) = refl
-  numbered-is (suc (suc (suc n))) = sym (mode-plain (suc (suc (suc n))) (λ e. omega arith))
+  numbered-is (suc (suc (suc n))) = mode-strict (suc (suc (suc n))) (λ e. omega arith)
 
   pub mode-errors : (t : Table) {mode : Mode} (number : ℕ) → Ok mode ≡ mode_of number → all_rows img t mode ≡ error_rows img t number
   unfolding numbered

@@ -184,9 +184,9 @@ module _ (img : List ℕ) where
   unfolding repeated_to strict_from
   strict_rows = let ns = repeated_to (nodes img) in strict_from ns (nodes img) 0
 
-  -- mode 0, the default, and 1 are plain, 2 is strict
+  -- mode 1 is plain; 0, the default, and 2 are strict
   unfoldable pub is_strict : ℕ → Bool
-  is_strict mode = eqb mode 2
+  is_strict mode = not (eqb mode 1)
 
   unfoldable pub error_rows : Table → ℕ → List Row
   unfolding is_strict plain_rows strict_rows

@@ -21,7 +21,7 @@ use Rattle.bindings.specs.Errors.{is_ctor, defined_row, arg_row, rows_of, rows_s
 
 -- the mode of a number
 abbrev pub mode_of : ℕ → Result Mode Refusal
-mode_of zero = Ok Plain
+mode_of zero = Ok Strict
 mode_of (suc zero) = Ok Plain
 mode_of (suc (suc zero)) = Ok Strict
 mode_of (suc (suc (suc n))) = Err UnknownMode

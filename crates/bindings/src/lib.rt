@@ -40,11 +40,11 @@ impl TryFrom<u32> for Mode {
 
     ghost try_from_gives = { IsMode };
 
-    // 0, the default, and 1 are plain, 2 is strict.
+    // 1 is plain; 0, the default, and 2 are strict.
     fn try_from(number: u32) -> Result<Mode, Refusal> {
         match number {
-            0 | 1 => Ok(Mode::Plain),
-            2 => Ok(Mode::Strict),
+            1 => Ok(Mode::Plain),
+            0 | 2 => Ok(Mode::Strict),
             _ => Err(Refusal::UnknownMode),
         }
     }

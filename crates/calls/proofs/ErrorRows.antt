@@ -90,12 +90,12 @@ module _ (img tab rows : List ℕ) (mode : ℕ) where
         subst (λ (l : List Row). length l ≤ nodes img) (sym (rowed-held img tab rows (λ t. error_rows img t mode) tested ended.1 (rows_few img accepted _ mode)))
         (rows_few img accepted _ mode)
 
-    of-mode : (w : Row) → Memᴰ w (of_mode img mode) → (mode ≡ 2) × Memᴰ w (strict_rows img)
-    of-mode w m = go (ℕ_discrete mode 2)
+    of-mode : (w : Row) → Memᴰ w (of_mode img mode) → (mode ≡ 1 → ⊥) × Memᴰ w (strict_rows img)
+    of-mode w m = go (ℕ_discrete mode 1)
       where
-        go : Dec (mode ≡ 2) → (mode ≡ 2) × Memᴰ w (strict_rows img)
-        go (yes e) = (e, subst (Memᴰ w) (sym (mode-strict img mode e)) m)
-        go (no h) = absurd (Memᴰ.not-nil (subst (Memᴰ w) (mode-plain img mode h) m))
+        go : Dec (mode ≡ 1) → (mode ≡ 1 → ⊥) × Memᴰ w (strict_rows img)
+        go (yes e) = absurd (Memᴰ.not-nil (subst (Memᴰ w) (mode-plain img mode e) m))
+        go (no h) = (h, subst (Memᴰ w) (sym (mode-strict img mode h)) m)
 
     of-strict : (w : Row) → Memᴰ w (of_mode img mode) → w.left ≡ 4
     unfolding strict_rows
@@ -131,20 +131,20 @@ module _ (img tab rows : List ℕ) (mode : ℕ) where
         let s = sentences.row-three img table accepted n in
         ((λ m. s.0 (p.0 m)), (λ h. p.1 (s.1 h)))
 
-    -- row 4, in strict mode alone, at exactly the named arguments whose name an earlier one of their list carries
-    pub row-four : (n : ℕ) → Memᴰ (row 4 n) list ↔ ((mode ≡ 2) × Repeated img n)
+    -- row 4, in every mode but 1 (which leaves 0 and 2), at exactly the named arguments whose name an earlier one of their list carries
+    pub row-four : (n : ℕ) → Memᴰ (row 4 n) list ↔ ((mode ≡ 1 → ⊥) × Repeated img n)
     row-four n = (to, from)
       where
-        to : Memᴰ (row 4 n) list → (mode ≡ 2) × Repeated img n
+        to : Memᴰ (row 4 n) list → (mode ≡ 1 → ⊥) × Repeated img n
         to m =
             ⊎_elim (λ h. absurd (let z = (sentences.plain-numbers img table accepted (row 4 n) h).1 in omega arith))
             (λ h. let g = of-mode (row 4 n) h in (g.0, (repeats.row-four img accepted n).0 g.1))
             (Memᴰ.append_cases (plain_rows img table) (subst (Memᴰ (row 4 n)) list-is m))
 
-        from : (mode ≡ 2) × Repeated img n → Memᴰ (row 4 n) list
-        from (e, h) =
+        from : (mode ≡ 1 → ⊥) × Repeated img n → Memᴰ (row 4 n) list
+        from (s, h) =
             subst (Memᴰ (row 4 n)) (sym list-is)
-            (Memᴰ.append_right (plain_rows img table) (subst (Memᴰ (row 4 n)) (mode-strict img mode e) ((repeats.row-four img accepted n).1 h)))
+            (Memᴰ.append_right (plain_rows img table) (subst (Memᴰ (row 4 n)) (mode-strict img mode s) ((repeats.row-four img accepted n).1 h)))
 
     -- and there is no row of another number
     pub row-numbers : (w : Row) → Memᴰ w list → (1 ≤ w.left) × (w.left ≤ 4)

@@ -1,5 +1,6 @@
 pub mod Untouched
 pub mod ErrorRows
+pub mod Modes
 pub mod ByBytes
 pub mod Located
 pub mod Orders

@@ -137,7 +137,7 @@ pub fn eqlog_lookup_indexed(
     pack_looked(index::lookup_indexed(image, table, index, ScopeId(scope), name))
 }
 
-// Errors: resolves, then writes the error rows.
+// Errors: resolves, then writes the error rows. Mode 1 is plain; 0, the default, and 2 are strict.
 pub fn eqlog_errors(image: &[u8], table: &mut [u32], rows: &mut [u32], mode: u32) -> u64
     ensures { LeavesRows (errors image.now table.old rows.old mode) result table.new rows.new }
 {

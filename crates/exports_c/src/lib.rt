@@ -48,7 +48,7 @@ pub extern "C" fn eqlog_lookup_indexed(
     exports::eqlog_lookup_indexed(image, table, index, scope, name)
 }
 
-// Errors: resolves, then writes the error rows.
+// Errors: resolves, then writes the error rows. Mode 1 is plain; 0, the default, and 2 are strict.
 #[unsafe(no_mangle)]
 pub extern "C" fn eqlog_errors(image: &[u8], table: &mut [u32], rows: &mut [u32], mode: u32) -> u64
     ensures { LeavesRows (errors image.now table.old rows.old mode) result table.new rows.new }

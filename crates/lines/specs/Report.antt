@@ -42,7 +42,7 @@ lent_table = replicate (table_length 2048) 0
 abbrev pub lent_rows : List ℕ
 lent_rows = replicate (rows_length 2048) 0
 
--- the lines of the plain error rows, and of the occurrences
+-- the lines of the plain error rows, those of mode 1, and of the occurrences
 abbrev pub error_lines : List ℕ → List Line
 error_lines img = let e = errors img lent_table lent_rows 1 in row_lines error (nodes img) e.answer e.rows
 

@@ -76,7 +76,7 @@ impl<'a> Printer<'a> {
         }
     }
 
-    // The lines of the plain error rows.
+    // The lines of the plain error rows, those of mode 1.
     fn put_errors(&mut self, image: &[u8])
         ensures { Wrote (lines_bytes (error_lines image.now)) 57344 self.old self.new }
     {

@@ -81,13 +81,15 @@ calls =
     ∷ asked (lookup_call (encode if_equal) (set (left (encode if_equal)) 0 12) 1 x) (refused 16)
     ∷ asked (lookup_call (encode if_equal) (set (left (encode if_equal)) 25 0) 1 x) (refused 16)
     ∷ asked (lookup_call (encode if_equal) (set (left (encode if_equal)) 47 8) 1 x) (refused 16)
-    -- rows too short, a mode that is none, strict, plain
+    -- rows too short, a mode that is none; strict by number and by default, plain
     ∷ asked (errors (encode repeated_args) lent_table (take 20 lent_rows) 2).answer (refused 14)
     ∷ asked (errors (encode repeated_args) lent_table lent_rows 3).answer (refused 15)
     ∷ asked (errors (encode repeated_args) lent_table lent_rows 2).answer (result 0 1)
-    ∷ asked (errors (encode repeated_args) lent_table lent_rows 0).answer (result 0 0)
+    ∷ asked (errors (encode repeated_args) lent_table lent_rows 0).answer (result 0 1)
+    ∷ asked (errors (encode repeated_args) lent_table lent_rows 1).answer (result 0 0)
     ∷ asked (errors (encode apart_args) lent_table lent_rows 2).answer (result 0 1)
-    ∷ asked (errors (encode apart_args) lent_table lent_rows 0).answer (result 0 0)
+    ∷ asked (errors (encode apart_args) lent_table lent_rows 0).answer (result 0 1)
+    ∷ asked (errors (encode apart_args) lent_table lent_rows 1).answer (result 0 0)
     ∷ []
 
 abbrev pub AsWanted : List Asked → Type 0
@@ -96,7 +98,7 @@ AsWanted (c ∷ cs) = (c.answer ≡ c.wanted) × AsWanted cs
 
 computed : AsWanted calls
 unfolding word nodes kind_at start_at op_at field name_of operands names bytes last name_end name_start name_bytes kind_of ones numbers ops_from after_blocks block_kids block_counts after field_kids field_shape after_fields fields_kids fields_shape fields_at row_end kids shape kids_to swap swaps ordered grow_all grow class_at tree_to tree_at ◌▸◌ need run is times same test_sizes test_names in_row is_child child_word test_blocks test_field test_fields end_before test_node test_parents first is_var test_var test_tree verdict symbol_of mark_words mark new_scope new_symbol row_is find_from climb held found find lookup is_kind is_value child_scope own_symbol introduce marked unmarked walk_ident head_role walk_arg walk walk_seq walk_first enter_name and_then resolve_tree enter_all visit visit_all test_table zeroed walked headed way_of way answer_by table_by table_call resolve has_name is_symbol parent_below row_sound test_sound number_from number_of test_lookup symbol_answer found_by lookup_call first_from index_words test_index index_call test_indexed indexed_call lefts rights filled written cleared test_rows rows_by rows_call among repeats declared_twice when same_node asks_for introduces introduced_row defined_row defined_rows arg_row arg_rows list_rows is_ctor app_rows pattern_rows plain_rows args_of repeated repeated_in repeated_to strict_from strict_rows is_strict error_rows test_errors errors rows_of rows_seq rows_first rows_defined decl_rows decls_rows add opened head_sort rule_places rule_spots rules_of module_rules outer_const place place_seq place_then place_first spots spots_seq spots_back spots_first rules rules_all listed rows_for rule_rows all_rows occurrence_rows times_bound lone_in lone rows_by_rule lone_answer occurrences once bytes_of kinds_of starts_of words_of ends_of joined encode recorded recorded_all enter_names mark_all some_repeats rule_node declared declared_all model_lists model_lists_all module_lists earliest
-computed = (refl, (refl, (refl, (refl, (refl, (refl, (refl, (refl, (refl, (refl, (refl, (refl, (refl, (refl, (refl, (refl, (refl, (refl, (refl, (refl, (refl, (refl, (refl, (refl, (refl, tt)))))))))))))))))))))))))
+computed = (refl, (refl, (refl, (refl, (refl, (refl, (refl, (refl, (refl, (refl, (refl, (refl, (refl, (refl, (refl, (refl, (refl, (refl, (refl, (refl, (refl, (refl, (refl, (refl, (refl, (refl, (refl, tt)))))))))))))))))))))))))))
 
 -- p first in row 0, and after that in row 2, M in row 1; the word past the index stays
 chains : indexed ≡ 0 ∷ 1 ∷ 2 ∷ all_ones ∷ all_ones ∷ all_ones ∷ all_ones ∷ all_ones ∷ all_ones ∷ all_ones ∷ all_ones ∷ 7 ∷ []

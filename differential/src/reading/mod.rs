@@ -9,7 +9,7 @@ pub mod sight;
 pub mod tests;
 pub mod walk;
 
-use crate::calls::{Answer, Calls};
+use crate::calls::{Answer, Calls, PLAIN, STRICT};
 use layout::{rows_words, table_words};
 use tests::{table_refusal, verdict};
 use walk::{Resolved, Walk};
@@ -53,12 +53,12 @@ impl Reading {
         if let Some(r) = tests::rows_refusal(image, table.len(), rows.len()) {
             return Answer::Refused(r);
         }
-        if mode > 2 {
+        if mode > STRICT {
             return Answer::Refused(15);
         }
         match Self::walked(image, table) {
             Ok(r) => {
-                let list = checks::errors(&r, mode == 2);
+                let list = checks::errors(&r, mode != PLAIN);
                 let list = if by_place { checks::by_place(&r.rows, list) } else { list };
                 put_rows(rows, r.rows.n, &list);
                 Answer::Result(0, list.len() as u32)
@@ -106,6 +106,10 @@ impl Calls for Reading {
 
     fn sorted(&self, image: &[u8], table: &mut [u32], rows: &mut [u32], mode: u32) -> Answer {
         Self::error_rows(image, table, rows, mode, true)
+    }
+
+    fn live_check(&self, image: &[u8], table: &mut [u32], rows: &mut [u32]) -> Answer {
+        Self::error_rows(image, table, rows, PLAIN, false)
     }
 
     fn once(&self, image: &[u8], table: &mut [u32]) -> Answer {
