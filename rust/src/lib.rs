@@ -2,7 +2,8 @@
 //!
 //! An image is a rule file in the binary form that the project's header `include/eqlog_scopes.h` describes; a table, rows
 //! and an index are lent by the caller, [`table_len`], [`rows_len`] and [`index_len`] words of them. No call panics,
-//! allocates or keeps anything; every image, damaged ones included, gets an answer.
+//! allocates or keeps anything; every image, damaged ones included, gets an answer. An editor calls [`live_check`] at each
+//! key press.
 //!
 //! ```
 //! let image = eqlog_scopes::EMPTY_MODULE;

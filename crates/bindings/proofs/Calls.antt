@@ -60,7 +60,7 @@ module _ (img : List ℕ) where
   unfolding error_rows
   errors-are t mode = refl
 
-  -- the rows of a mode by its number; what a number that is no mode's has is never asked
+  -- the rows of a mode by its number; no one asks for those of a number that is no mode's
   numbered : Result Mode Refusal → List Row
   numbered (Ok mode) = mode_rows img mode
   numbered (Err r) = strict_rows img

@@ -1,4 +1,4 @@
--- The error rows, in check_bindings' order, and document 01's Errors in its three modes.
+-- The error rows, in check_bindings' order, and document 01's Errors in its three modes, as document 02's S-6 has them.
 use Rattle.std.specs.Prelude.{Bool, ◌&&◌, leb, eqb}
 use Rattle.std.proofs.Math.Bool.{true, false, not}
 use mathlib.Core.List.{List, [], ◌∷◌, ◌++◌}
@@ -184,7 +184,7 @@ module _ (img : List ℕ) where
   unfolding repeated_to strict_from
   strict_rows = let ns = repeated_to (nodes img) in strict_from ns (nodes img) 0
 
-  -- mode 1 is plain; 0, the default, and 2 are strict
+  -- mode 1 is plain; 0, the default, and 2 are strict (a mode over 2 is refused)
   unfoldable pub is_strict : ℕ → Bool
   is_strict mode = not (eqb mode 1)
 
