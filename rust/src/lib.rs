@@ -383,12 +383,12 @@ pub fn lookup_indexed(image: &[u8], table: &[u32], index: &[u32], scope: u32, na
     })
 }
 
-/// Resolves, then writes the error rows: a count, then an array of error numbers and one of nodes.
+/// Resolves, then writes the error rows of the mode: a count, then an array of error numbers and one of nodes.
 pub fn errors(image: &[u8], table: &mut [u32], rows: &mut [u32], mode: Mode) -> Rows {
     errors_by_number(image, table, rows, mode as u32)
 }
 
-/// The same with the mode as a number, of which 0 to 2 are modes.
+/// The same with the mode as a number: 0 and 2 are strict, 1 is plain, others are refused.
 pub fn errors_by_number(image: &[u8], table: &mut [u32], rows: &mut [u32], mode: u32) -> Rows {
     by_mode(raw::eqlog_errors, image, table, rows, mode)
 }
@@ -404,7 +404,7 @@ pub fn sorted(image: &[u8], table: &mut [u32], rows: &mut [u32], mode: Mode) -> 
     sorted_by_number(image, table, rows, mode as u32)
 }
 
-/// The same with the mode as a number, of which 0 to 2 are modes.
+/// The same with the mode as a number: 0 and 2 are strict, 1 is plain, others are refused.
 pub fn sorted_by_number(image: &[u8], table: &mut [u32], rows: &mut [u32], mode: u32) -> Rows {
     by_mode(raw::eqlog_sorted, image, table, rows, mode)
 }
