@@ -57,10 +57,12 @@ pub fn sizes_of(image: &[u8]) -> Sizes
     }
 }
 
-// The largest image has so many nodes, and so many names.
+// The largest image has so many nodes, so many names, and so many bytes.
 pub const NODES: usize = 2048;
 
 pub const NAMES: usize = 1024;
+
+pub const MOST_BYTES: usize = 61456;
 
 // A node by its number.
 #[derive(Clone, Copy, Debug, PartialEq, Eq)]

@@ -26,6 +26,9 @@ refusal-some refusal.UnknownMode z = absurd (omega arith)
 refusal-some refusal.UnsoundTable z = absurd (omega arith)
 refusal-some refusal.UnknownScope z = absurd (omega arith)
 refusal-some refusal.WrongIndex z = absurd (omega arith)
+refusal-some refusal.UnknownBinding z = absurd (omega arith)
+refusal-some refusal.UnknownName z = absurd (omega arith)
+refusal-some refusal.OtherList z = absurd (omega arith)
 
 -- what `?` hands back has the same number
 pub passed-on : {A : Type 0} (r : Result A Refusal) (e : Refusal) → IsErrAnd r (λ y. y ≡ e) → refusal_of r ≡ refusal_number e

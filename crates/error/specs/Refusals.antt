@@ -27,6 +27,9 @@ refusal_number refusal.UnknownMode = 15
 refusal_number refusal.UnsoundTable = 16
 refusal_number refusal.UnknownScope = 17
 refusal_number refusal.WrongIndex = 18
+refusal_number refusal.UnknownBinding = 19
+refusal_number refusal.UnknownName = 20
+refusal_number refusal.OtherList = 21
 
 -- the number that a test of the definitions gives: 0 where nothing is refused
 abbrev pub refusal_of : {A : Type 0} → Result A Refusal → ℕ

@@ -27,7 +27,7 @@ pub enum Refusal {
     LastRow,
     Parents,
     WrongVariable,
-    // buffers
+    // buffers; ShortRows is said of Rename's output too
     ShortTable,
     ShortRows,
     // Errors
@@ -37,6 +37,10 @@ pub enum Refusal {
     UnknownScope,
     // the name index
     WrongIndex,
+    // Rename
+    UnknownBinding,
+    UnknownName,
+    OtherList,
 }
 
 // Its number in the table.

@@ -7,6 +7,7 @@ use Rattle.scopes.specs.Resolve.{resolve}
 use Rattle.scopes.specs.Lookup.{lookup_call}
 use Rattle.index.specs.Index.{index_call, indexed_call}
 use Rattle.sorted.specs.Sorted.{sorted}
+use Rattle.rename.specs.Rename.{rename}
 
 -- the result of a call that counts, which a lookup does not give, and the result of a lookup, which no other call gives
 abbrev pub Counts : Answer → Type 0
@@ -32,7 +33,7 @@ pub data Looking : Answer → Type 0 where
   climbing : (img tab : List ℕ) (s : ℕ) (bs : List ℕ) → Looking (lookup_call img tab s bs)
   chaining : (img tab index : List ℕ) (s : ℕ) (bs : List ℕ) → Looking (indexed_call img tab index s bs)
 
--- an answer of a call that fills a table or an index, whatever it is lent
+-- an answer of a call that fills a table, an index or an output, whatever it is lent
 pub data Filling : Answer → Type 0 where
   resolving : (img tab : List ℕ) → Filling (resolve img tab).answer
   checking : (img tab rows : List ℕ) (mode : ℕ) → Filling (errors img tab rows mode).answer
@@ -40,3 +41,4 @@ pub data Filling : Answer → Type 0 where
   counting : (img tab : List ℕ) → Filling (once img tab).answer
   listing : (img tab rows : List ℕ) → Filling (occurrences img tab rows).answer
   indexing : (img tab index : List ℕ) → Filling (index_call img tab index).answer
+  renaming : (img tab rows : List ℕ) (i x : ℕ) (out : List ℕ) → Filling (rename img tab rows i x out).answer

@@ -5,6 +5,7 @@ use Rattle.names.specs.declared.NamePlace.{NamePlace}
 use Rattle.scopes.specs.Resolve.{Outcome}
 use Rattle.scopes.specs.Calls.{RowsOutcome}
 use Rattle.index.specs.Index.{Outcome as IndexOutcome}
+use Rattle.rename.specs.Rename.{Outcome as RenameOutcome}
 
 -- a tag and three fields of 16 bits: tag · 2^48 + a · 2^32 + b · 2^16 + c
 abbrev pub fields : ℕ → ℕ → ℕ → ℕ → ℕ
@@ -38,6 +39,13 @@ pub record LeavesRows (o : RowsOutcome) (r : ℕ) (table rows : List ℕ) : Type
 pub record LeavesIndex (o : IndexOutcome) (r : ℕ) (index : List ℕ) : Type 0 where
   pub packs : Packs r o.answer
   pub index_is : index ≡ o.index
+
+-- what the call that renames does: its packed answer, the words of the table and of the rows, and the bytes of the output afterwards
+pub record LeavesOutput (o : RenameOutcome) (r : ℕ) (table rows out : List ℕ) : Type 0 where
+  pub packs : Packs r o.answer
+  pub table_is : table ≡ o.table
+  pub rows_are : rows ≡ o.rows
+  pub out_is : out ≡ o.out
 
 -- the place of a name's bytes in the image: start · 2^32 + length
 abbrev pub placed : NamePlace → ℕ

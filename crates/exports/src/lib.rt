@@ -9,12 +9,14 @@ ghost use Rattle.scopes.specs.Lookup.{lookup_call};
 ghost use Rattle.index.specs.Index.{index_answer, index_call, indexed_call};
 ghost use Rattle.bindings.specs.Errors.{errors};
 ghost use Rattle.sorted.specs.Sorted.{sorted};
+ghost use Rattle.rename.specs.Rename.{rename};
 ghost use Rattle.occurrences.specs.Answers.{once_answer};
 ghost use Rattle.occurrences.specs.Occurrences as CallsSpec;
 ghost use Rattle.ast.specs.Answer.{refused, Short, Fits};
 ghost use Rattle.error.specs.Refusals.{refusal_number, unresolved_answer};
-ghost use Rattle.exports.specs.Packed.{fields, packed, Packs, Leaves, LeavesRows, LeavesIndex, Places};
+ghost use Rattle.exports.specs.Packed.{fields, packed, Packs, Leaves, LeavesRows, LeavesIndex, LeavesOutput, Places};
 
+use ast::NodeId;
 use error::{Refusal, Unresolved};
 use occurrences::Lone;
 use scopes::{Looked, Resolved};
@@ -80,7 +82,7 @@ fn pack_indexed(answer: Result<u32, Refusal>) -> u64
     }
 }
 
-// What the calls that write rows hand back.
+// What the calls that write rows hand back, a count, and Rename, a length.
 fn pack_rowed(answer: Result<u32, Unresolved>) -> u64
     requires { Fits (rowed_answer answer) }
     ensures { result ≡ packed (rowed_answer answer) }
@@ -163,6 +165,20 @@ pub fn eqlog_occurrences(image: &[u8], table: &mut [u32], rows: &mut [u32]) -> u
     ensures { LeavesRows (CallsSpec.occurrences image.now table.old rows.old) result table.new rows.new }
 {
     pack_rowed(occurrences::occurrences(image, table, rows))
+}
+
+// Rename: resolves and lists as Occurrences does, then writes the image in which the occurrences of a binding have another name.
+pub fn eqlog_rename(
+    image: &[u8],
+    table: &mut [u32],
+    rows: &mut [u32],
+    binding: u32,
+    name: u32,
+    output: &mut [u8],
+) -> u64
+    ensures { LeavesOutput (rename image.now table.old rows.old binding name output.old) result table.new rows.new output.new }
+{
+    pack_rowed(rename::rename(image, table, rows, NodeId(binding), name, output))
 }
 
 // Name: where the name's bytes stand in the image, start and length; 0 where there is none. (`as`: u64 has no From<usize>.)

@@ -7,8 +7,9 @@ ghost use Rattle.scopes.specs.Lookup.{lookup_call};
 ghost use Rattle.index.specs.Index.{index_call, indexed_call};
 ghost use Rattle.bindings.specs.Errors.{errors};
 ghost use Rattle.sorted.specs.Sorted.{sorted};
+ghost use Rattle.rename.specs.Rename.{rename};
 ghost use Rattle.occurrences.specs.Occurrences as CallsSpec;
-ghost use Rattle.exports.specs.Packed.{Packs, Leaves, LeavesRows, LeavesIndex, Places};
+ghost use Rattle.exports.specs.Packed.{Packs, Leaves, LeavesRows, LeavesIndex, LeavesOutput, Places};
 
 // Resolve: fills the table.
 #[unsafe(no_mangle)]
@@ -78,6 +79,21 @@ pub extern "C" fn eqlog_occurrences(image: &[u8], table: &mut [u32], rows: &mut 
     ensures { LeavesRows (CallsSpec.occurrences image.now table.old rows.old) result table.new rows.new }
 {
     exports::eqlog_occurrences(image, table, rows)
+}
+
+// Rename: resolves and lists as Occurrences does, then writes the image in which the occurrences of a binding have another name.
+#[unsafe(no_mangle)]
+pub extern "C" fn eqlog_rename(
+    image: &[u8],
+    table: &mut [u32],
+    rows: &mut [u32],
+    binding: u32,
+    name: u32,
+    output: &mut [u8],
+) -> u64
+    ensures { LeavesOutput (rename image.now table.old rows.old binding name output.old) result table.new rows.new output.new }
+{
+    exports::eqlog_rename(image, table, rows, binding, name, output)
 }
 
 // Name: where the name's bytes stand in the image, start and length; 0 where there is none.

@@ -14,13 +14,13 @@ use Rattle.error.specs.declared.Unresolved.TheVariants.{Refused, Twice}
 use Rattle.rows.specs.Rows.{Row, rows_length, written}
 use Rattle.table.specs.Table.{Table}
 use Rattle.scopes.specs.Resolve.{Way, refuses, stops, fills, way, answer_by}
-use Rattle.scopes.specs.Calls.{test_rows, RowsOutcome, rows_by, rows_call}
+use Rattle.scopes.specs.Calls.{lent_table, lent_rows, test_rows, RowsOutcome, rows_by, rows_call}
 use Rattle.scopes.proofs.Calls.{rows-table, rows_long, Went, went}
 use Rattle.scopes.proofs.Resolving.{table-accepted}
 use Rattle.bindings.specs.Errors.{error_rows, errors}
 use Rattle.bindings.proofs.Calls.{errors-rows}
 use Rattle.occurrences.specs.Occurrences.{occurrence_rows, occurrences}
-use Rattle.lines.specs.Report.{Line, error, var, zipped, row_lines, end_lines, error_lines, var_lines, lent_table, lent_rows}
+use Rattle.lines.specs.Report.{Line, error, var, zipped, row_lines, end_lines, error_lines, var_lines}
 use Rattle.lines.specs.Bytes.{text, numbers, line_bytes, lines_bytes}
 use Rattle.lines.specs.declared.Printer.{Printer}
 use Rattle.lines.specs.Out.{out_at, write, rows_from, Wrote, Printed}

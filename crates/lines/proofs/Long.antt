@@ -16,7 +16,8 @@ use Rattle.ast.proofs.Accepted.{needed, stop, passed, sizes-ok}
 use Rattle.ast.specs.Answer.{refused}
 use Rattle.scopes.specs.Resolve.{Outcome, test_table, resolve}
 use Rattle.scopes.proofs.Calls.{call-refused}
-use Rattle.lines.specs.Report.{refusal, lines_of, report, lent_table}
+use Rattle.scopes.specs.Calls.{lent_table}
+use Rattle.lines.specs.Report.{refusal, lines_of, report}
 use Rattle.lines.specs.Bytes.{report_bytes, lines_bytes}
 
 -- more bytes than any image has

@@ -1,10 +1,9 @@
 -- What document 01's report says of an image, line by line.
-use Rattle.std.specs.Prelude.{List, [], ◌∷◌, ◌++◌, ℕ, ◌+◌, replicate, take, drop}
+use Rattle.std.specs.Prelude.{List, [], ◌∷◌, ◌++◌, ℕ, ◌+◌, take, drop}
 use Rattle.ast.specs.Image.{nodes}
 use Rattle.ast.specs.Answer.{Answer, refused, twice, result, located, other}
-use Rattle.table.specs.Layout.{table_length}
-use Rattle.rows.specs.Rows.{rows_length}
 use Rattle.scopes.specs.Resolve.{resolve}
+use Rattle.scopes.specs.Calls.{lent_table, lent_rows}
 use Rattle.bindings.specs.Errors.{errors}
 use Rattle.occurrences.specs.Occurrences.{occurrences, once}
 
@@ -34,13 +33,6 @@ end_lines (twice x a b) = []
 end_lines (result a b) = end_ok ∷ []
 end_lines (located s k n) = []
 end_lines (other n b) = end_once n b ∷ []
-
--- the words that the report lends: enough for any image
-abbrev pub lent_table : List ℕ
-lent_table = replicate (table_length 2048) 0
-
-abbrev pub lent_rows : List ℕ
-lent_rows = replicate (rows_length 2048) 0
 
 -- the lines of the plain error rows, those of mode 1, and of the occurrences
 abbrev pub error_lines : List ℕ → List Line

@@ -3,17 +3,14 @@
 
 ghost use Rattle.std.specs.Prelude.{◌≡◌, [], ◌∷◌, ◌++◌, ◌+◌, ◌*◌, ◌≤◌, length};
 ghost use Rattle.occurrences.specs.Occurrences.{once};
-ghost use Rattle.lines.specs.Report.{end_lines, error_lines, var_lines, body_lines, lent_table};
+ghost use Rattle.scopes.specs.Calls.{lent_table};
+ghost use Rattle.lines.specs.Report.{end_lines, error_lines, var_lines, body_lines};
 ghost use Rattle.lines.specs.Bytes.{digits, numbers, lines_bytes, report_bytes};
 ghost use Rattle.lines.specs.Out.{rows_from, Wrote, Printed};
 
 use error::Unresolved;
 use itoa::Buffer;
 use rows::Written;
-
-// The words that the report lends to a call, all 0 and enough for any image: those of a table, and those of rows. Fixed
-// memory, since there is no heap.
-const TABLE: usize = table::COUNTS + table::ARRAYS * ast::NODES;
 
 // No report is longer: a first and a last line of 31 bytes, 28 bytes for each of 2,048 error rows and 2,048 occurrences.
 pub const LONGEST: usize = 114750;
@@ -76,11 +73,12 @@ impl<'a> Printer<'a> {
         }
     }
 
-    // The lines of the plain error rows, those of mode 1.
+    // The lines of the plain error rows, those of mode 1. The words that the report lends to a call are all 0 and enough for any image, in
+    // fixed memory, since there is no heap.
     fn put_errors(&mut self, image: &[u8])
         ensures { Wrote (lines_bytes (error_lines image.now)) 57344 self.old self.new }
     {
-        let mut table = [0; TABLE];
+        let mut table = [0; table::MOST_WORDS];
         let mut words = [0; rows::MOST_WORDS];
         if let Ok(count) = bindings::check_bindings(image, &mut table, &mut words, 1) {
             let nodes = ast::node_count(image);
@@ -100,7 +98,7 @@ impl<'a> Printer<'a> {
     fn put_vars(&mut self, image: &[u8])
         ensures { Wrote (lines_bytes (var_lines image.now)) 57344 self.old self.new }
     {
-        let mut table = [0; TABLE];
+        let mut table = [0; table::MOST_WORDS];
         let mut words = [0; rows::MOST_WORDS];
         if let Ok(count) = occurrences::occurrences(image, &mut table, &mut words) {
             let nodes = ast::node_count(image);
@@ -119,7 +117,7 @@ impl<'a> Printer<'a> {
     fn put_end(&mut self, image: &[u8])
         ensures { Wrote (lines_bytes (end_lines (once image.now lent_table).answer)) 31 self.old self.new }
     {
-        let mut table = [0; TABLE];
+        let mut table = [0; table::MOST_WORDS];
         match occurrences::check_occurrences(image, &mut table) {
             Ok(None) => self.put_line(b"end ok", &[]),
             Ok(Some(lone)) => self.put_line(b"end once", &[lone.node.0, lone.binding.0]),
@@ -140,7 +138,7 @@ impl<'a> Printer<'a> {
     fn put_report(&mut self, image: &[u8])
         ensures { Wrote (report_bytes image.now) 114750 self.old self.new }
     {
-        let mut table = [0; TABLE];
+        let mut table = [0; table::MOST_WORDS];
         match scopes::resolve_scopes(image, &mut table) {
             Ok(resolved) => {
                 self.put_line(b"resolved", &[resolved.scopes, resolved.symbols]);

@@ -10,7 +10,7 @@ use std::io::{BufReader, Read};
 // At most so many records are replayed.
 const MOST_RECORDS: u64 = 1_000_000;
 
-// A record whose image, name, table, rows or index are larger is not read on.
+// A record whose image, output, name, table, rows or index are larger is not read on.
 const MOST_IMAGE_BYTES: u32 = 65536;
 
 const MOST_NAME_BYTES: u32 = 8192;
@@ -21,8 +21,10 @@ const MOST_ROWS_WORDS: u32 = 4100;
 
 const MOST_INDEX_WORDS: u32 = 3080;
 
-// What every lent word is before a call.
+// What every lent word is before a call, and every byte of an output.
 const LENT: u32 = 7;
+
+const LENT_BYTE: u8 = 7;
 
 // Why a record is not had.
 #[derive(Debug, Drop)]
@@ -119,6 +121,27 @@ struct Head {
     name_number: u32,
     index_words: u32,
     answers: Answers,
+    rename: Rename,
+}
+
+// What Rename is given, and its packed answer.
+#[derive(Clone, Copy)]
+struct Rename {
+    binding: u32,
+    name: u32,
+    output_bytes: u32,
+    answer: u64,
+}
+
+impl Rename {
+    fn read<R: Read>(input: &mut R) -> Result<Rename, RecordError> {
+        Ok(Rename {
+            binding: input.read_u32::<LittleEndian>()?,
+            name: input.read_u32::<LittleEndian>()?,
+            output_bytes: input.read_u32::<LittleEndian>()?,
+            answer: input.read_u64::<LittleEndian>()?,
+        })
+    }
 }
 
 impl Head {
@@ -132,6 +155,7 @@ impl Head {
         let name_number = input.read_u32::<LittleEndian>()?;
         let index_words = input.read_u32::<LittleEndian>()?;
         let answers = Answers::read(input)?;
+        let rename = Rename::read(input)?;
         Ok(Head {
             image_bytes,
             table_words,
@@ -142,11 +166,12 @@ impl Head {
             name_number,
             index_words,
             answers,
+            rename,
         })
     }
 }
 
-// A record: its head, the image, the name looked up, and the words that the calls leave.
+// A record: its head, the image, the name looked up, and the words and bytes that the calls leave.
 #[derive(Drop)]
 struct Record {
     head: Head,
@@ -157,6 +182,7 @@ struct Record {
     occurrences: Vec<u32>,
     sorted: Vec<u32>,
     index: Vec<u32>,
+    output: Vec<u8>,
 }
 
 impl Record {
@@ -169,6 +195,7 @@ impl Record {
             occurrences: read_words(alloc, input, head.rows_words, MOST_ROWS_WORDS)?,
             sorted: read_words(alloc, input, head.rows_words, MOST_ROWS_WORDS)?,
             index: read_words(alloc, input, head.index_words, MOST_INDEX_WORDS)?,
+            output: read_bytes(alloc, input, head.rename.output_bytes, MOST_IMAGE_BYTES)?,
             head,
         })
     }
@@ -207,6 +234,30 @@ impl Record {
         let mut index = vec![in alloc; LENT; self.index.len()]?;
         let answer = exports::eqlog_index(&self.image, &self.table, &mut index);
         Ok(answer == self.head.answers.index && index == self.index)
+    }
+
+    // Whether Rename hands back the recorded answer and leaves the recorded output, with the rows of the occurrences unless the
+    // output is too short.
+    fn leaves_output(&self, alloc: Global) -> Result<bool, AllocError> {
+        let Rename {
+            binding,
+            name,
+            answer: recorded,
+            ..
+        } = self.head.rename;
+        let mut table = vec![in alloc; LENT; self.table.len()]?;
+        let mut rows = vec![in alloc; LENT; self.occurrences.len()]?;
+        let mut output = vec![in alloc; LENT_BYTE; self.output.len()]?;
+        let answer = exports::eqlog_rename(
+            &self.image,
+            &mut table,
+            &mut rows,
+            binding,
+            name,
+            &mut output,
+        );
+        let listed = output.len() < self.image.len() || rows == self.occurrences;
+        Ok(answer == recorded && listed && output == self.output)
     }
 
     // Whether every call answers and leaves what is recorded; lookups and name leave nothing. A lookup is given the recorded
@@ -248,7 +299,8 @@ impl Record {
                     exports::eqlog_occurrences,
                 )?
                 && self.leaves_rows(alloc, answers.sorted, &self.sorted, sorted)?
-                && self.leaves_index(alloc)?,
+                && self.leaves_index(alloc)?
+                && self.leaves_output(alloc)?,
         )
     }
 }

@@ -1,11 +1,19 @@
 -- The calls that write rows: their refusals, and what they leave.
-use Rattle.std.specs.Prelude.{List, ℕ, leb, length}
+use Rattle.std.specs.Prelude.{List, ℕ, leb, length, replicate}
 use Rattle.ast.specs.Image.{nodes}
 use Rattle.ast.specs.Tests.{◌▸◌, need}
 use Rattle.ast.specs.Answer.{Answer, result}
+use Rattle.table.specs.Layout.{table_length}
 use Rattle.table.specs.Table.{Table}
 use Rattle.rows.specs.Rows.{Row, rows_length, written}
 use Rattle.scopes.specs.Resolve.{test_table, Way, refuses, stops, fills, way, answer_by, table_by}
+
+-- words of zeros, a table and rows, enough for any image: what a call of ours lends to another
+abbrev pub lent_table : List ℕ
+lent_table = replicate (table_length 2048) 0
+
+abbrev pub lent_rows : List ℕ
+lent_rows = replicate (rows_length 2048) 0
 
 -- the refusals of a call that is lent rows too: 1 to 14
 unfoldable pub test_rows : List ℕ → List ℕ → List ℕ → ℕ

@@ -15,7 +15,7 @@ use Rattle.scopes.specs.Resolve.{test_table, zeroed, walked, headed, way_of, way
 use Rattle.scopes.specs.Lookup.{test_lookup, symbol_answer, found_by, lookup_call}
 use Rattle.index.specs.Index.{first_from, index_words, test_index, index_call, test_indexed, indexed_call}
 use Rattle.rows.specs.Rows.{lefts, rights, filled, written, cleared, when}
-use Rattle.scopes.specs.Calls.{test_rows, rows_by, rows_call}
+use Rattle.scopes.specs.Calls.{lent_table, lent_rows, test_rows, rows_by, rows_call}
 use Rattle.scopes.specs.Twice.{among, repeats, declared_twice, some_repeats}
 use Rattle.bindings.specs.Errors.{same_node, introduces, introduced_row, defined_row, defined_rows, arg_row, arg_rows, list_rows, is_ctor, app_rows, pattern_rows, plain_rows, args_of, repeated, repeated_in, repeated_to, strict_from, strict_rows, is_strict, error_rows, test_errors, errors, rows_of, rows_seq, rows_first, rows_defined, decl_rows, decls_rows}
 use Rattle.sound.specs.Sound.{has_name, is_symbol, parent_below, row_sound, test_sound}
@@ -27,7 +27,6 @@ use Rattle.ast.specs.Rules.{rules_of, module_rules, rules, rules_all}
 use Rattle.occurrences.specs.Occurrences.{listed, rows_for, rule_rows, all_rows, occurrence_rows, times_bound, lone_in, lone, rows_by_rule, lone_answer, occurrences, once}
 use Rattle.ast.specs.Declarations.{rule_node, declared, declared_all, model_lists, model_lists_all, module_lists, earliest}
 use Rattle.starred.specs.Encode.{bytes_of, kinds_of, starts_of, words_of, ends_of, joined, encode}
-use Rattle.lines.specs.Report.{lent_table, lent_rows}
 use Rattle.ast.specs.Answer.{Answer, refused, result, located, other}
 use Rattle.starred.specs.Starred.{if_equal, enum_twice, model_list, repeated_args, apart_args}
 

@@ -52,6 +52,9 @@ pub const COUNTS: usize = 3;
 
 pub const ARRAYS: usize = 5;
 
+// The table of the largest image has so many words.
+pub const MOST_WORDS: usize = COUNTS + ARRAYS * ast::NODES;
+
 // The arrays, all in one slice, since C lends the table so: a node's entry and exit, a scope's parent, a symbol's scope and node.
 #[derive(Clone, Copy, Debug, PartialEq, Eq)]
 pub enum Array {
