@@ -57,7 +57,7 @@ with f i x = asked f i x (length (encode f) + 2)
 answers :
     (with (equal 0 0) 0 1).answer ∷ (with (equal 0 0) 0 0).answer ∷ (with (equal 0 0) 2 1).answer ∷ (with (equal 0 0) 0 2).answer ∷ (with (equal 0 0) 2 2).answer
     ∷ (with (equal 0 1) 0 1).answer ∷ (asked (equal 0 0) 0 1 281).answer ∷ (with shadowed 4 0).answer ∷ (with shadowed 14 1).answer ∷ (with enum_twice 0 0).answer ∷ []
-    ≡ result 0 282 ∷ result 0 282 ∷ refused 19 ∷ refused 20 ∷ refused 19 ∷ refused 21 ∷ refused 14 ∷ result 0 787 ∷ refused 21 ∷ twice 0 2 1 ∷ []
+    ≡ result 0 282 ∷ result 0 282 ∷ refused 19 ∷ refused 20 ∷ refused 19 ∷ refused 21 ∷ refused 14 ∷ result 0 751 ∷ refused 21 ∷ twice 0 2 1 ∷ []
 unfolding word nodes kind_at start_at op_at field name_of operands names bytes last name_end name_start name_bytes kind_of ones numbers ops_from after_blocks block_kids block_counts after field_kids field_shape after_fields fields_kids fields_shape fields_at row_end kids shape kids_to swap swaps ordered grow_all grow class_at tree_to tree_at ◌▸◌ need run is times same test_sizes test_names in_row is_child child_word test_blocks test_field test_fields end_before test_node test_parents first is_var test_var test_tree verdict mark_words mark new_scope new_symbol row_is find_from climb held found find lookup is_kind is_value child_scope own_symbol introduce marked unmarked walk_ident head_role walk_arg walk walk_seq walk_first enter_name and_then resolve_tree enter_all visit visit_all test_table zeroed walked headed way_of way answer_by table_by lefts rights filled written cleared read_rows test_rows rows_by rows_call rule_spots rules_of module_rules spots spots_seq spots_back spots_first rules rules_all listed rows_for rule_rows all_rows occurrence_rows occurrences bytes_of kinds_of starts_of words_of ends_of joined encode recorded recorded_all enter_names mark_all rule_node declared declared_all earliest set_word set_words offsets renamed is_binding same_rows list_left occurrence_list test_buffers test_rename out_after after_list after_buffers rename
 answers = refl
 

@@ -63,7 +63,7 @@ const_equal =
     }
 
 -- ★Const c, `if c : T; if c = x; then x = c`: K = 3, five occurrences, two bindings
-abbrev shadowed : File
+abbrev pub shadowed : File
 shadowed =
     record {
       rows = (24 ∷ 0 ∷ [])
