@@ -1,23 +1,24 @@
 /* The proved scope resolver for eqlog sharing rules, for C11.
  *
  * Link target/staticlib/libexports.a, which the script `staticlib` writes (x86-64 Linux, no other library is needed but
- * memset). Every function is proved to answer as said here for all inputs: nothing is asked of the caller but what
- * stands under "Lent memory". No call allocates, keeps anything between calls, or locks; calls on different buffers may
- * run in different threads at once.
+ * memset and memcpy). Every function is proved to answer as said here for all inputs: nothing is asked of the caller but
+ * what stands under "Lent memory". No call allocates, keeps anything between calls, or locks; calls on different buffers
+ * may run in different threads at once.
  *
  * Lent memory
  *
- * An image, a table, rows and an index are pointers, each followed by its length: bytes of an image or a name, 32-bit
- * words of a table, rows or an index. A pointer is good for that many elements for as long as the call runs, and nothing
- * else writes them meanwhile. Words that a call writes overlap nothing else that is lent to it; what it only reads may
- * overlap. The image and a name may have any alignment; words are aligned as uint32_t is. A length of 0 may come with
- * any pointer, NULL too: nothing is read or written through it. A call writes no word past EQLOG_TABLE_WORDS(N) of a
- * table, past EQLOG_ROWS_WORDS(N) of rows and past EQLOG_INDEX_WORDS(N, S) of an index, whatever their lengths.
+ * An image, a table, rows, an index and an output are pointers, each followed by its length: bytes of an image, a name or
+ * an output, 32-bit words of a table, rows or an index. A pointer is good for that many elements for as long as the call
+ * runs, and nothing else writes them meanwhile. What a call writes overlaps nothing else that is lent to it; what it only
+ * reads may overlap. An image, a name and an output may have any alignment; words are aligned as uint32_t is. A length of
+ * 0 may come with any pointer, NULL too: nothing is read or written through it. A call writes no word past
+ * EQLOG_TABLE_WORDS(N) of a table, past EQLOG_ROWS_WORDS(N) of rows and past EQLOG_INDEX_WORDS(N, S) of an index, and no
+ * byte past the image's length of an output, whatever their lengths.
  *
  * Stack: EQLOG_STACK_BYTES are enough for any call on any image. Nesting reaches some 1,000 levels, and the walks
  * over the tree call themselves once or more for each. Measured on the deepest images of eight forms (terms, app heads,
- * members, arguments, branches, matches, models, each in itself): 330,000 bytes are enough for every call, 320,000 are
- * not.
+ * members, arguments, branches, matches, models, each in itself): 410,000 bytes are enough for every call, 405,000 are
+ * not for eqlog_rename, which lists two images; for the others 330,000 are.
  * The proof is about a machine with no stack: a thread with less is ended by the system's guard page.
  *
  * The image
@@ -57,7 +58,7 @@ extern "C" {
 #define EQLOG_MAX_NAMES 1024
 #define EQLOG_MAX_NAME_BYTES 8192
 
-/* The length of the longest image. */
+/* The length of the longest image, and of an output that is enough for any. */
 #define EQLOG_MAX_IMAGE_BYTES (16 + 8 * EQLOG_MAX_NODES + 4 * EQLOG_MAX_OPERANDS + 4 * EQLOG_MAX_NAMES + EQLOG_MAX_NAME_BYTES)
 
 /* The counts in front of a table: N, K and Y; and how many they are. */
@@ -109,10 +110,11 @@ enum eqlog_array {
 #define EQLOG_C(answer) ((unsigned)((uint64_t)(answer) & 0xffff))
 
 enum eqlog_tag {
-    /* Refused; c is the number, below. Nothing that was lent is altered. */
+    /* Refused; c is the number, below. Nothing that was lent is altered, but that 19 to 21 leave table and rows as
+     * eqlog_occurrences does. */
     EQLOG_REFUSED = 0,
     /* One module or model list declares a name twice: a the name's number, b the first node, c the second. The first
-     * EQLOG_TABLE_WORDS(N) words of the table are 0, rows are unaltered. */
+     * EQLOG_TABLE_WORDS(N) words of the table are 0, rows and output are unaltered. */
     EQLOG_TWICE = 1,
     /* The result: see each call. */
     EQLOG_RESULT = 2,
@@ -134,11 +136,14 @@ enum eqlog_refusal {
     EQLOG_REFUSED_PARENTS = 11,    /* a node that is the child of none or of several */
     EQLOG_REFUSED_VARIABLE = 12,   /* an if-var term or defined-then variable that is neither Ident nor Wildcard */
     EQLOG_REFUSED_TABLE = 13,      /* the table has under EQLOG_TABLE_WORDS(N) words */
-    EQLOG_REFUSED_ROWS = 14,       /* the rows have under EQLOG_ROWS_WORDS(N) words */
+    EQLOG_REFUSED_ROWS = 14,       /* rows under EQLOG_ROWS_WORDS(N) words, or an output shorter than the image */
     EQLOG_REFUSED_MODE = 15,       /* a mode over 2 */
     EQLOG_REFUSED_UNSOUND = 16,    /* the table is not one that a lookup can go through */
     EQLOG_REFUSED_SCOPE = 17,      /* a scope not below K */
-    EQLOG_REFUSED_INDEX = 18       /* the index has under EQLOG_INDEX_WORDS(N, S) words, or is not that of the table */
+    EQLOG_REFUSED_INDEX = 18,      /* the index has under EQLOG_INDEX_WORDS(N, S) words, or is not that of the table */
+    EQLOG_REFUSED_BINDING = 19,    /* a node that is no binding of the occurrence list */
+    EQLOG_REFUSED_NAME = 20,       /* a name number not below S */
+    EQLOG_REFUSED_OCCURRENCES = 21 /* the renamed image would have another occurrence list */
 };
 
 enum eqlog_symbol {
@@ -210,6 +215,15 @@ uint64_t eqlog_once(const uint8_t *image, size_t image_len, uint32_t *table, siz
  * count. Refuses 1 to 14. */
 uint64_t eqlog_occurrences(const uint8_t *image, size_t image_len, uint32_t *table, size_t table_len, uint32_t *rows,
                            size_t rows_len);
+
+/* Lists as eqlog_occurrences does, then writes the image with one variable renamed: `name` stands in the name words of the
+ * IdentTerms under the occurrences of `binding`, all other bytes are the old image's. The IdentTerm under an occurrence is
+ * its child, the word after the case number; its name word is the first after the location. The new image is given exactly
+ * if its occurrence list equals the old one row by row, so always for the variable's own name. Table and rows are as
+ * eqlog_occurrences leaves them for the old. Result: c is the length of the new image, which is that of the old. Refuses 1
+ * to 14, then, after "twice", 19 to 21. Without a result the output is unaltered. */
+uint64_t eqlog_rename(const uint8_t *image, size_t image_len, uint32_t *table, size_t table_len, uint32_t *rows,
+                      size_t rows_len, uint32_t binding, uint32_t name, uint8_t *out, size_t out_len);
 
 /* Where a name's bytes stand in the image: start * 2^32 + length. 0 for a number not below S, and where 1 to 12 refuse
  * the image (eqlog_resolve tells the number). */

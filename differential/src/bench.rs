@@ -12,6 +12,7 @@ use differential::make::{Make, Style};
 use differential::random::Random;
 use differential::reading::layout::{index_words, rows_words, table_words};
 use differential::reading::tests::{sizes, verdict};
+use differential::reading::walk::Rows;
 use original::Built;
 use Word::{Child, MaybeName, Name, Plain};
 
@@ -480,6 +481,64 @@ fn run_indexed(subject: &dyn Calls) {
     }
 }
 
+/// A binding of the image, the name number of another name that Rename gives it, and its own: the first such binding of the
+/// list, and the first such name.
+fn renaming(image: &[u8], subject: &dyn Calls) -> (u32, u32, u32) {
+    let z = sizes(image);
+    let (mut table, mut rows) = (vec![0u32; table_words(z.n)], vec![0u32; rows_words(z.n)]);
+    let mut out = vec![0u8; image.len()];
+    let Answer::Result(_, count) = subject.occurrences(image, &mut table, &mut rows) else { panic!("no list") };
+    let names = Rows::new(image);
+    for binding in rows[1 + z.n..][..count as usize].to_vec() {
+        let own = names.name(binding).expect("a named node");
+        for name in (0..z.s as u32).filter(|&name| name != own) {
+            if let Answer::Result(..) = subject.rename(image, &mut table, &mut rows, binding, name, &mut out) {
+                return (binding, name, own);
+            }
+        }
+    }
+    panic!("no variable can be renamed");
+}
+
+/// Occurrences, then Rename to another name and to the own name, in turn: medians in microseconds, and how often the variable
+/// occurs.
+fn time_rename(image: &[u8], subject: &dyn Calls) -> ([f64; 3], usize) {
+    let n = sizes(image).n;
+    let (mut table, mut rows) = (vec![0u32; table_words(n)], vec![0u32; rows_words(n)]);
+    let mut out = vec![0u8; image.len()];
+    let (binding, other, own) = renaming(image, subject);
+    let mut times = [Vec::new(), Vec::new(), Vec::new()];
+    for _ in 0..ROUNDS {
+        times[0].push(clock(|| sink(count(subject.occurrences(image, &mut table, &mut rows)))));
+        for (times, name) in times[1..].iter_mut().zip([other, own]) {
+            times.push(clock(|| sink(count(subject.rename(image, &mut table, &mut rows, binding, name, &mut out)))));
+        }
+    }
+    let places = rows[1 + n..][..rows[0] as usize].iter().filter(|&&found| found == binding).count();
+    (times.map(|mut times| median(&mut times)), places)
+}
+
+/// Rename beside Occurrences, which it calls twice: of the image and of the new one.
+fn run_rename(subject: &dyn Calls) {
+    let inputs: [(&str, Vec<u8>); 3] = [
+        ("typical, 30 rules", typical(30, 2047)),
+        ("typical of 128 nodes", typical(1000, 128)),
+        ("largest, mixed", mixed(2048)),
+    ];
+    println!();
+    println!("| input | N | places | L occurrences | L rename | rename / occurrences | L rename, own name | own / occurrences |");
+    println!("|---|---|---|---|---|---|---|---|");
+    for (name, image) in &inputs {
+        let ([list, other, own], places) = time_rename(image, subject);
+        println!(
+            "| {name} | {} | {places} | {list:.1} | {other:.1} | {:.2} | {own:.1} | {:.2} |",
+            sizes(image).n,
+            other / list,
+            own / list
+        );
+    }
+}
+
 #[cfg(feature = "library")]
 fn subject() -> impl Calls {
     differential::calls::Library
@@ -543,6 +602,7 @@ fn run() {
     run_sorted(&subject);
     run_strict(&subject);
     run_indexed(&subject);
+    run_rename(&subject);
 }
 
 fn main() {

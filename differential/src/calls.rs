@@ -5,7 +5,8 @@ pub enum Answer {
     Refused(u32),
     /// Name, first node, second node.
     Twice(u32, u32, u32),
-    /// Resolve: K and Y; Errors, Sorted and Occurrences: 0 and the count; Index: 0 and Y; Once: 0 and 0 for "ok".
+    /// Resolve: K and Y; Errors, Sorted and Occurrences: 0 and the count; Index: 0 and Y; Once: 0 and 0 for "ok"; Rename: 0
+    /// and the length of the image written.
     Result(u32, u32),
     /// Lookup, by climbing and through an index: the scope that holds the symbol, its number and its node.
     Located(u32, u32, u32),
@@ -29,6 +30,7 @@ pub trait Calls {
     fn live_check(&self, image: &[u8], table: &mut [u32], rows: &mut [u32]) -> Answer;
     fn once(&self, image: &[u8], table: &mut [u32]) -> Answer;
     fn occurrences(&self, image: &[u8], table: &mut [u32], rows: &mut [u32]) -> Answer;
+    fn rename(&self, image: &[u8], table: &mut [u32], rows: &mut [u32], binding: u32, name: u32, out: &mut [u8]) -> Answer;
     /// Where the name stands in the image, start and length; 0 and 0 where it is empty.
     fn name(&self, image: &[u8], name: u32) -> (usize, usize);
 }
@@ -109,6 +111,14 @@ mod library {
 
         fn occurrences(&self, image: &[u8], table: &mut [u32], rows: &mut [u32]) -> Answer {
             rows_answer(lib::occurrences(image, table, rows))
+        }
+
+        fn rename(&self, image: &[u8], table: &mut [u32], rows: &mut [u32], binding: u32, name: u32, out: &mut [u8]) -> Answer {
+            match lib::rename(image, table, rows, binding, name, out) {
+                lib::Rename::Refused(r) => Answer::Refused(r.number()),
+                lib::Rename::Twice(t) => twice(t),
+                lib::Rename::Written(length) => Answer::Result(0, length as u32),
+            }
         }
 
         fn name(&self, image: &[u8], name: u32) -> (usize, usize) {

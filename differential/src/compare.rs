@@ -4,7 +4,7 @@
 use original::{Answers, Built};
 
 use crate::calls::{Answer, Calls, DEFAULT, PLAIN, STRICT};
-use crate::counts::{Counts, APART, BY_DEFAULT, CHANGED, CHANGED_WITH_EQUALS};
+use crate::counts::{Counts, APART, BY_DEFAULT, CHANGED, CHANGED_WITH_EQUALS, KEPT, RENAMED, RENAMED_HEAD};
 use crate::random::Random;
 use crate::reading::layout::{index_words, place, rows_words, table_words, Array, COUNTS};
 use crate::reading::tests::{fields, name_span, sizes, verdict, Field};
@@ -17,12 +17,13 @@ pub struct Compare<'a> {
     pub alone: bool,
 }
 
-/// What a call did: its answer and all lent words.
+/// What a call did: its answer, all lent words, and the bytes of an output.
 #[derive(PartialEq, Eq, Clone)]
 struct Done {
     answer: Answer,
     table: Vec<u32>,
     rows: Vec<u32>,
+    out: Vec<u8>,
 }
 
 type Checked = Result<(), String>;
@@ -32,7 +33,11 @@ fn lent(r: &mut Random, len: usize) -> Vec<u32> {
     (0..len as u32).map(|i| i.wrapping_mul(0x9e37_79b1) ^ salt).collect()
 }
 
-/// A length for a buffer that needs so many words: right, longer, or too short.
+fn lent_bytes(r: &mut Random, len: usize) -> Vec<u8> {
+    lent(r, len).into_iter().map(|word| (word >> 24) as u8).collect()
+}
+
+/// A length for a buffer that needs so many words or bytes: right, longer, or too short.
 fn length(r: &mut Random, need: usize, counts: &mut Counts) -> usize {
     match r.below(40) {
         0 => {
@@ -52,10 +57,13 @@ impl Compare<'_> {
     fn both(&self, call: &'static str, input: &Done, run: impl Fn(&dyn Calls, &mut Done)) -> Result<Done, String> {
         let mut got = input.clone();
         run(self.subject, &mut got);
-        if let Answer::Refused(_) = got.answer {
-            if got.table != input.table || got.rows != input.rows {
-                return Err(format!("{call}: {:?} alters lent words", got.answer));
-            }
+        // 19 to 21 come after the list
+        let untouched = matches!(got.answer, Answer::Refused(..=18));
+        if untouched && (got.table != input.table || got.rows != input.rows) {
+            return Err(format!("{call}: {:?} alters lent words", got.answer));
+        }
+        if !matches!(got.answer, Answer::Result(..)) && got.out != input.out {
+            return Err(format!("{call}: {:?} alters the output", got.answer));
         }
         if self.alone {
             return Ok(got);
@@ -70,6 +78,9 @@ impl Compare<'_> {
                 return Err(format!("{call}: {what}[{i}] is {}, the reading says {}", a[i], b[i]));
             }
         }
+        if let Some(i) = (0..got.out.len()).find(|&i| got.out[i] != wanted.out[i]) {
+            return Err(format!("{call}: output[{i}] is {}, the reading says {}", got.out[i], wanted.out[i]));
+        }
         Ok(got)
     }
 
@@ -81,7 +92,7 @@ impl Compare<'_> {
         let table_len = length(r, table_words(n), counts);
         let rows_len = length(r, rows_words(n), counts);
         let none = Answer::Refused(0);
-        let start = Done { answer: none, table: lent(r, table_len), rows: lent(r, rows_len) };
+        let start = Done { answer: none, table: lent(r, table_len), rows: lent(r, rows_len), out: Vec::new() };
 
         let resolved = self.both("resolve", &start, |c, d| d.answer = c.resolve(image, &mut d.table))?;
         counts.answer("resolve", resolved.answer);
@@ -109,6 +120,66 @@ impl Compare<'_> {
         if refused.is_none() {
             counts.see("accepted images");
             self.accepted(image, r, counts)?;
+        }
+        self.renames(image, &start, &list, r, counts)
+    }
+
+    /// Rename with some bindings and names; `list` is what Occurrences did.
+    fn renames(&self, image: &[u8], start: &Done, list: &Done, r: &mut Random, counts: &mut Counts) -> Checked {
+        let found = if verdict(image).is_none() { pairs(&list.rows, sizes(image).n, list.answer) } else { Vec::new() };
+        for _ in 0..if found.is_empty() { 1 } else { 3 } {
+            let (binding, name) = binding_and_name(image, &found, r);
+            let len = length(r, image.len().max(1), counts);
+            let input = Done { out: lent_bytes(r, len), ..start.clone() };
+            let got = self.both("rename", &input, |c, d| {
+                d.answer = c.rename(image, &mut d.table, &mut d.rows, binding, name, &mut d.out)
+            })?;
+            counts.answer("rename", got.answer);
+            let listed = !matches!(got.answer, Answer::Refused(..=18));
+            if listed && (&got.table, &got.rows) != (&list.table, &list.rows) {
+                return Err(format!("rename: {:?}, with another table or rows than occurrences leaves", got.answer));
+            }
+            let given = matches!(got.answer, Answer::Result(..));
+            if !given && got.answer != Answer::Refused(21) {
+                continue;
+            }
+            let (new, heads) = renamed(image, &found, binding, name);
+            let own = new == image;
+            if !own && (sizes(image).n <= 600 || r.one_in(10)) {
+                by_original(&new, &found, given, counts)?;
+            }
+            if given {
+                self.written(image, &new, &input, &got, list, binding)?;
+            }
+            counts.see(match (given, own) {
+                (false, _) => KEPT,
+                (true, true) => "renames given: to the own name",
+                (true, false) => RENAMED,
+            });
+            if given && !own && heads {
+                counts.see(RENAMED_HEAD);
+            }
+        }
+        Ok(())
+    }
+
+    /// What Rename has written is the image with the named words changed, and past it all is as it was; its list is that of the
+    /// image; and renamed to the old name it is the image.
+    fn written(&self, image: &[u8], new: &[u8], input: &Done, got: &Done, list: &Done, binding: u32) -> Checked {
+        let length = Answer::Result(0, image.len() as u32);
+        let (front, rest) = got.out.split_at(image.len());
+        if got.answer != length || front != new || rest != &input.out[image.len()..] {
+            return Err(format!("rename: {:?}, with other bytes than the named words altered", got.answer));
+        }
+        let mut d = input.clone();
+        let answer = self.subject.occurrences(front, &mut d.table, &mut d.rows);
+        if (answer, &d.rows) != (list.answer, &list.rows) {
+            return Err("rename: the new image has another list".into());
+        }
+        let old = Rows::new(image).name(binding).expect("a named node");
+        let answer = self.subject.rename(front, &mut d.table, &mut d.rows, binding, old, &mut d.out);
+        if answer != length || &d.out[..image.len()] != image {
+            return Err(format!("rename: {answer:?} back to the old name, or not the old image"));
         }
         Ok(())
     }
@@ -340,6 +411,58 @@ impl Compare<'_> {
     }
 }
 
+/// A binding and a name number for Rename, for an image with this list: mostly a binding of it, sometimes one with an app head,
+/// and mostly a name of the image, sometimes that of another variable or the own one.
+fn binding_and_name(image: &[u8], found: &[(u32, u32)], r: &mut Random) -> (u32, u32) {
+    if found.is_empty() {
+        return (r.below(40) as u32, r.below(9) as u32);
+    }
+    let rows = Rows::new(image);
+    let heads: Vec<u32> = found.iter().filter(|row| rows.kind(row.0) == 15).map(|row| row.1).collect();
+    let binding = match r.below(20) {
+        0 => r.word() as u32,
+        1 | 2 => r.below(rows.n) as u32,
+        3..=7 if !heads.is_empty() => *r.pick(&heads),
+        _ => r.pick(found).1,
+    };
+    let name = match r.below(20) {
+        0 => (rows.names + r.below(3)) as u32,
+        1 => r.word() as u32,
+        2 => rows.name(if found.iter().any(|row| row.1 == binding) { binding } else { found[0].1 }).expect("a name"),
+        3..=8 => rows.name(r.pick(found).1).expect("a name"),
+        _ => r.below(rows.names) as u32,
+    };
+    (binding, name)
+}
+
+/// The image with the name under the occurrences of the binding, and whether one of them is an app head.
+fn renamed(image: &[u8], found: &[(u32, u32)], binding: u32, name: u32) -> (Vec<u8>, bool) {
+    let rows = Rows::new(image);
+    let mut new = image.to_vec();
+    let mut heads = false;
+    for &(node, _) in found.iter().filter(|row| row.1 == binding) {
+        // a Term or AppHead of case 0, and its child
+        let at = rows.offset(rows.word(node, 1), 0);
+        new[at..at + 4].copy_from_slice(&name.to_le_bytes());
+        heads |= rows.kind(node) == 15;
+    }
+    (new, heads)
+}
+
+/// The original's list of a renamed image is the old one exactly if the image was given.
+fn by_original(new: &[u8], found: &[(u32, u32)], given: bool, counts: &mut Counts) -> Checked {
+    let Some(built) = Built::new(new) else { return Ok(()) };
+    let Answers::Resolved(answers) = built.answers(&[]).0 else {
+        return Err("rename: the original finds a name declared twice in the new image".into());
+    };
+    if (answers.occurrences == found) != given {
+        let list = answers.occurrences;
+        return Err(format!("rename: given is {given}, the list was {found:?}, and the original's of the new image is {list:?}"));
+    }
+    counts.see(if given { "renames given, compared with the original" } else { "renames not given, compared with the original" });
+    Ok(())
+}
+
 fn same<T: PartialEq + std::fmt::Debug>(what: &str, got: T, wanted: T) -> Checked {
     if got == wanted {
         Ok(())
@@ -348,7 +471,8 @@ fn same<T: PartialEq + std::fmt::Debug>(what: &str, got: T, wanted: T) -> Checke
     }
 }
 
-fn pairs(rows: &[u32], n: usize, answer: Answer) -> Vec<(u32, u32)> {
+/// The rows that a call has written, if it has.
+pub(crate) fn pairs(rows: &[u32], n: usize, answer: Answer) -> Vec<(u32, u32)> {
     match answer {
         Answer::Result(_, count) => (0..count as usize).map(|i| (rows[1 + i], rows[1 + n + i])).collect(),
         _ => Vec::new(),

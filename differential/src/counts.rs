@@ -4,7 +4,8 @@ use std::collections::BTreeMap;
 
 use crate::calls::Answer;
 
-pub const CALLS: [&str; 10] = ["resolve", "lookup", "index", "indexed", "errors", "sorted", "live", "once", "occurrences", "name"];
+pub const CALLS: [&str; 11] =
+    ["resolve", "lookup", "index", "indexed", "errors", "sorted", "live", "once", "occurrences", "rename", "name"];
 
 /// Lists of error rows that sorting by place must have met.
 pub const CHANGED: &str = "error rows: lists that sorting changes";
@@ -15,6 +16,12 @@ pub const APART: &str = "error rows 4, the nearest earlier named argument of ano
 
 /// Lists with a row 4 that must have been met in the default mode.
 pub const BY_DEFAULT: &str = "error rows: lists of mode 0 with a row 4";
+
+/// Renames that must have been met: given with another name than the variable's own, also where one of the places is an app
+/// head; and not given, since the list would be another.
+pub const RENAMED: &str = "renames given: to another name";
+pub const RENAMED_HEAD: &str = "renames given: to another name, of an app head too";
+pub const KEPT: &str = "renames not given: the list would be another";
 
 #[derive(Default)]
 pub struct Counts {
@@ -77,7 +84,7 @@ impl Counts {
     /// The refusals and answers that no call has given, of those that some call can give.
     pub fn missing(&self) -> Vec<String> {
         let mut missing: Vec<String> = Vec::new();
-        let wanted = (1..=18).map(|r| format!("{r:2} refused"));
+        let wanted = (1..=21).map(|r| format!("{r:2} refused"));
         let others = ["50 twice", "51 result", "52 none", "53 ok", "54 lone"].map(String::from);
         for label in wanted.chain(others) {
             if !self.answers.keys().any(|k| k.0 == label) {
@@ -104,7 +111,7 @@ impl Counts {
                 missing.push(format!("error row {row}"));
             }
         }
-        for what in [CHANGED, CHANGED_WITH_EQUALS, APART, BY_DEFAULT] {
+        for what in [CHANGED, CHANGED_WITH_EQUALS, APART, BY_DEFAULT, RENAMED, RENAMED_HEAD, KEPT] {
             if self.of(what) == 0 {
                 missing.push(what.to_string());
             }

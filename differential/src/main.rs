@@ -86,6 +86,12 @@ fn deepest() {
             subject.errors(&image, &mut table, &mut rows, STRICT);
             subject.sorted(&image, &mut table, &mut rows, STRICT);
             subject.occurrences(&image, &mut table, &mut rows);
+            // the first row's binding, to another name or its own
+            let binding = rows[1 + sizes(&image).n];
+            let mut out = vec![0; image.len()];
+            for name in 0..2 {
+                subject.rename(&image, &mut table, &mut rows, binding, name, &mut out);
+            }
             subject.once(&image, &mut table);
             subject.name(&image, 0);
         };

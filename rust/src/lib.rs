@@ -1,9 +1,9 @@
 //! Safe calls of the proved scope resolver for eqlog sharing rules.
 //!
 //! An image is a rule file in the binary form that the project's header `include/eqlog_scopes.h` describes; a table, rows
-//! and an index are lent by the caller, [`table_len`], [`rows_len`] and [`index_len`] words of them. No call panics,
-//! allocates or keeps anything; every image, damaged ones included, gets an answer. An editor calls [`live_check`] at each
-//! key press.
+//! and an index are lent by the caller, [`table_len`], [`rows_len`] and [`index_len`] words of them, and to [`rename`] an
+//! output of as many bytes as the image has. No call panics, allocates or keeps anything; every image, damaged ones
+//! included, gets an answer. An editor calls [`live_check`] at each key press.
 //!
 //! ```
 //! let image = eqlog_scopes::EMPTY_MODULE;
@@ -134,11 +134,24 @@ mod raw {
             rows: *mut u32,
             rows_len: usize,
         ) -> u64;
+        pub fn eqlog_rename(
+            image: *const u8,
+            image_len: usize,
+            table: *mut u32,
+            table_len: usize,
+            rows: *mut u32,
+            rows_len: usize,
+            binding: u32,
+            name: u32,
+            out: *mut u8,
+            out_len: usize,
+        ) -> u64;
         pub fn eqlog_name(image: *const u8, image_len: usize, name: u32) -> u64;
     }
 }
 
-/// Why an input was refused. Nothing lent to the call is altered then.
+/// Why an input was refused. Nothing lent to the call is altered then, but that the last three, which are [`rename`]'s own,
+/// leave table and rows as [`occurrences`] does.
 #[derive(Copy, Clone, Debug, PartialEq, Eq, Hash)]
 #[repr(u8)]
 pub enum Refusal {
@@ -168,7 +181,7 @@ pub enum Refusal {
     Variable = 12,
     /// The table is too short.
     Table = 13,
-    /// The rows are too short.
+    /// The rows, or the output, are too short.
     Rows = 14,
     /// A mode over 2.
     Mode = 15,
@@ -178,9 +191,15 @@ pub enum Refusal {
     Scope = 17,
     /// The index is too short, or not that of the table.
     Index = 18,
+    /// A node that is no binding of the occurrence list.
+    Binding = 19,
+    /// A name number that the image does not have.
+    Name = 20,
+    /// The renamed image would have another occurrence list.
+    Occurrences = 21,
 }
 
-const REFUSALS: [Refusal; 18] = [
+const REFUSALS: [Refusal; 21] = [
     Refusal::Header,
     Refusal::Limits,
     Refusal::Length,
@@ -199,15 +218,18 @@ const REFUSALS: [Refusal; 18] = [
     Refusal::Unsound,
     Refusal::Scope,
     Refusal::Index,
+    Refusal::Binding,
+    Refusal::Name,
+    Refusal::Occurrences,
 ];
 
 impl Refusal {
-    /// Its number in the table of refusals, 1 to 18.
+    /// Its number in the table of refusals, 1 to 21.
     pub fn number(self) -> u32 {
         self as u32
     }
 
-    /// The refusal of a number from 1 to 18.
+    /// The refusal of a number from 1 to 21.
     pub fn from_number(number: u32) -> Option<Refusal> {
         REFUSALS.get((number as usize).wrapping_sub(1)).copied()
     }
@@ -289,6 +311,15 @@ pub enum Rows {
     Written(u32),
 }
 
+/// The answer of [`rename`].
+#[derive(Copy, Clone, Debug, PartialEq, Eq, Hash)]
+pub enum Rename {
+    Refused(Refusal),
+    Twice(Twice),
+    /// The new image stands in front of the output: so many bytes, as many as the image has.
+    Written(usize),
+}
+
 #[derive(Copy, Clone, Debug, PartialEq, Eq, Hash)]
 pub enum Once {
     Refused(Refusal),
@@ -318,7 +349,7 @@ fn parts(packed: u64) -> (u64, u32, u32, u32) {
 }
 
 fn refusal(number: u32) -> Refusal {
-    Refusal::from_number(number).expect("refusals are numbered 1 to 18")
+    Refusal::from_number(number).expect("refusals are numbered 1 to 21")
 }
 
 /// Fills the table: entry and exit scope of each node, the scopes' parents, the symbols.
@@ -437,6 +468,31 @@ fn written(packed: u64) -> Rows {
         (0, _, _, number) => Rows::Refused(refusal(number)),
         (1, name, first, second) => Rows::Twice(Twice { name, first, second }),
         (_, _, _, count) => Rows::Written(count),
+    }
+}
+
+/// Lists as [`occurrences`] does, then writes the image with one variable renamed: the idents under the occurrences of the
+/// binding have the name of that number. It is given exactly if its occurrence list equals that of the image; table and rows
+/// are as [`occurrences`] leaves them for the image.
+pub fn rename(image: &[u8], table: &mut [u32], rows: &mut [u32], binding: u32, name: u32, out: &mut [u8]) -> Rename {
+    let packed = unsafe {
+        raw::eqlog_rename(
+            image.as_ptr(),
+            image.len(),
+            table.as_mut_ptr(),
+            table.len(),
+            rows.as_mut_ptr(),
+            rows.len(),
+            binding,
+            name,
+            out.as_mut_ptr(),
+            out.len(),
+        )
+    };
+    match parts(packed) {
+        (0, _, _, number) => Rename::Refused(refusal(number)),
+        (1, name, first, second) => Rename::Twice(Twice { name, first, second }),
+        (_, _, _, length) => Rename::Written(length as usize),
     }
 }
 

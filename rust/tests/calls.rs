@@ -87,6 +87,35 @@ fn lone() -> Vec<u8> {
     image(&rows, &["x", "y"])
 }
 
+/// One rule `if x = y` with `if x(y)!` after it, of names x, y and z; the first variable has the name of this number.
+fn applied(x: u32) -> Vec<u8> {
+    let rows: [(u32, &[u32]); 22] = [
+        (13, &[x]),
+        (12, &[0, 0]),
+        (13, &[1]),
+        (12, &[0, 2]),
+        (30, &[1, 3]),
+        (28, &[0, 4]),
+        (37, &[5]),
+        (36, &[0, 6]),
+        (13, &[x]),
+        (15, &[0, 8]),
+        (13, &[1]),
+        (12, &[0, 10]),
+        (22, &[1, 11]),
+        (14, &[9, 12]),
+        (12, &[2, 13]),
+        (32, &[14]),
+        (28, &[1, 15]),
+        (37, &[16]),
+        (36, &[0, 17]),
+        (6, &[0, 2, 7, 18]),
+        (1, &[4, 19]),
+        (0, &[1, 20]),
+    ];
+    image(&rows, &["x", "y", "z"])
+}
+
 /// One rule `then x = y` with `then z = z` after it; the terms x, y and z have these places.
 fn three_new(places: [u32; 3]) -> Vec<u8> {
     let rows: [(u32, &[u32]); 19] = [
@@ -372,6 +401,75 @@ fn occurrences_are_listed() {
 }
 
 #[test]
+fn rename_writes_the_image_with_a_variable_renamed() {
+    let old = applied(0);
+    let len = old.len();
+    let (mut table, mut rows) = (vec![7; table_len(22) + 1], vec![7; rows_len(22) + 1]);
+    let mut out = vec![7; len + 2];
+    // x to z, at any place in memory: its two places, the second an app head; past the image nothing is written
+    assert_eq!(rename(&old, &mut table, &mut rows, 0, 2, &mut out[1..]), Rename::Written(len));
+    assert_eq!(out[1..=len], applied(2));
+    assert_eq!((out[0], out[len + 1]), (7, 7));
+    assert_eq!((table[table_len(22)], rows[rows_len(22)]), (7, 7));
+    // table and rows are those of the image, which are those of the new one
+    let list = [(1, 0), (3, 2), (9, 0), (11, 2)];
+    let done = |image: &[u8]| {
+        let (mut table, mut rows) = (vec![7; table_len(22) + 1], vec![7; rows_len(22) + 1]);
+        assert_eq!(occurrences(image, &mut table, &mut rows), Rows::Written(4));
+        assert_eq!(pairs(&rows, 22).collect::<Vec<_>>(), list);
+        (table, rows)
+    };
+    assert_eq!(done(&old), (table, rows));
+    assert_eq!(done(&out[1..=len]).1, done(&old).1);
+    // and back; the own name copies
+    let (mut table, mut rows) = done(&old);
+    let mut back = vec![7; len];
+    assert_eq!(rename(&out[1..=len], &mut table, &mut rows, 0, 0, &mut back), Rename::Written(len));
+    assert_eq!(back, old);
+    assert_eq!(rename(&old, &mut table, &mut rows, 2, 1, &mut out), Rename::Written(len));
+    assert_eq!(out[..len], old);
+}
+
+#[test]
+fn rename_refuses() {
+    let image = applied(0);
+    let len = image.len();
+    let (mut table, mut rows) = (vec![7; table_len(22)], vec![7; rows_len(22)]);
+    let mut out = vec![7; len];
+    let altered = |table: &[u32], rows: &[u32]| table.iter().chain(rows).any(|&word| word != 7);
+    // buffers, and what is lent without any words or bytes: nothing is altered
+    assert_eq!(rename(&[], &mut [], &mut [], 0, 0, &mut []), Rename::Refused(Refusal::Header));
+    let short = rows_len(22) - 1;
+    assert_eq!(rename(&image, &mut table, &mut rows[..short], 0, 2, &mut out), Rename::Refused(Refusal::Rows));
+    assert_eq!(rename(&image, &mut table, &mut rows, 0, 2, &mut out[1..]), Rename::Refused(Refusal::Rows));
+    assert_eq!(rename(&image, &mut table, &mut rows, 1, 3, &mut []), Rename::Refused(Refusal::Rows));
+    assert!(!altered(&table, &rows));
+    // table and rows are as occurrences leaves them: of nodes that are no binding (a name that there is not comes after that),
+    // of a name number that there is not, and of a name that the rule has for the other variable
+    let mut refused = |binding, name, refusal| {
+        let (mut table, mut rows) = (vec![7; table_len(22)], vec![7; rows_len(22)]);
+        assert_eq!(rename(&image, &mut table, &mut rows, binding, name, &mut out), Rename::Refused(refusal));
+        assert_eq!(pairs(&rows, 22).collect::<Vec<_>>(), [(1, 0), (3, 2), (9, 0), (11, 2)]);
+        assert_eq!(table[..3], [22, 3, 2]);
+    };
+    for binding in [1, 8, 21, 22, u32::MAX] {
+        refused(binding, 2, Refusal::Binding);
+        refused(binding, 3, Refusal::Binding);
+    }
+    refused(0, 3, Refusal::Name);
+    refused(2, u32::MAX, Refusal::Name);
+    refused(0, 1, Refusal::Occurrences);
+    refused(2, 0, Refusal::Occurrences);
+    assert!(out.iter().all(|&byte| byte == 7));
+    // twice: the table is cleared, the rest unaltered
+    let clash = Twice { name: 0, first: 2, second: 1 };
+    assert_eq!(rename(&twice(), &mut table, &mut rows, 0, 0, &mut out), Rename::Twice(clash));
+    assert!(table[..table_len(5)].iter().all(|&word| word == 0));
+    assert!(!altered(&table[table_len(5)..], &rows));
+    assert!(out.iter().all(|&byte| byte == 7));
+}
+
+#[test]
 fn names_are_parts_of_the_image() {
     let image = lone();
     assert_eq!(name(&image, 0), b"x");
@@ -383,11 +481,11 @@ fn names_are_parts_of_the_image() {
 
 #[test]
 fn refusals_by_number() {
-    for number in 1..=18 {
+    for number in 1..=21 {
         assert_eq!(Refusal::from_number(number).map(Refusal::number), Some(number));
     }
     assert_eq!(Refusal::from_number(0), None);
-    assert_eq!(Refusal::from_number(19), None);
+    assert_eq!(Refusal::from_number(22), None);
 }
 
 #[test]

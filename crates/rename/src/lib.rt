@@ -90,7 +90,8 @@ fn is_binding(list: Written, binding: NodeId) -> bool
     list.pairs().any(|(_, found)| found == binding.0)
 }
 
-// Whether the occurrence list of an image is these rows.
+// Whether the occurrence list of an image is these rows. An image that Occurrences gives no list for would pass for one without rows; there is
+// none among those that are asked for (crate renaming).
 fn lists(image: &[u8], list: Written) -> bool
     ensures { result ≡ same_rows (occurrence_list image.now) (shown list.entry) }
 {

@@ -5,6 +5,7 @@
 pub mod checks;
 pub mod index;
 pub mod layout;
+pub mod rename;
 pub mod sight;
 pub mod tests;
 pub mod walk;
@@ -46,6 +47,14 @@ impl Reading {
                 Err(Answer::Twice(name, first, second))
             }
         }
+    }
+
+    /// Resolves an image that is not refused, and writes its occurrences.
+    fn listed(image: &[u8], table: &mut [u32], rows: &mut [u32]) -> Result<Vec<(u32, u32)>, Answer> {
+        let r = Self::walked(image, table)?;
+        let list = checks::occurrences(&r).concat();
+        put_rows(rows, r.rows.n, &list);
+        Ok(list)
     }
 
     /// Errors, or the same rows by place.
@@ -129,13 +138,26 @@ impl Calls for Reading {
         if let Some(r) = tests::rows_refusal(image, table.len(), rows.len()) {
             return Answer::Refused(r);
         }
-        match Self::walked(image, table) {
-            Ok(r) => {
-                let list: Vec<(u32, u32)> = checks::occurrences(&r).concat();
-                put_rows(rows, r.rows.n, &list);
-                Answer::Result(0, list.len() as u32)
-            }
+        match Self::listed(image, table, rows) {
+            Ok(list) => Answer::Result(0, list.len() as u32),
             Err(twice) => twice,
+        }
+    }
+
+    fn rename(&self, image: &[u8], table: &mut [u32], rows: &mut [u32], binding: u32, name: u32, out: &mut [u8]) -> Answer {
+        if let Some(r) = tests::output_refusal(image, table.len(), rows.len(), out.len()) {
+            return Answer::Refused(r);
+        }
+        let list = match Self::listed(image, table, rows) {
+            Ok(list) => list,
+            Err(twice) => return twice,
+        };
+        match rename::renamed(image, &list, binding, name) {
+            Ok(new) => {
+                out[..new.len()].copy_from_slice(&new);
+                Answer::Result(0, new.len() as u32)
+            }
+            Err(r) => Answer::Refused(r),
         }
     }
 

@@ -302,3 +302,8 @@ pub fn table_refusal(image: &[u8], table: usize) -> Option<u32> {
 pub fn rows_refusal(image: &[u8], table: usize, rows: usize) -> Option<u32> {
     table_refusal(image, table).or_else(|| (rows < rows_words(sizes(image).n)).then_some(14))
 }
+
+/// The same, where an output of so many bytes is lent too: "An output shorter than the image counts as 14."
+pub fn output_refusal(image: &[u8], table: usize, rows: usize, out: usize) -> Option<u32> {
+    rows_refusal(image, table, rows).or_else(|| (out < image.len()).then_some(14))
+}

@@ -37,6 +37,11 @@ impl Rows {
         self.operands[self.starts[n as usize] + 2 + j]
     }
 
+    /// Where that word stands in the image.
+    pub fn offset(&self, n: u32, j: usize) -> usize {
+        16 + 8 * self.n + 4 * (self.starts[n as usize] + 2 + j)
+    }
+
     /// The two location words.
     pub fn location(&self, n: u32) -> (u32, u32) {
         let start = self.starts[n as usize];
