@@ -60,7 +60,7 @@ module _ (img : List ℕ) where
   blocks-on zero p = omega arith
   blocks-on (suc c) p = let h = blocks-on c (p + 1 + op_at img p) in omega arith
 
-  field-on : (g : Field) (p : ℕ) → p < after img g p
+  pub field-on : (g : Field) (p : ℕ) → p < after img g p
   unfolding after
   field-on name p = omega arith
   field-on opt_name p = omega arith

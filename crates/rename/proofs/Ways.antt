@@ -15,7 +15,7 @@ use Rattle.ast.specs.Answer.{Answer, refused, twice, result, located, other}
 use Rattle.ast.specs.Image.{nodes, names}
 use Rattle.ast.specs.Tests.{◌▸◌, need}
 use Rattle.ast.proofs.Accepted.{both, skip, stop, stop-at}
-use Rattle.ast.proofs.Scans.{need-in, need-out}
+use Rattle.ast.proofs.Scans.{▸-zero, need-in, need-out}
 use Rattle.ast.proofs.Refusals.{Low, first-low, need-low}
 use Rattle.rows.specs.Rows.{Row, read_rows}
 use Rattle.scopes.specs.Answers.{rowed_answer}
@@ -25,16 +25,11 @@ use Rattle.scopes.proofs.Fitting.{rows-low}
 use Rattle.occurrences.specs.Occurrences.{occurrence_rows, occurrences}
 use Rattle.rename.specs.Rename.{renamed, is_binding, same_rows, occurrence_list, list_left, test_buffers, test_rename, out_after, answer_after, after_list, after_buffers, rename}
 
-none-after : (r : ℕ) → r ▸ 0 ≡ r
-unfolding ◌▸◌
-none-after zero = refl
-none-after (suc r) = refl
-
 module _ (img tab rows out : List ℕ) where
   -- an output that is long enough adds no test; one that is not is 14, where the others refuse nothing
   pub output-long : length img ≤ length out → test_buffers img tab rows out ≡ test_rows img tab rows
   unfolding test_buffers need
-  output-long h = ap (λ (b : ℕ). test_rows img tab rows ▸ b) (ap (need 14) (le-leb _ _ h)) ∙ none-after (test_rows img tab rows)
+  output-long h = ap (λ (b : ℕ). test_rows img tab rows ▸ b) (ap (need 14) (le-leb _ _ h)) ∙ ▸-zero (test_rows img tab rows)
 
   pub output_short : 0 ≡ test_rows img tab rows → length out < length img → 14 ≡ test_buffers img tab rows out
   unfolding test_buffers need
