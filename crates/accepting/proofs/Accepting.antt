@@ -7,7 +7,7 @@ use mathlib.Core.List.{List, [], ◌∷◌}
 use Prim.Native.Nat.{ℕ, zero, suc, ◌+◌, ◌<◌, ◌≤◌}
 use native.Mathlib.Nat.{add-zero, zero-add}
 use native.Mathlib.Omega.{arith}
-use lib.Dec.{T, eqb, eqb→eq, eqb_refl}
+use lib.Dec.{T, eqb, eqb→eq}
 use lib.ListN.{get_or}
 use borrow.Author.Tests.{lt-ltb, le-leb, eq-eqb}
 use Rattle.ast.specs.Image.{nodes, operands, names, last, start_at, op_at, name_bytes}
@@ -34,17 +34,8 @@ run-from f (suc c) i h =
 run-all : (f : ℕ → ℕ) (c : ℕ) → ((j : ℕ) → j < c → f j ≡ 0) → run f c 0 ≡ 0
 run-all f c h = run-from f c 0 (λ j l. rw zero-add (h j l))
 
--- the test of equal bytes holds of equal lists, and of no others
-pub same-refl : (xs : List ℕ) → same xs xs ≡ true
-unfolding same
-same-refl [] = refl
-same-refl (x ∷ xs) = go (eqb x x) (eqb_refl x) (same-refl xs)
-  where
-    go : (b : Bool) → T b → same xs xs ≡ true → ◌≡◌ {A = Bool} (elim b [ true ↦ same xs xs | false ↦ false ]) true
-    go true t e = e
-    go false t e = absurd t
-
-pub same-eq : (xs ys : List ℕ) → same xs ys ≡ true → xs ≡ ys
+-- lists that are not equal fail the test of equal bytes
+same-eq : (xs ys : List ℕ) → same xs ys ≡ true → xs ≡ ys
 unfolding same
 same-eq [] [] e = refl
 same-eq [] (y ∷ ys) e = cc

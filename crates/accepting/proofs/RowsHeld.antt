@@ -3,17 +3,16 @@
 use mathlib.Core.Bool.{Bool, true, false}
 use mathlib.Core.Path.{◌≡◌, refl, sym, ap, ap₂, ◌∙◌, subst}
 use mathlib.Core.List.{List, [], ◌∷◌, ◌++◌, map, map-append, map-id}
-use Prim.Native.Nat.{ℕ, zero, suc, ◌+◌, ◌<◌, ◌≤◌}
+use Prim.Native.Nat.{ℕ, zero, suc, ◌+◌, ◌<◌}
 use native.Mathlib.Nat.{add-zero}
 use native.Mathlib.Omega.{arith}
-use native.Mathlib.Decide.{dec_lt}
 use lib.Dec.{eqb}
 use lib.ListN.{length, get_or, length-append, length-map, get_or-append}
 use lib.Seq.{get_or-append-add}
-use Rattle.ast.specs.Image.{start_at, op_at}
+use Rattle.ast.specs.Image.{op_at}
 use Rattle.ast.specs.Kinds.{Field, name, opt_name, child, opt_child, list, lists, cases, no_child}
-use Rattle.ast.specs.Rows.{Kid, one, many, ones, ops_from, after_blocks, block_kids, block_counts, after, field_kids, field_shape, after_fields, fields_kids, fields_shape, fields_at, row_end}
-use Rattle.accepting.specs.Moved.{optional, block_words, field_words, fields_words, row_words, rows_words}
+use Rattle.ast.specs.Rows.{Kid, one, many, ones, ops_from, after_blocks, block_kids, block_counts, after, field_kids, field_shape, after_fields, fields_kids, fields_shape}
+use Rattle.accepting.specs.Moved.{optional, block_words, field_words, fields_words}
 
 -- a row's child by its new number, a block by those of its items
 abbrev pub new_kid : (ℕ → ℕ) → Kid → Kid
@@ -61,16 +60,11 @@ module _ (J : List ℕ) where
   at-append [] ys {p} a b = at-place (add-zero p) b
   at-append (x ∷ xs) ys {p} a b = at-cons (at-first a) (at-append xs ys (at-rest a) (at-place (omega arith) b))
 
-  -- words that are read are such words, and the other way round
+  -- words that are read are such words
   pub ops-at : (c p : ℕ) → At p (ops_from J c p)
   unfolding ops_from
   ops-at zero p = at-none
   ops-at (suc c) p = at-cons refl (ops-at c (p + 1))
-
-  pub ops-are : (xs : List ℕ) (p : ℕ) → At p xs → ops_from J (length xs) p ≡ xs
-  unfolding ops_from
-  ops-are [] p a = refl
-  ops-are (x ∷ xs) p a = ap₂ ◌∷◌ (at-first a) (ops-are xs (p + 1) (at-rest a))
 
 -- the same words in another image
 pub at-same : (J img : List ℕ) {p : ℕ} {xs : List ℕ} → At img p xs → ((j : ℕ) → j < length xs → op_at J (p + j) ≡ op_at img (p + j)) → At J p xs
@@ -244,7 +238,7 @@ module _ (J img : List ℕ) (r f : ℕ → ℕ) where
   field-length (lists k) p = let l = blocks-length (op_at img p) (p + 1) in omega arith
   field-length (cases ks) p = sym (case-next (eqb (get_or ks (op_at img p) no_child) no_child) p (r (op_at img (p + 1))))
 
-  -- so are the words of all fields, and of a row
+  -- so are the words of all fields
   pub fields-length : (gs : List Field) (p : ℕ) → p + length (fields_words img r f gs p) ≡ after_fields img gs p
   unfolding fields_words after_fields
   fields-length [] p = add-zero p
@@ -253,46 +247,6 @@ module _ (J img : List ℕ) (r f : ℕ → ℕ) where
       let m = fields-length gs (after img g p) in
       let k = length-append (field_words img r f g p) (fields_words img r f gs (after img g p)) in
       omega arith
-
-  pub row-length : (n : ℕ) → start_at img n + length (row_words img r f n) ≡ row_end img n
-  unfolding row_words row_end
-  row-length n = let l = fields-length (fields_at img n) (start_at img n + 2) in omega arith
-
-  -- rows that follow one another, each starting where the one before ends
-  pub rows-length : (c n : ℕ) → ((m : ℕ) → m < n + c → start_at img (suc m) ≡ row_end img m) → start_at img n + length (rows_words img r f c n) ≡ start_at img (n + c)
-  unfolding rows_words
-  rows-length zero n h = add-zero (start_at img n) ∙ ap (start_at img) (sym (add-zero n))
-  rows-length (suc c) n h =
-      let a = row-length n in
-      let b = h n (omega arith) in
-      let q : n + 1 ≡ suc n = omega arith in
-      let q₁ : n + 1 + c ≡ n + suc c = omega arith in
-      let d = rows-length c (n + 1) (λ m l. h m (omega arith)) in
-      let d₁ = ap (start_at img) q in
-      let d₂ = ap (start_at img) q₁ in
-      let l = length-append (row_words img r f n) (rows_words img r f c (n + 1)) in
-      omega arith
-
-  -- the row of m among them
-  pub row-at : (q c n : ℕ) → ((m : ℕ) → m < n + c → start_at img (suc m) ≡ row_end img m) → At J (start_at img n + q) (rows_words img r f c n)
-      → (m : ℕ) → n ≤ m → m < n + c → At J (start_at img m + q) (row_words img r f m)
-  unfolding rows_words
-  row-at q zero n h a m l k = absurd (omega arith)
-  row-at q (suc c) n h a m l k =
-      go (dec_lt n m) (λ d. row-at q c (n + 1) (λ i j. h i (omega arith)) (at-place J next (at-right J here rest a)) m (omega arith) (omega arith))
-    where
-      here : List ℕ
-      here = row_words img r f n
-
-      rest : List ℕ
-      rest = rows_words img r f c (n + 1)
-
-      next : start_at img n + q + length here ≡ start_at img (n + 1) + q
-      next = let b = row-length n in let d = h n (omega arith) in let e : n + 1 ≡ suc n = omega arith in let d₁ = ap (start_at img) e in omega arith
-
-      go : Dec (n < m) → (n < m → At J (start_at img m + q) (row_words img r f m)) → At J (start_at img m + q) (row_words img r f m)
-      go (yes d) later = later d
-      go (no d) later = let e : n ≡ m = omega arith in subst (λ z. At J (start_at img z + q) (row_words img r f z)) e (at-left J here rest a)
 
 -- the same number. Rows with all numbers kept are as they stand
 abbrev pub keep : ℕ → ℕ
@@ -341,17 +295,3 @@ module _ (img : List ℕ) where
   fields-kept (g ∷ gs) p =
       at-append img (field_words img keep keep g p) (fields_words img keep keep gs (after img g p)) (field-kept g p)
       (at-place img (sym (field-length img img keep keep g p)) (fields-kept gs (after img g p)))
-
-  row-kept : (n : ℕ) → At img (start_at img n) (row_words img keep keep n)
-  unfolding row_words
-  row-kept n = at-cons img refl (at-cons img refl (at-place img (omega arith) (fields-kept (fields_at img n) (start_at img n + 2))))
-
-  pub rows-kept : (c n : ℕ) → ((m : ℕ) → m < n + c → start_at img (suc m) ≡ row_end img m) → At img (start_at img n) (rows_words img keep keep c n)
-  unfolding rows_words
-  rows-kept zero n h = at-none img
-  rows-kept (suc c) n h =
-      at-append img (row_words img keep keep n) (rows_words img keep keep c (n + 1)) (row-kept n)
-      (at-place img next (rows-kept c (n + 1) (λ m l. h m (omega arith))))
-    where
-      next : start_at img (n + 1) ≡ start_at img n + length (row_words img keep keep n)
-      next = let a = row-length img img keep keep n in let b = h n (omega arith) in let e : n + 1 ≡ suc n = omega arith in let d = ap (start_at img) e in omega arith

@@ -12,10 +12,9 @@ use Rattle.ast.specs.Image.{nodes, operands, names, kind_at, start_at, op_at}
 use Rattle.ast.specs.Kinds.{Field, name, opt_name, child, opt_child, list, lists, cases, no_child, kinds, kind_of}
 use Rattle.ast.specs.Rows.{ops_from, after, after_fields, fields_kids, fields_shape, fields_at, row_end, kids, shape}
 use Rattle.ast.specs.Tests.{need, end_before, first, is_var, test_var}
-use Rattle.ast.specs.Tree.{class_at}
 use Rattle.ast.proofs.Formed.{Child, Items, FormedBlocks, FormedField, FormedFields, FormedNode, Formed}
 use Rattle.ast.proofs.Unfold.{row_of}
-use Rattle.accepting.specs.Moved.{optional, block_words, field_words, fields_words, row_words}
+use Rattle.accepting.specs.Moved.{optional, block_words, field_words, fields_words}
 use Rattle.accepting.proofs.RowsHeld.{new_kid, At, at-first, at-rest, at-left, at-right, at-place, field-held, fields-held, moved-length, fields-length}
 
 ops-get : (img : List ℕ) (r : ℕ → ℕ) (c p j : ℕ) → j < c → get_or (map r (ops_from img c p)) j 0 ≡ r (op_at img (p + j))
@@ -31,12 +30,6 @@ pub record Stands (J img : List ℕ) (r : ℕ → ℕ) (f : ℕ → ℕ → ℕ)
   pub start : (n : ℕ) → n < m → start_at J (r n) ≡ start_at img n + q
   pub row : (n : ℕ) → n < m → At J (start_at J (r n) + 2) (fields_words img r (f n) (fields_at img n) (start_at img n + 2))
 
--- its fields, where the whole row stands there
-pub row-fields : (J img : List ℕ) (r f : ℕ → ℕ) (q n : ℕ) → start_at J (r n) ≡ start_at img n + q → At J (start_at img n + q) (row_words img r f n)
-    → At J (start_at J (r n) + 2) (fields_words img r f (fields_at img n) (start_at img n + 2))
-unfolding row_words
-row-fields J img r f q n e a = at-place J (omega arith) (at-rest J (at-rest J a))
-
 -- new numbers rise, new names are names, and the rows have room
 pub record Orderly (J img : List ℕ) (r : ℕ → ℕ) (f : ℕ → ℕ → ℕ) (q m : ℕ) : Type 0 where
   pub rises : (c n : ℕ) → c < n → r c < r n
@@ -44,14 +37,10 @@ pub record Orderly (J img : List ℕ) (r : ℕ → ℕ) (f : ℕ → ℕ → ℕ
   pub room : (n : ℕ) → n < m → row_end img n + q ≤ operands J
 
 module _ (J img : List ℕ) (r : ℕ → ℕ) (f : ℕ → ℕ → ℕ) (q m : ℕ) (s : Stands J img r f q m) (n : ℕ) (below : n < m) where
-  -- what the node n is there: its fields, its class, its children with their new numbers, and its shape
+  -- what the node n is there: its fields, its children with their new numbers, and its shape
   pub fields-same : fields_at J (r n) ≡ fields_at img n
   unfolding fields_at
   fields-same = ap (λ k. (kind_of k).fields) (s.kind n below)
-
-  pub class-same : class_at J (r n) ≡ class_at img n
-  unfolding class_at
-  class-same = ap (λ k. (kind_of k).class) (s.kind n below)
 
   pub kids-same : kids J (r n) ≡ map (new_kid r) (kids img n)
   unfolding kids

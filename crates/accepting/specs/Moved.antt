@@ -4,9 +4,9 @@ use mathlib.Core.List.{List, [], ◌∷◌, ◌++◌, map}
 use Prim.Native.Nat.{ℕ, zero, suc, ◌+◌}
 use lib.Dec.{eqb}
 use lib.ListN.{get_or}
-use Rattle.ast.specs.Image.{start_at, op_at}
+use Rattle.ast.specs.Image.{op_at}
 use Rattle.ast.specs.Kinds.{Field, name, opt_name, child, opt_child, list, lists, cases, no_child}
-use Rattle.ast.specs.Rows.{ops_from, after, fields_at}
+use Rattle.ast.specs.Rows.{ops_from, after}
 
 -- an option's word: 0, or the number plus 1
 unfoldable pub optional : (ℕ → ℕ) → ℕ → ℕ
@@ -34,12 +34,3 @@ module _ (img : List ℕ) (r f : ℕ → ℕ) where
   unfoldable pub fields_words : List Field → ℕ → List ℕ
   fields_words [] p = []
   fields_words (g ∷ gs) p = field_words g p ++ fields_words gs (after img g p)
-
-  -- the row of the node n
-  unfoldable pub row_words : ℕ → List ℕ
-  row_words n = op_at img (start_at img n) ∷ op_at img (start_at img n + 1) ∷ fields_words (fields_at img n) (start_at img n + 2)
-
-  -- the rows of c nodes, from n on
-  unfoldable pub rows_words : ℕ → ℕ → List ℕ
-  rows_words zero n = []
-  rows_words (suc c) n = row_words n ++ rows_words c (n + 1)

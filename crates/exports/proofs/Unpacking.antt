@@ -20,7 +20,7 @@ use Rattle.index.specs.Index.{Outcome, index_call, indexed_call}
 use Rattle.index.proofs.Tests.{Makes, keeps, makes, Looks, looks, indexed-looks}
 use Rattle.index.proofs.Tests.{fills as filled, stops as stopped}
 use Rattle.occurrences.specs.Occurrences.{occurrence_rows, lone, rows_by_rule, lone_answer, occurrences, once}
-use Rattle.rename.proofs.Ways.{answer-is}
+use Rattle.rename.proofs.Ways.{call-is}
 use Rattle.exports.specs.Alike.{Counts, Locates, Alike, Looking, climbing, chaining, Filling, resolving, checking, sorting, counting, listing, indexing, renaming}
 use Rattle.exports.specs.Packed.{packed, Places}
 
@@ -123,7 +123,7 @@ filling-none (counting img tab) h = table-none img tab (test_table img tab) (λ 
 filling-none (listing img tab rows) h = rows-none img tab rows (test_rows img tab rows) (occurrence_rows img) h
 filling-none (indexing img tab index) h = index-none img tab index h
 filling-none (renaming img tab rows i x out) h =
-    answer-is img tab rows i x out (λ a. Locates a → ⊥) (λ r l k. k) (rows-none img tab rows (test_rows img tab rows) (occurrence_rows img)) (λ e k. k) h
+    call-is img tab rows i x out (λ a bs. Locates a → ⊥) (λ r l k. k) (rows-none img tab rows (test_rows img tab rows) (occurrence_rows img)) (λ e h l k. k) h
 
 pub fillings-alike : {a b : Answer} → Filling a → Filling b → Alike a b
 fillings-alike f g = ((λ c l. filling-none g l), (λ l c. filling-none f l))

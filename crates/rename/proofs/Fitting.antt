@@ -5,6 +5,7 @@ use Prim.Native.Nat.{ℕ, ◌≤◌}
 use native.Mathlib.Omega.{arith}
 use lib.ListN.{length}
 use Rattle.ast.specs.Answer.{Fits}
+use Rattle.ast.specs.declared.TheConstants.{MOST_BYTES}
 use Rattle.ast.proofs.Accepted.{sized}
 use Rattle.scopes.specs.Calls.{test_rows}
 use Rattle.scopes.proofs.Calls.{rows-table}
@@ -12,9 +13,9 @@ use Rattle.scopes.proofs.Fitting.{refused-fits}
 use Rattle.scopes.proofs.Resolving.{table-accepted}
 use Rattle.occurrences.proofs.Fitting.{occurrences-fit}
 use Rattle.rename.specs.Rename.{rename}
-use Rattle.rename.proofs.Ways.{answer-is}
+use Rattle.rename.proofs.Ways.{call-is}
 
-pub image-short : (img tab rows : List ℕ) → test_rows img tab rows ≡ 0 → length img ≤ 61456
+pub image-short : (img tab rows : List ℕ) → test_rows img tab rows ≡ 0 → length img ≤ MOST_BYTES
 image-short img tab rows e =
     let s = sized img (table-accepted img tab (rows-table img tab rows e)) in
     let a = s.few_nodes in
@@ -27,4 +28,4 @@ image-short img tab rows e =
 pub rename-fits : (img tab rows : List ℕ) (i x : ℕ) (out : List ℕ) → Fits (rename img tab rows i x out).answer
 unfolding Fits
 rename-fits img tab rows i x out =
-    answer-is img tab rows i x out Fits refused-fits (occurrences-fit img tab rows) (λ e. let s = image-short img tab rows e in (omega arith, omega arith))
+    call-is img tab rows i x out (λ a bs. Fits a) refused-fits (occurrences-fit img tab rows) (λ e h l. let s = image-short img tab rows e in (omega arith, omega arith))

@@ -25,29 +25,21 @@ module _ (N : ℕ) (ws : List ℕ) (M : ℕ) (vs : List ℕ) where
   abbrev pub alike : ℕ → Bool
   alike i = eqb (get_or ws (1 + i) 0) (get_or vs (1 + i) 0) && eqb (get_or ws (1 + N + i) 0) (get_or vs (1 + M + i) 0)
 
-  and-both : (a b c : Bool) → (a && b) && c ≡ a && (b && c)
-  and-both true b c = refl
-  and-both false b c = refl
-
   pub rows-all : (c i : ℕ) → list_all alike (range_with_len i c) ≡ same_rows (read_rows N ws c i) (read_rows M vs c i)
   unfolding read_rows same_rows
   rows-all zero i = refl
-  rows-all (suc c) i = ap (λ (b : Bool). alike i && b) (rows-all c (i + 1)) ∙ and-both (eqb (get_or ws (1 + i) 0) (get_or vs (1 + i) 0)) (eqb (get_or ws (1 + N + i) 0) (get_or vs (1 + M + i) 0)) _
+  rows-all (suc c) i = ap (λ (b : Bool). alike i && b) (rows-all c (i + 1))
 
-  no-rows : (a b : Bool) → (a && (b && false)) ≡ false
-  no-rows true true = refl
-  no-rows true false = refl
-  no-rows false b = refl
+  no-more : (a : Bool) → false ≡ (a && false)
+  no-more true = refl
+  no-more false = refl
 
   pub rows-fewer : (c d i : ℕ) → (c ≡ d → ⊥) → false ≡ same_rows (read_rows N ws c i) (read_rows M vs d i)
   unfolding read_rows same_rows
   rows-fewer zero zero i h = absurd (h refl)
   rows-fewer zero (suc d) i h = refl
   rows-fewer (suc c) zero i h = refl
-  rows-fewer (suc c) (suc d) i h =
-      let e = rows-fewer c d (i + 1) (λ q. h (ap suc q)) in
-      sym (ap (λ (b : Bool). eqb (get_or ws (1 + i) 0) (get_or vs (1 + i) 0) && (eqb (get_or ws (1 + N + i) 0) (get_or vs (1 + M + i) 0) && b)) (sym e)
-      ∙ no-rows (eqb (get_or ws (1 + i) 0) (get_or vs (1 + i) 0)) (eqb (get_or ws (1 + N + i) 0) (get_or vs (1 + M + i) 0)))
+  rows-fewer (suc c) (suc d) i h = no-more (alike i) ∙ ap (λ (b : Bool). alike i && b) (rows-fewer c d (i + 1) (λ q. h (ap suc q)))
 
 -- names are put in for the rows that are left of a list: what is left, put in now, is the whole
 module _ (img : List ℕ) (i x : ℕ) (l : List Row) (start : List ℕ) where

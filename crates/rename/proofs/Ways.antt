@@ -1,10 +1,11 @@
 -- The way of Rename: its buffer tests, and what it leaves beside what Occurrences leaves.
 use mathlib.Core.Bool.{true, false}
 use mathlib.Core.Path.{◌≡◌, refl, sym, ap, ap₂, ◌∙◌}
-use mathlib.Core.List.{List}
+use mathlib.Core.List.{List, ◌++◌}
 use Prim.Native.Nat.{ℕ, zero, suc, ◌<◌, ◌≤◌}
 use native.Mathlib.Omega.{arith}
-use lib.ListN.{length}
+use lib.Dec.{leb→le}
+use lib.ListN.{length, drop}
 use borrow.Author.Tests.{le-leb, lt-leb, le-ltb, lt-ltb}
 use Rattle.std.specs.Prelude.{Result, Ok, Err, IsErrAnd}
 use Rattle.std.specs.Result.{result_unwrap_or}
@@ -14,7 +15,7 @@ use Rattle.error.specs.declared.Unresolved.TheVariants.{Refused, Twice}
 use Rattle.ast.specs.Answer.{Answer, refused, twice, result, located, other}
 use Rattle.ast.specs.Image.{nodes, names}
 use Rattle.ast.specs.Tests.{◌▸◌, need}
-use Rattle.ast.proofs.Accepted.{both, skip, stop, stop-at}
+use Rattle.ast.proofs.Accepted.{both, skip, stop, stop-at, needed}
 use Rattle.ast.proofs.Scans.{▸-zero, need-in, need-out}
 use Rattle.ast.proofs.Refusals.{Low, first-low, need-low}
 use Rattle.rows.specs.Rows.{Row, read_rows}
@@ -112,8 +113,9 @@ own-list img (Ok k) {ws = ws} e m q = ap₂ (λ (n c : ℕ). read_rows n ws c 0)
 own-list img (Err (Refused k)) {ws = ws} e m q = ap₂ (λ (n c : ℕ). read_rows n ws c 0) m q ∙ unfold read_rows in sym (ap (list_left img) e)
 own-list img (Err (Twice k)) {ws = ws} e m q = ap₂ (λ (n c : ℕ). read_rows n ws c 0) m q ∙ unfold read_rows in sym (ap (list_left img) e)
 
--- what holds of every refusal, of what Occurrences answers, and of the length as a result, holds of the answer
-module _ (img tab rows : List ℕ) (i x : ℕ) (out : List ℕ) (P : Answer → Type 0) (refusals : (r : ℕ) → Low r → P (refused r)) where
+-- what holds of every refusal and of what Occurrences answers, with the output as it was, and of a new image's length as a result, with that image in
+-- front, holds of the answer and the output
+module _ (img tab rows : List ℕ) (i x : ℕ) (out : List ℕ) (P : Answer → List ℕ → Type 0) (refusals : (r : ℕ) → Low r → P (refused r) out) where
   buffers-low : Low (test_buffers img tab rows out)
   unfolding test_buffers
   buffers-low = first-low _ _ (rows-low img tab rows) (need-low 14 _ (omega arith))
@@ -122,7 +124,10 @@ module _ (img tab rows : List ℕ) (i x : ℕ) (out : List ℕ) (P : Answer → 
   unfolding test_rename
   rename-low l = first-low _ _ (need-low 19 _ (omega arith)) (first-low _ _ (need-low 20 _ (omega arith)) (need-low 21 _ (omega arith)))
 
-  after-is : (o : RowsOutcome) (a : Answer) → P a → P (result 0 (length img)) → P (after_list img i x out o a).answer
+  abbrev Given : Type 0
+  Given = (l : List Row) → P (result 0 (length img)) (renamed img l i x ++ drop (length img) out)
+
+  after-is : (o : RowsOutcome) (a : Answer) → P a out → Given → P (after_list img i x out o a).answer (after_list img i x out o a).out
   unfolding after_list
   after-is o (refused r) p q = p
   after-is o (twice y a b) p q = p
@@ -130,16 +135,16 @@ module _ (img tab rows : List ℕ) (i x : ℕ) (out : List ℕ) (P : Answer → 
   after-is o (other a b) p q = p
   after-is o (result a c) p q = go (test_rename img (list_left img o) i x) (rename-low (list_left img o))
     where
-      go : (r : ℕ) → Low r → P (answer_after img r)
-      go zero l = q
-      go (suc r) l = refusals (suc r) l
+      go : (r : ℕ) → Low r → P (answer_after img r) (out_after img (list_left img o) i x out r)
+      go zero l = unfold out_after in q (list_left img o)
+      go (suc r) l = unfold out_after in refusals (suc r) l
 
-  pub answer-is : P (occurrences img tab rows).answer → (test_rows img tab rows ≡ 0 → P (result 0 (length img))) → P (rename img tab rows i x out).answer
+  pub call-is : P (occurrences img tab rows).answer out → (test_rows img tab rows ≡ 0 → length img ≤ length out → Given) → P (rename img tab rows i x out).answer (rename img tab rows i x out).out
   unfolding rename test_buffers
-  answer-is p q = go (test_buffers img tab rows out) refl buffers-low
+  call-is p q = go (test_buffers img tab rows out) refl buffers-low
     where
-      go : (r : ℕ) → test_buffers img tab rows out ≡ r → Low r → P (after_buffers img tab rows i x out r).answer
-      go zero e l = unfold after_buffers in after-is (occurrences img tab rows) (occurrences img tab rows).answer p (q (both _ _ e).0)
+      go : (r : ℕ) → test_buffers img tab rows out ≡ r → Low r → P (after_buffers img tab rows i x out r).answer (after_buffers img tab rows i x out r).out
+      go zero e l = let b = both _ _ e in unfold after_buffers in after-is (occurrences img tab rows) (occurrences img tab rows).answer p (q b.0 (leb→le _ _ (needed 13 _ b.1)))
       go (suc r) e l = unfold after_buffers in refusals (suc r) l
 
 -- 19 to 21

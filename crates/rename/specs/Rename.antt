@@ -46,7 +46,7 @@ unfoldable pub same_rows : List Row → List Row → Bool
 same_rows [] [] = true
 same_rows [] (v ∷ k) = false
 same_rows (w ∷ l) [] = false
-same_rows (w ∷ l) (v ∷ k) = eqb w.left v.left && (eqb w.right v.right && same_rows l k)
+same_rows (w ∷ l) (v ∷ k) = (eqb w.left v.left && eqb w.right v.right) && same_rows l k
 
 -- the occurrence list that Occurrences has left, as many rows as it answers
 unfoldable pub list_left : List ℕ → RowsOutcome → List Row
@@ -58,7 +58,8 @@ list_left img o = elim o.answer [
   | other a b ↦ []
 ]
 
--- the occurrence list of an image
+-- the occurrence list of an image, as Occurrences leaves it in words of zeros; no row where it refuses the image or a name is declared twice, which is
+-- so of no renamed image (crate renaming)
 unfoldable pub occurrence_list : List ℕ → List Row
 unfolding list_left occurrences
 occurrence_list img = list_left img (occurrences img lent_table lent_rows)

@@ -2,6 +2,7 @@
 #![tactic(auto)]
 
 ghost use Rattle.std.specs.Prelude.{◌≡◌, ◌+◌, ◌<◌, ◌≤◌, ◌^◌, length, set};
+ghost use Rattle.ast.specs.declared.TheConstants.{MOST_BYTES};
 ghost use Rattle.error.specs.Refusals.{refusal_of};
 ghost use Rattle.rows.specs.Rows.{shown};
 ghost use Rattle.scopes.specs.Answers.{rowed_answer};
@@ -47,7 +48,7 @@ fn write_renamed(
     name: u32,
     output: &mut [u8],
 ) -> Result<(), Refusal>
-    requires { (length image.now ≤ 61456) × (length image.now ≤ length output.old) }
+    requires { (length image.now ≤ MOST_BYTES) × (length image.now ≤ length output.old) }
     ensures refusal { refusal_of result ≡ test_rename image.now (shown list.entry) binding.0 name }
     ensures output { output.new ≡ out_after image.now (shown list.entry) binding.0 name output.old (refusal_of result) }
 {

@@ -75,9 +75,9 @@ same-rows [] [] t = refl
 same-rows [] (v ∷ k) t = absurd t
 same-rows (w ∷ l) [] t = absurd t
 same-rows (w ∷ l) (v ∷ k) t =
-    let a = and_both (eqb w.left v.left) _ t in
-    let b = and_both (eqb w.right v.right) (same_rows l k) a.1 in
-    ap₂ ◌∷◌ (ap₂ row (eqb→eq _ _ a.0) (eqb→eq _ _ b.0)) (same-rows l k b.1)
+    let a = and_both _ (same_rows l k) t in
+    let b = and_both (eqb w.left v.left) (eqb w.right v.right) a.0 in
+    ap₂ ◌∷◌ (ap₂ row (eqb→eq _ _ b.0) (eqb→eq _ _ b.1)) (same-rows l k a.1)
 
 pub rows-same : (l : List Row) → same_rows l l ≡ true
 unfolding same_rows

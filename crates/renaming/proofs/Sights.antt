@@ -8,6 +8,7 @@ use mathlib.Core.Option.{some}
 use Prim.Native.Nat.{ℕ, ◌<◌}
 use borrow.Author.Tests.{eq-eqb}
 use Rattle.ast.specs.Image.{names, field, name_of}
+use Rattle.ast.specs.Named.{ident_term_kind}
 use Rattle.ast.specs.Rules.{Rule, module_rules}
 use Rattle.ast.specs.Tests.{verdict}
 use Rattle.ast.proofs.Accepted.{both, skip}
@@ -76,7 +77,7 @@ module _ (img tab rows : List ℕ) (passed : test_rows img tab rows ≡ 0) (once
           let d : p.ident ≡ q.ident = sym (place-ident r i p j) ∙ ap (λ m. field img m 1) n ∙ place-ident s a q b in
           let same : binding_of img filled p ≡ binding_of img filled q = ap₂ (λ (m c : ℕ). lookup img filled (exit_at img filled.words m) (name_of img c)) n d in
           let found : binding_of img filled p ≡ some w.right = same ∙ sym (binding-is img tab rows passed ended.0 ended.1 q) ∙ g in
-          let kind : is_kind img 13 (binding_of img filled p) ≡ true = ap (is_kind img 13) found ∙ eq-eqb _ _ (row-kind img tab rows unrefused once w k).1 in
+          let kind : is_kind img ident_term_kind (binding_of img filled p) ≡ true = ap (is_kind img ident_term_kind) found ∙ eq-eqb _ _ (row-kind img tab rows unrefused once w k).1 in
           (var-is-occurrence img filled r (walks r i) p j).0 kind
 
   -- and the other way round

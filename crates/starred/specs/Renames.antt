@@ -1,6 +1,6 @@
 -- Known renames, computed: document 02's S-7 on small rule files.
-use Rattle.std.specs.Prelude.{◌≡◌, refl, List, [], ◌∷◌, ◌++◌, ℕ, ◌+◌, ◌-◌, length, replicate}
-use Rattle.ast.specs.Answer.{Answer, refused, twice, result}
+use Rattle.std.specs.Prelude.{◌≡◌, refl, List, [], ◌∷◌, ◌++◌, ℕ, ◌+◌, length, replicate}
+use Rattle.ast.specs.Answer.{refused, twice, result}
 use Rattle.ast.specs.Image.{word, nodes, kind_at, start_at, op_at, field, name_of, operands, names, bytes, last, name_end, name_start, name_bytes}
 use Rattle.ast.specs.Kinds.{kind_of}
 use Rattle.ast.specs.Rows.{ones, numbers, ops_from, after_blocks, block_kids, block_counts, after, field_kids, field_shape, after_fields, fields_kids, fields_shape, fields_at, row_end, kids, shape, kids_to}
@@ -10,7 +10,7 @@ use Rattle.table.specs.Table.{mark_words, mark, new_scope, new_symbol, row_is, f
 use Rattle.table.specs.State.{child_scope, own_symbol, introduce, marked, unmarked}
 use Rattle.ordered.specs.Walk.{walk_ident, head_role, walk_arg, walk, walk_seq, walk_first}
 use Rattle.scopes.specs.Walk.{enter_name, and_then, resolve_tree, enter_all, visit, visit_all, recorded, recorded_all, enter_names, mark_all}
-use Rattle.scopes.specs.Resolve.{test_table, zeroed, walked, headed, way_of, way, answer_by, table_by, table_call}
+use Rattle.scopes.specs.Resolve.{test_table, zeroed, walked, headed, way_of, way, answer_by, table_by}
 use Rattle.rows.specs.Rows.{lefts, rights, filled, written, cleared, read_rows}
 use Rattle.scopes.specs.Calls.{lent_table, lent_rows, test_rows, rows_by, rows_call}
 use Rattle.occurrences.specs.Spots.{rule_spots, spots, spots_seq, spots_back, spots_first}
@@ -51,19 +51,14 @@ asked f i x m = rename (encode f) lent_table lent_rows i x (replicate m 7)
 abbrev with : File → (i x : ℕ) → Outcome
 with f i x = asked f i x (length (encode f) + 2)
 
--- given, both terms with the new name; to its own name; no binding; no name; neither; x would take the place of y; an output one byte too
--- short. In `if c : T; if c = x; then x = c`, with a const c that the first c shadows, that c may be called T, and x not c. A name declared
--- twice is passed on
-answers :
-    (with (equal 0 0) 0 1).answer ∷ (with (equal 0 0) 0 0).answer ∷ (with (equal 0 0) 2 1).answer ∷ (with (equal 0 0) 0 2).answer ∷ (with (equal 0 0) 2 2).answer
+-- Answers: given, both terms with the new name; to its own name; no binding; no name; neither; x would take the place of y; an output one byte
+-- too short. In `if c : T; if c = x; then x = c`, with a const c that the first c shadows, that c may be called T, and x not c. A name declared
+-- twice is passed on. Outputs: the terms; the app head along with them; under 21 nothing
+known :
+    ((with (equal 0 0) 0 1).answer ∷ (with (equal 0 0) 0 0).answer ∷ (with (equal 0 0) 2 1).answer ∷ (with (equal 0 0) 0 2).answer ∷ (with (equal 0 0) 2 2).answer
     ∷ (with (equal 0 1) 0 1).answer ∷ (asked (equal 0 0) 0 1 281).answer ∷ (with shadowed 4 0).answer ∷ (with shadowed 14 1).answer ∷ (with enum_twice 0 0).answer ∷ []
-    ≡ result 0 282 ∷ result 0 282 ∷ refused 19 ∷ refused 20 ∷ refused 19 ∷ refused 21 ∷ refused 14 ∷ result 0 751 ∷ refused 21 ∷ twice 0 2 1 ∷ []
+    ≡ result 0 282 ∷ result 0 282 ∷ refused 19 ∷ refused 20 ∷ refused 19 ∷ refused 21 ∷ refused 14 ∷ result 0 751 ∷ refused 21 ∷ twice 0 2 1 ∷ [])
+    × ((with (equal 0 0) 0 1).out ∷ (with (applied 0) 0 1).out ∷ (with (equal 0 1) 0 1).out ∷ []
+    ≡ (encode (equal 1 1) ++ (7 ∷ 7 ∷ [])) ∷ (encode (applied 1) ++ (7 ∷ 7 ∷ [])) ∷ replicate 284 7 ∷ [])
 unfolding word nodes kind_at start_at op_at field name_of operands names bytes last name_end name_start name_bytes kind_of ones numbers ops_from after_blocks block_kids block_counts after field_kids field_shape after_fields fields_kids fields_shape fields_at row_end kids shape kids_to swap swaps ordered grow_all grow class_at tree_to tree_at ◌▸◌ need run is times same test_sizes test_names in_row is_child child_word test_blocks test_field test_fields end_before test_node test_parents first is_var test_var test_tree verdict mark_words mark new_scope new_symbol row_is find_from climb held found find lookup is_kind is_value child_scope own_symbol introduce marked unmarked walk_ident head_role walk_arg walk walk_seq walk_first enter_name and_then resolve_tree enter_all visit visit_all test_table zeroed walked headed way_of way answer_by table_by lefts rights filled written cleared read_rows test_rows rows_by rows_call rule_spots rules_of module_rules spots spots_seq spots_back spots_first rules rules_all listed rows_for rule_rows all_rows occurrence_rows occurrences bytes_of kinds_of starts_of words_of ends_of joined encode recorded recorded_all enter_names mark_all rule_node declared declared_all earliest set_word set_words offsets renamed is_binding same_rows list_left occurrence_list test_buffers test_rename out_after after_list after_buffers rename
-answers = refl
-
--- what is written: the terms; the app head along with them; under 21 nothing
-outputs :
-    (with (equal 0 0) 0 1).out ∷ (with (applied 0) 0 1).out ∷ (with (equal 0 1) 0 1).out ∷ []
-    ≡ (encode (equal 1 1) ++ (7 ∷ 7 ∷ [])) ∷ (encode (applied 1) ++ (7 ∷ 7 ∷ [])) ∷ replicate 284 7 ∷ []
-unfolding word nodes kind_at start_at op_at field name_of operands names bytes last name_end name_start name_bytes kind_of ones numbers ops_from after_blocks block_kids block_counts after field_kids field_shape after_fields fields_kids fields_shape fields_at row_end kids shape kids_to swap swaps ordered grow_all grow class_at tree_to tree_at ◌▸◌ need run is times same test_sizes test_names in_row is_child child_word test_blocks test_field test_fields end_before test_node test_parents first is_var test_var test_tree verdict mark_words mark new_scope new_symbol row_is find_from climb held found find lookup is_kind is_value child_scope own_symbol introduce marked unmarked walk_ident head_role walk_arg walk walk_seq walk_first enter_name and_then resolve_tree enter_all visit visit_all test_table zeroed walked headed way_of way answer_by table_by lefts rights filled written cleared read_rows test_rows rows_by rows_call rule_spots rules_of module_rules spots spots_seq spots_back spots_first rules rules_all listed rows_for rule_rows all_rows occurrence_rows occurrences bytes_of kinds_of starts_of words_of ends_of joined encode recorded recorded_all enter_names mark_all rule_node declared declared_all earliest set_word set_words offsets renamed is_binding same_rows list_left occurrence_list test_buffers test_rename out_after after_list after_buffers rename
-outputs = refl
+known = (refl, refl)
