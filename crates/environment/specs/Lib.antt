@@ -3,3 +3,4 @@ pub mod Asked
 pub mod Stands
 pub mod Builder
 pub mod Reading
+pub mod Back

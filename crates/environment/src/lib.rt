@@ -12,7 +12,7 @@ ghost use Rattle.table.specs.Values.{found_of};
 ghost use Rattle.environment.specs.Layout.{environment_length, hidden, names_most, nodes_most, noted_entry, noted_exit, standing, standing_of};
 ghost use Rattle.environment.specs.Layout as LayoutSpec;
 ghost use Rattle.environment.specs.Asked.{asked};
-ghost use Rattle.environment.specs.Builder.{Keeps, table_of, walked_of};
+ghost use Rattle.environment.specs.Builder.{Keeps, table_of, walked_of, walked_in};
 ghost use Rattle.environment.specs.Stands.{told, Stands, Opens, above, First, Path, Noted, Named, Asking};
 
 use ast::{NAMES, NODES, NodeId};
@@ -48,22 +48,25 @@ impl Standing {
 
 // What the name asked for at a node stands for at the node's entry, and at its exit.
 #[derive(Clone, Copy)]
-struct Note {
-    entry: Standing,
-    exit: Standing,
+pub struct Note {
+    pub entry: Standing,
+    pub exit: Standing,
 }
 
-// By name what it stands for here, by symbol row what the row hides, by node what was noted there.
-#[derive(Drop)]
+// By name what it stands for here, by symbol row what the row hides, by node what was noted there: any words may stand there, and the
+// steps of a walk say in their clauses which they take.
+#[derive(Clone, Copy)]
 pub struct Environment {
-    names: [Standing; NAMES],
-    hidden: [Standing; NODES],
-    notes: [Note; NODES],
+    pub names: [Standing; NAMES],
+    pub hidden: [Standing; NODES],
+    pub notes: [Note; NODES],
 }
 
 impl Model for Environment {
-    ghost use Rattle.std.specs.Prelude.{◌≡◌, List, ℕ, ◌++◌, length, map};
+    ghost use Rattle.std.specs.Prelude.{◌≡◌, List, ℕ, ◌++◌, length, map, take, drop};
+    ghost use Rattle.std.specs.Simd.Lanes.{zip2};
     ghost use Rattle.environment.specs.Layout.{names_most, nodes_most};
+    ghost use Rattle.environment.specs.Back.{note, first_back, second_back, notes_back};
 
     ghost Value = { List ℕ };
 
@@ -71,6 +74,10 @@ impl Model for Environment {
 
     // its arrays' lengths, which a proof is not told of arrays of a struct with a model
     ghost invariant = { λ e. (length e.names ≡ names_most) × (length e.hidden ≡ nodes_most) × (length e.notes ≡ nodes_most) };
+
+    ghost inverse = { λ ws. record { names = take 1024 ws; hidden = take 2048 (drop 1024 ws); notes = zip2 (λ a b. note a b) (take 2048 (drop 3072 ws)) (drop 5120 ws) } };
+
+    ghost inverse_ok = { λ e h. λ i. record { names = first_back e.names e.hidden e.notes h.0 i; hidden = second_back e.names e.hidden e.notes h.0 h.1 i; notes = notes_back e.names e.hidden e.notes h.0 h.1 h.2 i } };
 }
 
 impl Environment {
@@ -147,6 +154,56 @@ pub fn found(image: &[u8], table: &[u32], standing: Standing) -> Option<Found>
 {
     let row = standing.row()?;
     Some(table::symbol_at(image, table, row))
+}
+
+// The way back for who is lent the table, of so many scopes and symbols, to read alone. A builder has it to write, and its two methods
+// have their own loops, since it cannot lend the table out of itself to be read while the environment is written.
+
+// The names of the scope, whose rows start with `first`, stand for what they do above it.
+pub fn leave_scope(
+    image: &[u8],
+    table: &[u32],
+    env: &mut Environment,
+    scopes: u32,
+    symbols: u32,
+    at: ScopeId,
+    first: u32,
+)
+    requires { Stands image.now (walked_in table.now scopes symbols at) env.old × First image.now (walked_in table.now scopes symbols at).table at.0 first }
+    ensures { Stands image.now (above image.now (walked_in table.now scopes symbols at)) env.new }
+{
+    for row in first..symbols {
+        if table::symbol_scope(image, table, row) != at {
+            return;
+        }
+        let name = ast::name_of(image, table::symbol_node(image, table, row));
+        env.restore(name, row);
+    }
+}
+
+// The walk back in the scope `to`: what was introduced below it is put back, the last first. Scopes and rows go in step there.
+pub fn put_back(
+    image: &[u8],
+    table: &[u32],
+    env: &mut Environment,
+    scopes: u32,
+    symbols: u32,
+    from: ScopeId,
+    to: ScopeId,
+) -> ScopeId
+    requires { Stands image.now (walked_in table.now scopes symbols from) env.old × Path image.now (walked_in table.now scopes symbols from).table to.0 from.0 }
+    ensures walk { walked_in table.now scopes symbols result ≡ StateSpec.back image.now to.0 (walked_in table.now scopes symbols from) }
+    ensures stands { Stands image.now (walked_in table.now scopes symbols result) env.new }
+{
+    // no range of numbers: it climbs from parent to parent
+    let mut inner = from;
+    while to.0 < inner.0 {
+        let row = symbols - (scopes - inner.0);
+        let outer = table::parent_of(image, table, inner);
+        leave_scope(image, table, env, scopes, symbols, inner, row);
+        inner = outer;
+    }
+    inner
 }
 
 // What a walk reads and fills: the image, the lent table, what names stand for, and how many scopes and symbols the table has.
