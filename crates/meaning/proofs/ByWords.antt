@@ -76,7 +76,7 @@ module _ (img : List ℕ) where
   unfolding walk meet Body Small in_body kind_of
   variable-meets {n} {e} p s h = words-meet (tree_at img n ◂ none) (body_of p.is tt, tt) (tree-small img n, tt) e as-declares p.room.few s h
 
-  -- a run of children: walk_stmt_block, walk_term_list, walk_match
+  -- a run of children: walk_stmt_block
   items-bodies : (k n c j : ℕ) → T (in_body (kind_of k)) → ((i : ℕ) → i < c → Is img (kind_of k) (field img n (j + i))) → Bodies img (items img n c j)
   unfolding items Body
   items-bodies k n zero j b h = tt
@@ -92,7 +92,7 @@ module _ (img : List ℕ) where
       words-meet (items img n count j) (items-bodies k n count j b (λ i l. (run-item img p.run l refl).1)) (items-small img n count j) e as-occurs
       (subst (λ (g : Walked). Few img g.table) (sym q) p.room.few) s (ends_as img q h)
 
-  -- what is below a plain node: walk_stmt and the like
+  -- what is below a plain node: walk_stmt_case and the like
   below_plain : {fs : List Field} {n : ℕ} → Is img (kind_by (inner plain) fs) n → T (in_body (kind_by (inner plain) fs))
       → Bodies img (below (tree_at img n)) × Smalls (nodes img) (below (tree_at img n))
   unfolding node_of Body Small
@@ -107,7 +107,7 @@ module _ (img : List ℕ) where
       words-meet (below (tree_at img n)) d.0 d.1 e as-occurs
       (part_room img p (plain-whole img e p.is) (stays (inside img walking.occurs n e))).few s h
 
-  -- what is below a term that is no ident: walk_term. The term's own mark alters no lookup
+  -- what is below a term that is no ident: walk_term_case. The term's own mark alters no lookup
   pub term-meets : {n : ℕ} {e f : Walked} {v w : List ℕ} → Ready img (kind_of term_kind) n e → (field img n 0 ≡ 0 → ⊥) → Stands img e v
       → Ends img (inside img walking.occurs n e) f w → Say f w (meet (name_of img) (kind_at img) occurs (tree_at img n) (stands_for e))
   unfolding marked in_body kind_of
@@ -116,7 +116,7 @@ module _ (img : List ℕ) where
       ap found_node ((h.stands.here x l).is ∙ sym (mark-found img n e.scope f.scope f.table p.is.below f.scope x) ∙ sym (k.stands.here x l).is)
       ∙ walker-meets tt p s k x l
 
-  -- the blocks of a branch: walk_branch
+  -- the blocks of a branch: walk_blocks
   below-blocks : {n : ℕ} → Is img (kind_of branch_stmt_kind) n → below (tree_at img n) ≡ blocks img n (field img n 0) 1
   unfolding node_of kind_of
   below-blocks is = ap below (tree_of img is) ∙ append-none _
@@ -127,7 +127,7 @@ module _ (img : List ℕ) where
   blocks-meet {e = e} {f} {w = w} p s =
       subst (λ (us : Trees). Ends img (walk_seq img walking.occurs us e) f w → Say f w (meet_seq (name_of img) (kind_at img) occurs us (stands_for e))) (below-blocks p.is) (case-meets tt p s)
 
--- the kinds of the walkers' contracts; those of arguments and IdentTerms are none of them
+-- the kinds of the walkers' contracts and of the nodes in their arms; those of arguments and IdentTerms are none of them
 abbrev walker_kinds : List Kind
 walker_kinds =
     one_term ∷ two_terms ∷ kind_of term_kind ∷ kind_of app_term_kind ∷ kind_of app_head_kind ∷ kind_of app_head_member_kind ∷ kind_of term_member_kind ∷ kind_of term_list_kind

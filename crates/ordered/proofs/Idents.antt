@@ -1,22 +1,28 @@
 -- What the environment says where an ident is walked, and where a node is left at which no name is asked for.
 use mathlib.Core.Path.{◌≡◌, refl, sym, ap, subst, ◌∙◌}
 use mathlib.Core.Bool.{Bool, true, false}
+use mathlib.Core.Logic.{⊎_elim}
 use mathlib.Core.List.{List, [], ◌∷◌}
 use mathlib.Core.Option.{Option, none, some}
 use Prim.Native.Nat.{ℕ, suc, ◌<◌}
 use native.Mathlib.Omega.{arith}
 use lib.Dec.{eqb}
 use lib.ListN.{get_or}
+use types.Run.{OneOf}
+use denote.Enum.Declared.{tag_of}
 use Rattle.ast.specs.Image.{nodes, field, name_of}
 use Rattle.ast.specs.Is.{Is, kind_by}
 use Rattle.ast.specs.Kinds.{inner, plain, child, no_child, kind_of}
 use Rattle.ast.specs.Tree.{tree_at}
 use Rattle.ast.proofs.Shapes.{head_kinds, term_kinds}
 use Rattle.ast.proofs.Small.{tree-small}
+use Rattle.typed.specs.Nodes.{term_at}
 use Rattle.typed.specs.RowShapes.{Two}
+use Rattle.typed.specs.declared.nodes.Term.{Term}
+use Rattle.typed.specs.contracts.nodes.Term as TermCode
 use Rattle.table.specs.Table.{Found, found_node, found, lookup, is_var, mark, new_scope, new_symbol}
 use Rattle.ast.specs.declared.NodeId.{NodeId}
-use Rattle.typed.proofs.Enums.{Cased}
+use Rattle.typed.proofs.Enums.{Cased, term-number}
 use Rattle.table.specs.State.{Walked, introduce, child_scope, own_symbol, marked, unmarked}
 use Rattle.environment.specs.Layout.{names_most, standing}
 use Rattle.environment.specs.Asked.{asked}
@@ -54,10 +60,14 @@ module _ (img : List ℕ) where
   pub other-ends : {n : ℕ} {e f g : Walked} {env env' : List ℕ} → Ready img (kind_of 12) n e → (field img n 0 ≡ 0 → ⊥) → Ends img (inside img occurs n e) f env → g ≡ marked img n e.scope f → env' ≡ env → Ends img (over img n e) g env'
   other-ends {e = e} p z h w k = ends-left e.scope p.is.below (quiet-term img p.is z) (term-whole img e p.is) w k h
 
-  -- a wildcard, and a term that wraps a child
-  pub wild-ends : {n : ℕ} {e f g : Walked} {env env' : List ℕ} → Ready img (kind_of 12) n e → 1 ≡ field img n 0 → Ends img e f env → g ≡ marked img n e.scope f → env' ≡ env → Ends img (over img n e) g env'
-  wild-ends {e = e} p q h = other-ends p (λ z. let y = q in omega arith) (record { same = h.same ∙ sym (term-wild img occurs e p.is q); stands = h.stands })
+  -- a wildcard: of Ident and Wildcard it is the other
+  pub wild-ends : {n : ℕ} {e : Walked} {env : List ℕ} {t : Term} → Is img (kind_of 12) n → (field img n 0 ≡ 0 → ⊥) → t ≡ term_at img n → OneOf (0 ∷ 1 ∷ []) (tag_of TermCode.the_type t) → Stands img e env → Ends img (inside img occurs n e) e env
+  wild-ends {n} {e} {t = t} is z q h s = record { same = sym (term-wild img occurs e is one); stands = s }
+    where
+      one : 1 ≡ field img n 0
+      one = ⊎_elim (λ (i : tag_of TermCode.the_type t ≡ 0). absurd (z (sym (term-number img is q) ∙ i))) (λ (i : tag_of TermCode.the_type t ≡ 1). sym i ∙ term-number img is q) h
 
+  -- a term that wraps a child
   pub term-ends : {n c : ℕ} {i : NodeId} {e f g : Walked} {env env' : List ℕ} → Ready img (kind_of 12) n e → Cased img n (suc c) i → eqb (get_or term_kinds (suc c) no_child) no_child ≡ false
       → Ends img (over img i.0 e) f env → g ≡ marked img n e.scope f → env' ≡ env → Ends img (over img n e) g env'
   term-ends p q s h =

@@ -15,10 +15,10 @@ use Rattle.ast.proofs.Shapes.{row, tree_of, child-is, run-tail}
 use Rattle.ast.proofs.Small.{items-small}
 use Rattle.typed.proofs.Lists.{at-list}
 use Rattle.ordered.specs.Walk.{occurs, walk, walk_seq}
-use Rattle.ordered.specs.Promises.{over, inside, rest, Ready, ReadyRun}
+use Rattle.ordered.specs.Promises.{over, inside, rest, Room, Ready, ReadyRun}
 use Rattle.ordered.proofs.Grows.{stays, back-grows, seq-grows}
 use Rattle.ordered.proofs.Steps.{part_room, plain-whole}
-use Rattle.ordered.proofs.Lists.{rest-start, rest-grows}
+use Rattle.ordered.proofs.Lists.{rest-start, rest-grows, inside_room}
 
 module _ (img : List ℕ) where
   -- a match case: its pattern, then its statements ------------------------------------------------------------------
@@ -74,3 +74,7 @@ module _ (img : List ℕ) where
   pub branch-inner : {n : ℕ} (e : Walked) → Is img (kind_of 39) n → inside img occurs n e ≡ walk_seq img occurs (blocks img n (field img n 0) 1) e
   unfolding node_of kind_of ordered
   branch-inner e is = ap (λ (us : Trees). walk_seq img occurs us e) (ap below (tree_of img is) ∙ append-none _)
+
+  pub blocks-room : {n : ℕ} {e : Walked} → Ready img (kind_of 39) n e → Room img (walk_seq img occurs (blocks img n (field img n 0) 1) e)
+  unfolding kind_of
+  blocks-room {e = e} p = subst (Room img) (branch-inner e p.is) (inside_room img p)

@@ -4,6 +4,8 @@
 #![tactic(auto)]
 
 ghost use Rattle.std.specs.Prelude.{◌≡◌, refl};
+ghost use Rattle.ast.specs.Image as ImageSpec;
+ghost use Rattle.ast.specs.Items.{blocks};
 ghost use Rattle.ast.specs.Is.{one_term, two_terms};
 ghost use Rattle.ast.specs.Kinds.{kind_of};
 ghost use Rattle.ast.specs.Named.{app_head_kind, app_head_member_kind, arg_decl_kind, arg_decl_list_kind, branch_stmt_kind, if_atom_kind, match_case_kind, match_stmt_kind, pred_atom_kind, pred_expr_kind, stmt_kind, term_kind, term_list_kind, term_member_kind, then_atom_kind, type_expr_kind, var_if_atom_kind};
@@ -14,9 +16,9 @@ ghost use Rattle.table.specs.Table.{found_node};
 ghost use Rattle.table.specs.Values.{found_of};
 ghost use Rattle.environment.specs.Builder.{Keeps};
 ghost use Rattle.environment.specs.Stands.{told};
-ghost use Rattle.ordered.specs.Walk.{occurs, declares, walk};
+ghost use Rattle.ordered.specs.Walk.{occurs, declares, walk, walk_seq};
 ghost use Rattle.ordered.specs.Walk as WalkSpec;
-ghost use Rattle.ordered.specs.Promises.{asks, from, over, over_all, Starts, StartsAll, StartsVariable, Walks, Defining};
+ghost use Rattle.ordered.specs.Promises.{asks, from, over, inside, over_all, Starts, StartsAll, StartsVariable, Walks, Defining};
 
 use ast::NodeId;
 use environment::ScopeBuilder;
@@ -74,29 +76,51 @@ fn walk_stmt(builder: &mut ScopeBuilder, current: ScopeId, stmt: StmtId) -> Scop
     ensures keeps { Keeps builder.old builder.new }
     ensures walk { Walks (over builder.old.image.now stmt.0.0) builder.old current builder.new result }
 {
-    let exit = match typed::stmt(builder.image, stmt) {
-        Stmt::If(id) => {
-            let IfStmt { atom } = typed::if_stmt(builder.image, id);
-            let after = walk_if_atom(builder, current, atom);
-            builder.leave(id.0, current, after)
-        }
-        Stmt::Then(id) => {
-            let ThenStmt { atom } = typed::then_stmt(builder.image, id);
-            let after = walk_then_atom(builder, current, atom);
-            builder.leave(id.0, current, after)
-        }
-        Stmt::Branch(id) => walk_branch(builder, current, id),
-        Stmt::Match(id) => walk_match(builder, current, id),
-    };
+    let exit = walk_stmt_case(builder, current, stmt);
     builder.leave(stmt.0, current, exit)
 }
 
-// Each block from the branch's entry; what a block adds is dropped.
+// What stands below a statement.
+#[cycle(stmts)]
+#[inline(always)]
+fn walk_stmt_case(builder: &mut ScopeBuilder, current: ScopeId, stmt: StmtId) -> ScopeId
+    requires { Starts (kind_of stmt_kind) stmt.0.0 builder.old current }
+    ensures keeps { Keeps builder.old builder.new }
+    ensures walk { Walks (inside builder.old.image.now occurs stmt.0.0) builder.old current builder.new result }
+{
+    match typed::stmt(builder.image, stmt) {
+        Stmt::If(id) => {
+            let IfStmt { atom } = typed::if_stmt(builder.image, id);
+            let after_if = walk_if_atom(builder, current, atom);
+            builder.leave(id.0, current, after_if)
+        }
+        Stmt::Then(id) => {
+            let ThenStmt { atom } = typed::then_stmt(builder.image, id);
+            let after_then = walk_then_atom(builder, current, atom);
+            builder.leave(id.0, current, after_then)
+        }
+        Stmt::Branch(id) => walk_branch(builder, current, id),
+        Stmt::Match(id) => walk_match(builder, current, id),
+    }
+}
+
 #[cycle(stmts)]
 fn walk_branch(builder: &mut ScopeBuilder, current: ScopeId, id: BranchStmtId) -> ScopeId
     requires { Starts (kind_of branch_stmt_kind) id.0.0 builder.old current }
     ensures keeps { Keeps builder.old builder.new }
     ensures walk { Walks (over builder.old.image.now id.0.0) builder.old current builder.new result }
+{
+    let exit = walk_blocks(builder, current, id);
+    builder.leave(id.0, current, exit)
+}
+
+// Each block from the branch's entry; what a block adds is dropped.
+#[cycle(stmts)]
+#[inline(always)]
+fn walk_blocks(builder: &mut ScopeBuilder, current: ScopeId, id: BranchStmtId) -> ScopeId
+    requires { Starts (kind_of branch_stmt_kind) id.0.0 builder.old current }
+    ensures keeps { Keeps builder.old builder.new }
+    ensures walk { Walks (walk_seq builder.old.image.now occurs (blocks builder.old.image.now id.0.0 (ImageSpec.field builder.old.image.now id.0.0 0) 1)) builder.old current builder.new result }
 {
     let BranchStmt { blocks } = typed::branch_stmt(builder.image, id);
     let mut cur = current;
@@ -104,7 +128,7 @@ fn walk_branch(builder: &mut ScopeBuilder, current: ScopeId, id: BranchStmtId) -
         let end = walk_stmt_block(builder, cur, block);
         cur = builder.put_back(end, cur);
     }
-    builder.leave(id.0, current, cur)
+    cur
 }
 
 // Each case from the scope after the matched term.
@@ -142,7 +166,18 @@ fn walk_if_atom(builder: &mut ScopeBuilder, current: ScopeId, atom: IfAtomId) ->
     ensures keeps { Keeps builder.old builder.new }
     ensures walk { Walks (over builder.old.image.now atom.0.0) builder.old current builder.new result }
 {
-    let exit = match typed::if_atom(builder.image, atom) {
+    let exit = walk_if_atom_case(builder, current, atom);
+    builder.leave(atom.0, current, exit)
+}
+
+// What stands below an if-atom.
+#[inline(always)]
+fn walk_if_atom_case(builder: &mut ScopeBuilder, current: ScopeId, atom: IfAtomId) -> ScopeId
+    requires { Starts (kind_of if_atom_kind) atom.0.0 builder.old current }
+    ensures keeps { Keeps builder.old builder.new }
+    ensures walk { Walks (inside builder.old.image.now occurs atom.0.0) builder.old current builder.new result }
+{
+    match typed::if_atom(builder.image, atom) {
         IfAtom::Equal(id) => {
             let EqualAtom { lhs, rhs } = typed::equal_atom(builder.image, id);
             walk_two_terms(builder, current, id.0, lhs, rhs)
@@ -153,8 +188,7 @@ fn walk_if_atom(builder: &mut ScopeBuilder, current: ScopeId, atom: IfAtomId) ->
         }
         IfAtom::Pred(id) => walk_pred_atom(builder, current, id),
         IfAtom::Var(id) => walk_var_atom(builder, current, id),
-    };
-    builder.leave(atom.0, current, exit)
+    }
 }
 
 // The variable is not visible inside its own annotation.
@@ -234,9 +268,23 @@ fn walk_term(builder: &mut ScopeBuilder, current: ScopeId, term: TermId) -> Scop
     ensures keeps { Keeps builder.old builder.new }
     ensures walk { Walks (over builder.old.image.now term.0.0) builder.old current builder.new result }
 {
-    let exit = match typed::term(builder.image, term) {
-        Term::Ident(id) => return walk_ident_term::<Occurs>(builder, current, term, id),
-        Term::Wildcard => current,
+    if let Term::Ident(id) = typed::term(builder.image, term) {
+        return walk_ident_term::<Occurs>(builder, current, term, id);
+    }
+    let exit = walk_term_case(builder, current, term);
+    builder.leave(term.0, current, exit)
+}
+
+// What stands below a term that is no ident.
+#[cycle(terms)]
+#[inline(always)]
+fn walk_term_case(builder: &mut ScopeBuilder, current: ScopeId, term: TermId) -> ScopeId
+    requires { Starts (kind_of term_kind) term.0.0 builder.old current × (ImageSpec.field builder.old.image.now term.0.0 0 ≡ 0 → ⊥) }
+    ensures keeps { Keeps builder.old builder.new }
+    ensures walk { Walks (inside builder.old.image.now occurs term.0.0) builder.old current builder.new result }
+{
+    match typed::term(builder.image, term) {
+        Term::Ident(_) | Term::Wildcard => current,
         Term::App(id) => {
             let AppTerm { head, args } = typed::app_term(builder.image, id);
             // App heads never introduce variables.
@@ -261,8 +309,7 @@ fn walk_term(builder: &mut ScopeBuilder, current: ScopeId, term: TermId) -> Scop
             let CompTerm { first, second } = typed::comp_term(builder.image, id);
             walk_two_terms(builder, current, id.0, first, second)
         }
-    };
-    builder.leave(term.0, current, exit)
+    }
 }
 
 // A Dom, Cod or Id term, or a Defined atom: one term.
@@ -476,12 +523,22 @@ pub fn walk_type_expr(builder: &mut ScopeBuilder, current: ScopeId, typ: TypeExp
     ensures keeps { Keeps builder.old builder.new }
     ensures walk { Walks (over builder.old.image.now typ.0.0) builder.old current builder.new result }
 {
-    let exit = match typed::type_expr(builder.image, typ) {
+    let exit = walk_type_expr_case(builder, current, typ);
+    builder.leave(typ.0, current, exit)
+}
+
+// What stands below a type.
+#[inline(always)]
+fn walk_type_expr_case(builder: &mut ScopeBuilder, current: ScopeId, typ: TypeExprId) -> ScopeId
+    requires { Starts (kind_of type_expr_kind) typ.0.0 builder.old current }
+    ensures keeps { Keeps builder.old builder.new }
+    ensures walk { Walks (inside builder.old.image.now occurs typ.0.0) builder.old current builder.new result }
+{
+    match typed::type_expr(builder.image, typ) {
         TypeExpr::Ambient(id) => builder.leave(id.0, current, current),
         TypeExpr::Member(id) => walk_term_member(builder, current, id),
         TypeExpr::Mor(id) => builder.leave(id.0, current, current),
-    };
-    builder.leave(typ.0, current, exit)
+    }
 }
 
 fn walk_pred_expr(builder: &mut ScopeBuilder, current: ScopeId, pred: PredExprId) -> ScopeId
@@ -489,9 +546,19 @@ fn walk_pred_expr(builder: &mut ScopeBuilder, current: ScopeId, pred: PredExprId
     ensures keeps { Keeps builder.old builder.new }
     ensures walk { Walks (over builder.old.image.now pred.0.0) builder.old current builder.new result }
 {
-    let exit = match typed::pred_expr(builder.image, pred) {
+    let exit = walk_pred_expr_case(builder, current, pred);
+    builder.leave(pred.0, current, exit)
+}
+
+// What stands below a predicate expression.
+#[inline(always)]
+fn walk_pred_expr_case(builder: &mut ScopeBuilder, current: ScopeId, pred: PredExprId) -> ScopeId
+    requires { Starts (kind_of pred_expr_kind) pred.0.0 builder.old current }
+    ensures keeps { Keeps builder.old builder.new }
+    ensures walk { Walks (inside builder.old.image.now occurs pred.0.0) builder.old current builder.new result }
+{
+    match typed::pred_expr(builder.image, pred) {
         PredExpr::Ambient(id) => builder.leave(id.0, current, current),
         PredExpr::Member(id) => walk_term_member(builder, current, id),
-    };
-    builder.leave(pred.0, current, exit)
+    }
 }

@@ -5,15 +5,16 @@ use Rattle.ast.specs.Kinds.{kind_of}
 use Rattle.ordered.specs.Promises.{Ready}
 use Rattle.ordered.proofs.Steps.{one, two, member_of, term-wrapped, head-wrapped}
 use Rattle.ordered.proofs.Lists.{inside_room, head_member_of, list_of, left-start, left-next, left-end, item-ready}
-use Rattle.ordered.proofs.Idents.{as-variable, one-ends, two_ends, term-ends, head-ends, wild-ends, name-ends, member-ends, head-member-ends}
-use Rattle.typed.proofs.Enums.{term_is, app-head-is}
+use Rattle.ordered.proofs.Idents.{as-variable, one-ends, two_ends, other-ends, head-ends, wild-ends, name-ends, member-ends, head-member-ends}
+use Rattle.typed.proofs.Enums.{term_is, app-head-is, no-ident}
 use Rattle.typed.proofs.Lists.{begun-row, taken, none-left, row-short}
+use Rattle.environment.specs.Builder.{walked_of}
 use Rattle.environment.proofs.Asking.{loud_fields}
 use Rattle.environment.proofs.Steps.{keeps_same}
 use Rattle.ordered.specs.Walk.{names, walk_seq}
-use Rattle.ordered.proofs.Ends.{ends_in, plain-ends}
+use Rattle.ordered.proofs.Ends.{ends_as, ends_in, plain-ends}
 use Rattle.ordered.proofs.+terms.Goals as goal
-use Rattle.ordered.proofs.+terms.Goals.{walk_term-in-Wildcard, walk_term-in-App, walk_term-in-Member, walk_term-in-Dom, walk_term-in-Cod, walk_term-in-Id, walk_term-in-Comp, walk_app_head-in-Member, walk_app_head-in-Term}
+use Rattle.ordered.proofs.+terms.Goals.{walk_app_head-in-Member, walk_app_head-in-Term}
 
 pub walk_app_head-walk_head_ident-requires : goal.walk_app_head-walk_head_ident-requires
 walk_app_head-walk_head_ident-requires t c = let k = app-head-is _ c.requires.0.is c.app_head.ensures c.in-Ident.is in (c.requires, record { first = k.number; second = k.child })
@@ -64,79 +65,94 @@ walk_two_terms-walk_term-after-requires t c = let o = two _ c.requires.0.0 c.req
 pub walk_two_terms-returns-clause-walk : goal.walk_two_terms-returns-clause-walk
 walk_two_terms-returns-clause-walk t c = two_ends _ c.requires.0.0 c.requires.1.first c.requires.1.second c.walk_term-after_first.ensures.walk (rw c.walk_term-after_first.ensures.keeps.image at c.walk_term-after.ensures.walk) (cc) c.leave.ensures.env
 
-pub walk_term-walk_app_head-after_head-requires : goal.walk_term-walk_app_head-after_head-requires
-unfolding kind_of
-walk_term-walk_app_head-after_head-requires t c =
-    let o = term-wrapped _ c.requires.0 (term_is _ c.requires.0.is c.term.ensures c.in-App.is) refl in
-    let i = two _ o.ready c.app_term.ensures.first c.app_term.ensures.second in
-    (let l = o.low in let m = i.low in omega arith, (i.first, c.requires.1))
+pub walk_term-walk_term_case-exit-requires : goal.walk_term-walk_term_case-exit-requires
+walk_term-walk_term_case-exit-requires t c = (omega arith, (c.requires, λ z. no-ident _ c.requires.0.is c.term.ensures c.in_default.not-Ident (sym z)))
 
-pub walk_term-walk_term_list-after_args-requires : goal.walk_term-walk_term_list-after_args-requires
+pub walk_term-returns-clause-walk : goal.walk_term-returns-clause-walk
+walk_term-returns-clause-walk t c = other-ends _ c.requires.0 (λ z. no-ident _ c.requires.0.is c.term.ensures c.in_default.not-Ident (sym z)) c.walk_term_case-exit.ensures.walk (cc) c.leave.ensures.env
+
+pub walk_term_case-walk_app_head-after_head-requires : goal.walk_term_case-walk_app_head-after_head-requires
 unfolding kind_of
-walk_term-walk_term_list-after_args-requires t c =
-    let o = term-wrapped _ c.requires.0 (term_is _ c.requires.0.is c.term.ensures c.in-App.is) refl in
+walk_term_case-walk_app_head-after_head-requires t c =
+    let o = term-wrapped _ c.requires.0.0 (term_is _ c.requires.0.0.is c.term.ensures c.in-App.is) refl in
+    let i = two _ o.ready c.app_term.ensures.first c.app_term.ensures.second in
+    (let l = o.low in let m = i.low in omega arith, (i.first, c.requires.0.1))
+
+pub walk_term_case-walk_term_list-after_args-requires : goal.walk_term_case-walk_term_list-after_args-requires
+unfolding kind_of
+walk_term_case-walk_term_list-after_args-requires t c =
+    let o = term-wrapped _ c.requires.0.0 (term_is _ c.requires.0.0.is c.term.ensures c.in-App.is) refl in
     let i = two _ o.ready c.app_term.ensures.first c.app_term.ensures.second in
     (let l = o.low in let m = i.low2 in omega arith, rw c.walk_app_head-after_head.ensures.keeps.image (subst (Ready _ _ _) (sym c.walk_app_head-after_head.ensures.walk.same) i.second, c.walk_app_head-after_head.ensures.walk.stands))
 
-pub walk_term-walk_term_member-exit-requires : goal.walk_term-walk_term_member-exit-requires
+pub walk_term_case-walk_term_member-requires : goal.walk_term_case-walk_term_member-requires
 unfolding kind_of
-walk_term-walk_term_member-exit-requires t c =
-    let o = term-wrapped _ c.requires.0 (term_is _ c.requires.0.is c.term.ensures c.in-Member.is) refl in
-    (let l = o.low in omega arith, (o.ready, c.requires.1))
+walk_term_case-walk_term_member-requires t c =
+    let o = term-wrapped _ c.requires.0.0 (term_is _ c.requires.0.0.is c.term.ensures c.in-Member.is) refl in
+    (let l = o.low in omega arith, (o.ready, c.requires.0.1))
 
-pub walk_term-walk_one_term-exit-requires : goal.walk_term-walk_one_term-exit-requires
+pub walk_term_case-walk_one_term-requires : goal.walk_term_case-walk_one_term-requires
 unfolding kind_of
-walk_term-walk_one_term-exit-requires t c =
-    let o = term-wrapped _ c.requires.0 (term_is _ c.requires.0.is c.term.ensures c.in-Dom.is) refl in
-    (let l = o.low in omega arith, ((o.ready, c.requires.1), c.dom_term.ensures))
+walk_term_case-walk_one_term-requires t c =
+    let o = term-wrapped _ c.requires.0.0 (term_is _ c.requires.0.0.is c.term.ensures c.in-Dom.is) refl in
+    (let l = o.low in omega arith, ((o.ready, c.requires.0.1), c.dom_term.ensures))
 
-pub walk_term-walk_one_term-exit-requires-in-Cod : goal.walk_term-walk_one_term-exit-requires-in-Cod
+pub walk_term_case-walk_one_term-requires-in-Cod : goal.walk_term_case-walk_one_term-requires-in-Cod
 unfolding kind_of
-walk_term-walk_one_term-exit-requires-in-Cod t c =
-    let o = term-wrapped _ c.requires.0 (term_is _ c.requires.0.is c.term.ensures c.in-Cod.is) refl in
-    (let l = o.low in omega arith, ((o.ready, c.requires.1), c.cod_term.ensures))
+walk_term_case-walk_one_term-requires-in-Cod t c =
+    let o = term-wrapped _ c.requires.0.0 (term_is _ c.requires.0.0.is c.term.ensures c.in-Cod.is) refl in
+    (let l = o.low in omega arith, ((o.ready, c.requires.0.1), c.cod_term.ensures))
 
-pub walk_term-walk_one_term-exit-requires-in-Id : goal.walk_term-walk_one_term-exit-requires-in-Id
+pub walk_term_case-walk_one_term-requires-in-Id : goal.walk_term_case-walk_one_term-requires-in-Id
 unfolding kind_of
-walk_term-walk_one_term-exit-requires-in-Id t c =
-    let o = term-wrapped _ c.requires.0 (term_is _ c.requires.0.is c.term.ensures c.in-Id.is) refl in
-    (let l = o.low in omega arith, ((o.ready, c.requires.1), c.id_term.ensures))
+walk_term_case-walk_one_term-requires-in-Id t c =
+    let o = term-wrapped _ c.requires.0.0 (term_is _ c.requires.0.0.is c.term.ensures c.in-Id.is) refl in
+    (let l = o.low in omega arith, ((o.ready, c.requires.0.1), c.id_term.ensures))
 
-pub walk_term-walk_two_terms-exit-requires : goal.walk_term-walk_two_terms-exit-requires
+pub walk_term_case-walk_two_terms-requires : goal.walk_term_case-walk_two_terms-requires
 unfolding kind_of
-walk_term-walk_two_terms-exit-requires t c =
-    let o = term-wrapped _ c.requires.0 (term_is _ c.requires.0.is c.term.ensures c.in-Comp.is) refl in
-    (let l = o.low in omega arith, ((o.ready, c.requires.1), c.comp_term.ensures))
+walk_term_case-walk_two_terms-requires t c =
+    let o = term-wrapped _ c.requires.0.0 (term_is _ c.requires.0.0.is c.term.ensures c.in-Comp.is) refl in
+    (let l = o.low in omega arith, ((o.ready, c.requires.0.1), c.comp_term.ensures))
 
-pub walk_term-returns-clause-walk : goal.walk_term-returns-clause-walk
+pub walk_term_case-returns-in-Ident-clause-walk : goal.walk_term_case-returns-in-Ident-clause-walk
+walk_term_case-returns-in-Ident-clause-walk t c = wild-ends _ c.requires.0.0.is c.requires.1 c.term.ensures (search rules) c.requires.0.1
+
+pub walk_term_case-returns-in-App-clause-walk : goal.walk_term_case-returns-in-App-clause-walk
 unfolding kind_of
-walk_term-returns-clause-walk t c =
-    let k : c.match-term.builder.image.now ≡ c.args.builder.now.image.now = search rules in
-    let l = rw k at c.leave.ensures.walk in
-    elim c.match-term.branch [
-      | walk_term-in-Wildcard w ↦ wild-ends _ c.requires.0 (term_is _ c.requires.0.is c.term.ensures w.in-Wildcard.is) (ends_in _ w.builder-is w.exit-is refl (record { same = refl; stands = c.requires.1 })) l c.leave.ensures.env
-      | walk_term-in-App w ↦
-          let k = term_is _ c.requires.0.is c.term.ensures w.in-App.is in
-          let o = term-wrapped _ c.requires.0 k refl in
-          term-ends _ c.requires.0 k refl
-          (ends_in _ w.builder-is w.exit-is refl (two_ends _ o.ready w.app_term.ensures.first w.app_term.ensures.second w.walk_app_head-after_head.ensures.walk (rw w.walk_app_head-after_head.ensures.keeps.image at w.walk_term_list-after_args.ensures.walk) (cc) w.leave-exit.ensures.env))
-          l c.leave.ensures.env
-      | walk_term-in-Member w ↦
-          let k = term_is _ c.requires.0.is c.term.ensures w.in-Member.is in
-          term-ends _ c.requires.0 k refl (ends_in _ w.builder-is w.exit-is refl w.walk_term_member-exit.ensures.walk) l c.leave.ensures.env
-      | walk_term-in-Dom w ↦
-          let k = term_is _ c.requires.0.is c.term.ensures w.in-Dom.is in
-          term-ends _ c.requires.0 k refl (ends_in _ w.builder-is w.exit-is refl w.walk_one_term-exit.ensures.walk) l c.leave.ensures.env
-      | walk_term-in-Cod w ↦
-          let k = term_is _ c.requires.0.is c.term.ensures w.in-Cod.is in
-          term-ends _ c.requires.0 k refl (ends_in _ w.builder-is w.exit-is refl w.walk_one_term-exit-in-Cod.ensures.walk) l c.leave.ensures.env
-      | walk_term-in-Id w ↦
-          let k = term_is _ c.requires.0.is c.term.ensures w.in-Id.is in
-          term-ends _ c.requires.0 k refl (ends_in _ w.builder-is w.exit-is refl w.walk_one_term-exit-in-Id.ensures.walk) l c.leave.ensures.env
-      | walk_term-in-Comp w ↦
-          let k = term_is _ c.requires.0.is c.term.ensures w.in-Comp.is in
-          term-ends _ c.requires.0 k refl (ends_in _ w.builder-is w.exit-is refl w.walk_two_terms-exit.ensures.walk) l c.leave.ensures.env
-    ]
+walk_term_case-returns-in-App-clause-walk t c =
+    let o = term-wrapped _ c.requires.0.0 (term_is _ c.requires.0.0.is c.term.ensures c.in-App.is) refl in
+    ends_as _ {f = walked_of c.leave.new.self c.leave.result} o.inner (two_ends _ o.ready c.app_term.ensures.first c.app_term.ensures.second c.walk_app_head-after_head.ensures.walk (rw c.walk_app_head-after_head.ensures.keeps.image at c.walk_term_list-after_args.ensures.walk) (cc) c.leave.ensures.env)
+
+pub walk_term_case-returns-in-Member-clause-walk : goal.walk_term_case-returns-in-Member-clause-walk
+unfolding kind_of
+walk_term_case-returns-in-Member-clause-walk t c =
+    let o = term-wrapped _ c.requires.0.0 (term_is _ c.requires.0.0.is c.term.ensures c.in-Member.is) refl in
+    ends_as _ o.inner c.walk_term_member.ensures.walk
+
+pub walk_term_case-returns-in-Dom-clause-walk : goal.walk_term_case-returns-in-Dom-clause-walk
+unfolding kind_of
+walk_term_case-returns-in-Dom-clause-walk t c =
+    let o = term-wrapped _ c.requires.0.0 (term_is _ c.requires.0.0.is c.term.ensures c.in-Dom.is) refl in
+    ends_as _ o.inner c.walk_one_term.ensures.walk
+
+pub walk_term_case-returns-in-Cod-clause-walk : goal.walk_term_case-returns-in-Cod-clause-walk
+unfolding kind_of
+walk_term_case-returns-in-Cod-clause-walk t c =
+    let o = term-wrapped _ c.requires.0.0 (term_is _ c.requires.0.0.is c.term.ensures c.in-Cod.is) refl in
+    ends_as _ o.inner c.walk_one_term-in-Cod.ensures.walk
+
+pub walk_term_case-returns-in-Id-clause-walk : goal.walk_term_case-returns-in-Id-clause-walk
+unfolding kind_of
+walk_term_case-returns-in-Id-clause-walk t c =
+    let o = term-wrapped _ c.requires.0.0 (term_is _ c.requires.0.0.is c.term.ensures c.in-Id.is) refl in
+    ends_as _ o.inner c.walk_one_term-in-Id.ensures.walk
+
+pub walk_term_case-returns-in-Comp-clause-walk : goal.walk_term_case-returns-in-Comp-clause-walk
+unfolding kind_of
+walk_term_case-returns-in-Comp-clause-walk t c =
+    let o = term-wrapped _ c.requires.0.0 (term_is _ c.requires.0.0.is c.term.ensures c.in-Comp.is) refl in
+    ends_as _ o.inner c.walk_two_terms.ensures.walk
 
 pub walk_app_head_member-of-name-items-requires : goal.walk_app_head_member-of-name-items-requires
 walk_app_head_member-of-name-items-requires t c = row-short _ c.app_head_member.ensures.list (head_member_of _ c.requires.0 c.app_head_member.ensures.first).run

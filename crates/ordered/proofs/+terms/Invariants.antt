@@ -1,3 +1,4 @@
+use Prim.Native.Nat.{◌+◌, ◌*◌}
 use Rattle.typed.specs.Items.{trees_of}
 use Rattle.typed.proofs.Lists.{Within}
 use Rattle.environment.specs.Builder.{walked_of}
@@ -8,25 +9,28 @@ use Rattle.ordered.proofs.Lists.{in_member, Left}
 use Rattle.ordered.proofs.+terms.Given as goal
 
 abbrev pub decreases-walk_app_head : goal.decreases-walk_app_head
-decreases-walk_app_head l = l.head.0.0
+decreases-walk_app_head l = 2 * l.head.0.0 + 1
 
 abbrev pub decreases-walk_app_head_member : goal.decreases-walk_app_head_member
-decreases-walk_app_head_member l = l.id.0.0
+decreases-walk_app_head_member l = 2 * l.id.0.0 + 1
 
 abbrev pub decreases-walk_one_term : goal.decreases-walk_one_term
-decreases-walk_one_term l = l.id.0
+decreases-walk_one_term l = 2 * l.id.0 + 1
 
 abbrev pub decreases-walk_term : goal.decreases-walk_term
-decreases-walk_term l = l.term.0.0
+decreases-walk_term l = 2 * l.term.0.0 + 1
+
+abbrev pub decreases-walk_term_case : goal.decreases-walk_term_case
+decreases-walk_term_case l = 2 * l.term.0.0
 
 abbrev pub decreases-walk_term_list : goal.decreases-walk_term_list
-decreases-walk_term_list l = l.list.0.0
+decreases-walk_term_list l = 2 * l.list.0.0 + 1
 
 abbrev pub decreases-walk_term_member : goal.decreases-walk_term_member
-decreases-walk_term_member l = l.id.0.0
+decreases-walk_term_member l = 2 * l.id.0.0 + 1
 
 abbrev pub decreases-walk_two_terms : goal.decreases-walk_two_terms
-decreases-walk_two_terms l = l.id.0
+decreases-walk_two_terms l = 2 * l.id.0 + 1
 
 abbrev pub invariant-walk_app_head_member-loop-name : goal.invariant-walk_app_head_member-loop-name
 invariant-walk_app_head_member-loop-name l =
