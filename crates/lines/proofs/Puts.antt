@@ -1,14 +1,15 @@
--- Laws of bytes put one after another, and of a line's numbers.
+-- Laws of bytes put one after another, of a line's numbers and of decimal digits.
 use mathlib.Core.Path.{◌≡◌, refl, sym, ap, ◌∙◌}
 use mathlib.Core.List.{List, [], ◌∷◌, ◌++◌, append_assoc}
-use Prim.Native.Nat.{ℕ, suc, ◌+◌, ◌*◌, ◌^◌, ◌<◌, ◌≤◌}
+use Prim.Native.Nat.{ℕ, zero, suc, ◌+◌, ◌*◌, ◌/◌, ◌%◌, ◌^◌, ◌<◌, ◌≤◌}
+use native.Mathlib.Decide.{dec_lt}
 use native.Mathlib.Omega.{arith}
 use lib.ListN.{length, get_or, set, take, length-append}
 use lib.Seq.{take_all}
 use borrow.Author.Tests.{lt-ltb, le-ltb}
 use Rattle.std.specs.Fmt.{decimal}
 use Rattle.std.specs.List.{flat_map}
-use Rattle.std.proofs.lemmas.Fmt.{AppendsLastDigit, decimal_from_appends, length-decimal-le_succ}
+use Rattle.std.proofs.lemmas.Fmt.{AppendsLastDigit, decimal_from_appends, length-decimal-le, length-decimal-le_succ}
 use Rattle.std.proofs.lemmas.List.{take_more, flat_map_more}
 use Rattle.lines.specs.declared.Printer.{Printer}
 use Rattle.lines.specs.Bytes.{digits_to, digits, numbers}
@@ -84,3 +85,42 @@ decimal_digits n h = sym (decimal_from_appends digits_to steps (suc n) n h (let 
   where
     steps : AppendsLastDigit digits_to
     steps = record { one = λ k n h. rw (lt-ltb n 10 h, digits_to) refl; more = λ k n h. rw (le-ltb n 10 h, digits_to) refl }
+
+-- a digit; the last of several
+to-small : (c n : ℕ) → n < 10 → digits_to (suc c) n ≡ (48 + n) ∷ []
+unfolding digits_to
+to-small c n h = rw (lt-ltb n 10 h, digits_to)
+
+to-more : (c n : ℕ) → 10 ≤ n → digits_to (suc c) n ≡ digits_to c (n / 10) ++ ((48 + n % 10) ∷ [])
+unfolding digits_to
+to-more c n h = rw (le-ltb n 10 h, digits_to)
+
+-- more steps than are needed change nothing
+enough : (c d n : ℕ) → n < c → n < d → digits_to c n ≡ digits_to d n
+enough zero d n h k = absurd (omega arith)
+enough (suc c) zero n h k = absurd (omega arith)
+enough (suc c) (suc d) n h k = go (dec_lt n 10) (λ (l : 10 ≤ n). enough c d (n / 10) (omega arith) (omega arith))
+  where
+    go : Dec (n < 10) → (10 ≤ n → digits_to c (n / 10) ≡ digits_to d (n / 10)) → digits_to (suc c) n ≡ digits_to (suc d) n
+    go (yes s) f = to-small c n s ∙ sym (to-small d n s)
+    go (no s) f =
+        let l : 10 ≤ n = omega arith in
+        to-more c n l ∙ ap (λ (xs : List ℕ). xs ++ ((48 + n % 10) ∷ [])) (f l) ∙ sym (to-more d n l)
+
+pub digits-small : (n : ℕ) → n < 10 → digits n ≡ (48 + n) ∷ []
+unfolding digits
+digits-small n h = to-small n n h
+
+pub digits_more : (n : ℕ) → 10 ≤ n → digits n ≡ digits (n / 10) ++ ((48 + n % 10) ∷ [])
+unfolding digits
+digits_more n h = to-more n n h ∙ ap (λ (xs : List ℕ). xs ++ ((48 + n % 10) ∷ [])) (enough n (suc (n / 10)) (n / 10) (omega arith) (omega arith))
+
+-- a word has at most 10
+pub digits-word : (n : ℕ) → n < 2 ^ 32 → length (digits n) ≤ 10
+digits-word n h = let e = length-decimal-le 10 n (omega arith) (omega arith) (omega arith) in let d = ap length (decimal_digits n (omega arith)) in omega arith
+
+-- a number's last digit put after those before it
+pub wrote_digit : {n : ℕ} {o p q : Printer} → 10 ≤ n → n < 2 ^ 32 → Wrote (digits (n / 10)) 10 o p → Wrote ((48 + n % 10) ∷ []) 1 p q → Wrote (digits n) 10 o q
+wrote_digit {n} {o} h k f g =
+    let w = wrote-next f g in
+    record { same = w.same; out = w.out ∙ ap (λ (l : List ℕ). write l (out_of o)) (sym (digits_more n h)); short = digits-word n k }

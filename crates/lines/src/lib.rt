@@ -1,7 +1,7 @@
 // The lines of the report, put into a lent buffer one after another.
 #![tactic(auto)]
 
-ghost use Rattle.std.specs.Prelude.{◌≡◌, [], ◌∷◌, ◌++◌, ◌+◌, ◌*◌, ◌≤◌, length};
+ghost use Rattle.std.specs.Prelude.{◌≡◌, [], ◌∷◌, ◌++◌, ◌+◌, ◌*◌, ◌<◌, ◌≤◌, length};
 ghost use Rattle.occurrences.specs.Occurrences.{once};
 ghost use Rattle.scopes.specs.Calls.{lent_table};
 ghost use Rattle.lines.specs.Report.{end_lines, error_lines, var_lines, body_lines};
@@ -9,11 +9,17 @@ ghost use Rattle.lines.specs.Bytes.{digits, numbers, lines_bytes, report_bytes};
 ghost use Rattle.lines.specs.Out.{rows_from, Wrote, Printed};
 
 use error::Unresolved;
-use itoa::Buffer;
 use rows::Written;
 
 // No report is longer: a first and a last line of 31 bytes, 28 bytes for each of 2,048 error rows and 2,048 occurrences.
 pub const LONGEST: usize = 114750;
+
+fn digit(n: u32) -> u8
+    requires { n < 10 }
+    ensures { result ≡ 48 + n }
+{
+    48 + n as u8
+}
 
 // The lent buffer, and the place of its next byte: no Vec, since there is no heap, and no `Cursor`, whose `write` does not say that the
 // same memory is lent still, so that nothing could be said of the buffer after.
@@ -48,7 +54,12 @@ impl<'a> Printer<'a> {
     fn put_number(&mut self, n: u32)
         ensures { Wrote (digits n) 10 self.old self.new }
     {
-        self.put_text(Buffer::new().format(n).as_bytes());
+        if n < 10 {
+            self.put_byte(digit(n));
+            return;
+        }
+        self.put_number(n / 10);
+        self.put_byte(digit(n % 10));
     }
 
     // A line: its word, its numbers after single spaces, and the newline.
