@@ -35,7 +35,7 @@ case_node (decl.Enum i) = i.0.0
 case_node (decl.Model i) = i.0.0
 
 module _ (img : List ℕ) where
-  decl-case : {n : ℕ} {t : Decl} → t ≡ decl_at img n → Is img (kind_of decl_kind) n → (s : Decl) → t ≡ s → DeclOf img (case_kind s) n (case_node s)
+  pub decl-case : {n : ℕ} {t : Decl} → t ≡ decl_at img n → Is img (kind_of decl_kind) n → (s : Decl) → t ≡ s → DeclOf img (case_kind s) n (case_node s)
   decl-case q is (decl.Type i) r = let k = decl-is img is q r in decl_of img is 0 k.number k.child refl
   decl-case q is (decl.Pred i) r = let k = decl-is img is q r in decl_of img is 1 k.number k.child refl
   decl-case q is (decl.Func i) r = let k = decl-is img is q r in decl_of img is 2 k.number k.child refl

@@ -163,10 +163,10 @@ module _ (img : List ℕ) where
   unfolding signing signs fields_at
   sig-plain {n} s = true-is _ (subst (λ (c : Class). T (signs c (fields_at img n))) s.class (every-signing (kind_at img n) (low-kind img s.accepted n s.below)))
 
-  sig-name : {n x : ℕ} → Signature img n → x ≡ field img n 0 → Named img n x
+  pub sig-name : {n x : ℕ} → Signature img n → x ≡ field img n 0 → Named img n x
   sig-name s q = plain-named _ s.accepted s.below (sig-plain s) q
 
-  enum-name : {n x : ℕ} → Is img (kind_of enum_decl_kind) n → x ≡ field img n 0 → Named img n x
+  pub enum-name : {n x : ℕ} → Is img (kind_of enum_decl_kind) n → x ≡ field img n 0 → Named img n x
   unfolding plainly kind_of fields_at
   enum-name is q = plain-named _ is.accepted is.below (ap (λ (k : Kind). plainly k.fields) is.kind) q
 
@@ -413,10 +413,10 @@ module _ (img : List ℕ) where
   ctor-ents : {n : ℕ} → Is img (kind_of enum_decl_kind) n → ents (items img n (field img n 1) 2) ≡ field img n 1
   ctor-ents {n} is = sig-ents n (field img n 1) 2 (λ i l. signed (ctor-is {i = i} is l refl))
 
-  sig-entering : {seen env : List ℕ} {n : ℕ} {e : Walked} → Signature img n → Entering img seen env (ent (tree_at img n)) e → Entering img seen env 1 e
+  pub sig-entering : {seen env : List ℕ} {n : ℕ} {e : Walked} → Signature img n → Entering img seen env (ent (tree_at img n)) e → Entering img seen env 1 e
   sig-entering {e = e} s p = entering-less (let z = (sig-enter e s).1 in omega arith) p
 
-  enum-ent : {n : ℕ} → Is img (kind_of enum_decl_kind) n → ent (tree_at img n) ≡ 1 + field img n 1
+  pub enum-ent : {n : ℕ} → Is img (kind_of enum_decl_kind) n → ent (tree_at img n) ≡ 1 + field img n 1
   enum-ent {n} is = let a = (enum-enter nowhere is).1 in let c = ctor-ents is in omega arith
 
   pub ctor-run : {n : ℕ} → Is img (kind_of enum_decl_kind) n → Run img ctor_decl_kind n 2 (field img n 1)

@@ -162,7 +162,7 @@ module _ (img : List ℕ) where
   model-fits {n} is = subst (EverywhereAll (Fit img)) (append-none (items img n (field img n 1) 2)) (subst (Everywhere (Fit img)) (tree_of img is) (tree-fits img is.accepted n is.below)).1
 
   -- its own scope, with its node marked
-  opened-is : (n : ℕ) (e : Walked) {f g : Walked} → f ≡ child_scope img e → g ≡ marked img n f.scope f → g ≡ opened img n e
+  pub opened-is : (n : ℕ) (e : Walked) {f g : Walked} → f ≡ child_scope img e → g ≡ marked img n f.scope f → g ≡ opened img n e
   unfolding child_scope
   opened-is n e {f} {g} p q = q ∙ ap (λ (k : Walked). marked img n k.scope k) p
 

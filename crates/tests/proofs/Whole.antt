@@ -167,7 +167,7 @@ module _ (img : List ℕ) where
   parents-are = refl
 
   -- the first word of a row, as the code reads it
-  first-is : (n : ℕ) → field img n 0 ≡ first img n
+  pub first-is : (n : ℕ) → field img n 0 ≡ first img n
   unfolding first field
   first-is n = ap (op_at img) (omega arith)
 
