@@ -386,11 +386,15 @@ fn rest_is_as_recorded<R: Read>(input: &mut R, head: Head) -> Result<bool, Recor
     let mut rows = [LENT; MOST_ROWS_WORDS];
     let image = read_bytes(input, &mut bytes, head.image_bytes)?;
     let calls = calls_are_as_recorded(input, head, image, &mut words, &mut table, &mut rows)?;
+    if !calls {
+        // Rename has no more to say: what it left is read and let go.
+        read_bytes(input, &mut bytes, head.rename.output_bytes)?;
+        return Ok(false);
+    }
     let Some(occurrences) = words.get(..head.rows_words as usize) else {
         return Err(RecordError::TooLarge);
     };
-    let rename = rename_is_as_recorded(input, head, image, occurrences, &mut table, &mut rows)?;
-    Ok(calls && rename)
+    rename_is_as_recorded(input, head, image, occurrences, &mut table, &mut rows)
 }
 
 // Replays the records of the input; how many there are.
