@@ -46,7 +46,7 @@ impl From<io::Error> for RecordError {
     }
 }
 
-// A number of 32 bits, and of 64: bytes of the front of the input, as no crate but the standard library is used.
+// A number of 32 bits, and of 64, from the front of the input: by no library but the standard one.
 fn read_u32<R: Read>(input: &mut R) -> io::Result<u32> {
     let mut bytes = [0; 4];
     input.read_exact(&mut bytes)?;
