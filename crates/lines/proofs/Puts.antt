@@ -78,14 +78,6 @@ pub wrote_numbers : (ns : List ℕ) {i : ℕ} {o p q : Printer} → i ≡ length
 wrote_numbers ns {i} e f g =
     wrote_as (ap (λ (l : List ℕ). fields l ++ (10 ∷ [])) (take_all i ns (omega arith)) ∙ numbers-are ns) (omega arith) (wrote-next f g)
 
--- the library prints the same digits
-pub decimal_digits : (n : ℕ) → n < 2 ^ 64 → decimal n ≡ digits n
-unfolding digits_to digits
-decimal_digits n h = sym (decimal_from_appends digits_to steps (suc n) n h (let e = length-decimal-le_succ n h in omega arith))
-  where
-    steps : AppendsLastDigit digits_to
-    steps = record { one = λ k n h. rw (lt-ltb n 10 h, digits_to) refl; more = λ k n h. rw (le-ltb n 10 h, digits_to) refl }
-
 -- a digit; the last of several
 to-small : (c n : ℕ) → n < 10 → digits_to (suc c) n ≡ (48 + n) ∷ []
 unfolding digits_to
@@ -94,6 +86,14 @@ to-small c n h = rw (lt-ltb n 10 h, digits_to)
 to-more : (c n : ℕ) → 10 ≤ n → digits_to (suc c) n ≡ digits_to c (n / 10) ++ ((48 + n % 10) ∷ [])
 unfolding digits_to
 to-more c n h = rw (le-ltb n 10 h, digits_to)
+
+-- the library prints the same digits
+pub decimal_digits : (n : ℕ) → n < 2 ^ 64 → decimal n ≡ digits n
+unfolding digits
+decimal_digits n h = sym (decimal_from_appends digits_to steps (suc n) n h (let e = length-decimal-le_succ n h in omega arith))
+  where
+    steps : AppendsLastDigit digits_to
+    steps = record { one = to-small; more = to-more }
 
 -- more steps than are needed change nothing
 enough : (c d n : ℕ) → n < c → n < d → digits_to c n ≡ digits_to d n

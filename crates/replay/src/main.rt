@@ -345,7 +345,7 @@ fn calls_are_as_recorded<R: Read>(
 }
 
 // Whether Rename hands back the recorded answer and leaves the output that the record ends with, and the rows of the occurrences
-// unless the output is too short.
+// unless the output is too short. Not inlined, nor is what calls it, so that a frame is there only while it is in use.
 #[inline(never)]
 fn rename_is_as_recorded<R: Read>(
     input: &mut R,
